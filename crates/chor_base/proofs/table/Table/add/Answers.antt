@@ -1,0 +1,17 @@
+use Rattle.std.proofs.Common.{◌≡◌, subst, sym, ap, ◌∙◌, List, ℕ, false, ◌++◌, ◌∷◌, []}
+use Rattle.std.specs.Prelude.{bytes_eq}
+use Rattle.std.specs.List.{list_any}
+use Rattle.chor_base.specs.Words.{words_of, AllDistinct}
+use Rattle.chor_base.proofs.WordTables.{words_added, distinct_more}
+use Rattle.chor_base.proofs.table.Table.add.Goals as goal
+
+pub returns-clause-ok : goal.returns-clause-ok
+returns-clause-ok c =
+    let e : words_of c.reserve.new.self.keys ≡ c.args.self.now = ap words_of c.in_ok-reserve.ensures.keys ∙ c.self.view_is in
+    words_added c.reserve.new.self.keys c.insert_full.new.self.keys c.args.key c.in-Ok.ensures.keys (subst (λ (v : List (List ℕ)). list_any (bytes_eq c.args.key.items) v ≡ false) (sym e) c.requires)
+    ∙ ap (λ (v : List (List ℕ)). v ++ c.args.key.items ∷ []) e
+
+pub invariant_of-self-2 : goal.invariant_of-self-2
+invariant_of-self-2 c =
+    let e : words_of c.reserve.new.self.keys ≡ c.args.self.now = ap words_of c.in_ok-reserve.ensures.keys ∙ c.self.view_is in
+    subst AllDistinct (sym (returns-clause-ok c)) (distinct_more c.args.self.now c.args.key.items (subst AllDistinct c.self.view_is c.self.invariant) c.requires)

@@ -1,0 +1,4 @@
+pub mod Words
+pub mod Vars
+pub mod Expr
+pub mod Meaning

@@ -1,0 +1,25 @@
+//! Names, values, expressions and events: what every other crate speaks of.
+#![tactic(auto)]
+
+mod event;
+mod expr;
+mod list;
+mod meaning;
+mod memory;
+mod names;
+mod rule;
+mod table;
+mod texts;
+mod value;
+mod vars;
+
+pub use event::{Entry, Event, Why};
+pub use expr::{BinOp, Expr, UnOp, eval};
+pub use list::{List, Word};
+pub use meaning::{HostOp, Meaning};
+pub use memory::Memory;
+pub use names::{NameId, Names};
+pub use rule::{Denied, Place, Refusal, Rule};
+pub use texts::Texts;
+pub use value::{Load, Sort, Value};
+pub use vars::Vars;

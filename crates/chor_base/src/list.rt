@@ -1,0 +1,96 @@
+//! A list of items, which contracts see as a list.
+
+ghost use Rattle.std.specs.Prelude.{◌≡◌, ◌<◌, ◌++◌, ◌∷◌, [], length, slice_get, Some, OnOk, OnErr, IfOk, IsTrue, ◌↔◌, MatchOption};
+
+use crate::memory::Memory;
+use std::alloc::Global;
+use std::marker::Model;
+
+/// Items in order.
+#[derive(Debug, Drop)]
+pub struct List<T> {
+    items: Vec<T>,
+}
+
+/// The bytes of a name, a text or a word of the command line.
+pub type Word = List<u8>;
+
+impl<T> Model for List<T> {
+    ghost use Rattle.std.specs.Prelude.{List};
+
+    ghost Value = { List T };
+
+    ghost view = { λ a. a.items.items };
+}
+
+impl<T> List<T> {
+    /// No items. It takes no memory.
+    pub fn new(alloc: Global) -> Self
+        ensures { result ≡ [] }
+    {
+        Self {
+            items: Vec::new(alloc),
+        }
+    }
+
+    /// The items of a vector.
+    pub fn from_vec(items: Vec<T>) -> Self
+        ensures { result ≡ items.items }
+    {
+        Self { items }
+    }
+
+    /// How many items there are.
+    pub fn len(&self) -> usize
+        ensures { result ≡ length self.now }
+    {
+        self.items.len()
+    }
+
+    /// Whether there is no item.
+    pub fn is_empty(&self) -> bool
+        ensures { IsTrue result ↔ (self.now ≡ []) }
+    {
+        self.items.is_empty()
+    }
+
+    /// Adds an item after all others.
+    pub fn push(&mut self, item: T) -> Result<(), Memory>
+    where
+        T: Drop,
+        ensures ok { OnOk result (self.new ≡ self.old ++ item ∷ []) }
+        ensures err { OnErr result (self.new ≡ self.old) }
+    {
+        self.items.push(item)?;
+        Ok(())
+    }
+
+    /// The item at a place, counted from 0.
+    pub fn at(&self, place: usize) -> &T
+        requires { place < length self.now }
+        ensures { slice_get self.now place ≡ Some result.now }
+    {
+        &self.items[place]
+    }
+
+    /// All items.
+    pub fn as_slice(&self) -> &[T]
+        ensures { result.now ≡ self.now }
+    {
+        self.items.as_slice()
+    }
+}
+
+impl<T: Copy> List<T> {
+    /// The same items once more.
+    pub fn copy(&self, alloc: Global) -> Result<List<T>, Memory>
+        ensures { IfOk result (λ list. list ≡ self.now) }
+    {
+        let source = self.items.as_slice();
+        let mut items = Vec::new(alloc);
+        for item in source {
+            items.push(*item)?;
+        }
+        Ok(Self { items })
+    }
+}

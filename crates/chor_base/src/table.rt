@@ -1,0 +1,103 @@
+//! Byte strings and their numbers.
+
+ghost use Rattle.std.specs.Prelude.{◌≡◌, ◌<◌, ◌++◌, ◌∷◌, [], length, slice_get, Some, OnOk, OnErr, IfOk, IfSome, IfNone, bytes_eq, false};
+ghost use Rattle.std.specs.List.{list_any};
+ghost use Rattle.chor_base.specs.Words.{with_word, AllDistinct, Lacks};
+
+use crate::memory::Memory;
+use indexmap::IndexSet;
+use std::alloc::Global;
+use std::marker::Model;
+
+/// Byte strings, each once. The number of one is its place.
+#[derive(Drop)]
+pub struct Table {
+    words: IndexSet<Vec<u8>>,
+}
+
+impl Model for Table {
+    ghost use Rattle.std.specs.Prelude.{List, ℕ};
+    ghost use Rattle.chor_base.specs.Words.{words_of, AllDistinct};
+
+    ghost Value = { List (List ℕ) };
+
+    ghost view = { λ a. words_of a.words.keys };
+
+    ghost invariant = { λ a. AllDistinct (words_of a.words.keys) };
+}
+
+impl Table {
+    pub fn new(alloc: Global) -> Self
+        ensures { result ≡ [] }
+    {
+        Table {
+            words: IndexSet::new(alloc),
+        }
+    }
+
+    pub fn len(&self) -> usize
+        ensures len { result ≡ length self.now }
+        ensures distinct { AllDistinct self.now }
+    {
+        self.words.len()
+    }
+
+    pub fn find(&self, word: &[u8]) -> Option<usize>
+        ensures found { IfSome result (λ n. slice_get self.now n ≡ Some word.now) }
+        ensures absent { IfNone result (Lacks self.now word.now) }
+    {
+        self.words.get_index_of(word)
+    }
+
+    pub fn at(&self, number: usize) -> &[u8]
+        requires { number < length self.now }
+        ensures { slice_get self.now number ≡ Some result.now }
+    {
+        match self.words.get_index(number) {
+            Some(word) => word.as_slice(),
+            None => unreachable!(),
+        }
+    }
+
+    // The number of a word, which goes last where it isn't there.
+    #[tactic(auto, using(crate::proofs::WordTables::put_absent, crate::proofs::WordTables::put_present, crate::proofs::WordTables::get_last, crate::proofs::WordTables::distinct_more))]
+    pub fn intern(&mut self, word: &[u8]) -> Result<usize, Memory>
+        ensures number { IfOk result (λ n. slice_get self.new n ≡ Some word.now) }
+        ensures ok { OnOk result (self.new ≡ with_word self.old word.now) }
+        ensures err { OnErr result (self.new ≡ self.old) }
+        ensures distinct { AllDistinct self.new }
+    {
+        if let Some(number) = self.find(word) {
+            return Ok(number);
+        }
+        let alloc = *self.words.allocator();
+        let key = word.to_vec(alloc)?;
+        self.add(key)
+    }
+
+    pub fn copy(&self, alloc: Global) -> Result<Table, Memory>
+        ensures { IfOk result (λ table. table ≡ self.now) }
+    {
+        let mut table = Table::new(alloc);
+        let source = self.words.as_slice();
+        for word in source {
+            table.intern(word.as_slice())?;
+        }
+        Ok(table)
+    }
+
+    // One more word.
+    fn add(&mut self, key: Vec<u8>) -> Result<usize, Memory>
+        requires { Lacks self.old key.items }
+        ensures ok { OnOk result (self.new ≡ self.old ++ key.items ∷ []) }
+        ensures number { IfOk result (λ n. n ≡ length self.old) }
+        ensures err { OnErr result (self.new ≡ self.old) }
+    {
+        let number = self.words.len();
+        self.words.reserve(1)?;
+        match self.words.insert_full(key) {
+            Ok(_) => Ok(number),
+            Err(_) => unreachable!(),
+        }
+    }
+}
