@@ -1,2 +1,2 @@
 pub mod WordTables
-pub mod VarMaps
+pub mod NameMaps

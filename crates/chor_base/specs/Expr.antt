@@ -11,7 +11,7 @@ use Rattle.chor_base.specs.declared.expr.BinOp.{BinOp}
 use Rattle.chor_base.specs.declared.expr.BinOp.TheVariants.{Add, Sub, Mul, Div, Eq, Ne, Lt, Le, And, Or}
 use Rattle.chor_base.specs.declared.expr.Expr.{Expr}
 use Rattle.chor_base.specs.declared.expr.Expr.TheVariants.{Lit, Var, Un', Bin'}
-use Rattle.chor_base.specs.Vars.{Variables}
+use Rattle.chor_base.specs.NameMap.{Variables}
 
 -- an expression, wherever it lies in memory
 pub data Term : Type 0 where

@@ -1,4 +1,5 @@
 pub mod Words
-pub mod Vars
+pub mod NameMap
 pub mod Expr
 pub mod Meaning
+pub mod Events

@@ -3,9 +3,9 @@
 ghost use Rattle.std.specs.Prelude.{◌≡◌, ◌≢◌, pos};
 ghost use Rattle.chor_base.specs.Expr.{term_of, value_of, unary, binary, divided, number_of, truth_of, is_same};
 
+use crate::name_map::Vars;
 use crate::names::NameId;
 use crate::value::Value;
-use crate::vars::Vars;
 
 /// An operator of one operand.
 #[derive(Clone, Copy, Debug, PartialEq, Eq)]

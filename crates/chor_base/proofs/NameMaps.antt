@@ -1,4 +1,4 @@
--- Variables as a finite map.
+-- Entries of names as a finite map.
 use Rattle.std.proofs.Common.{◌≡◌, ℕ, Bool, true, false, cond, List, [], ◌∷◌, refl, sym, ap, ◌∙◌, Option, Some, None, arith, ◌==◌, subst, ◌⊎◌, ◌≤◌, is_some, inl, inr}
 use Rattle.std.specs.Prelude.{map}
 use Rattle.std.specs.Ordering.{nat_cmp, eq_by_cmp}
@@ -7,23 +7,22 @@ use Rattle.std.specs.FinMap as fin
 use Rattle.std.proofs.lemmas.Cmp.{nat_cmp_total}
 use Rattle.std.proofs.lemmas.Bool.Decides.{nat_tests}
 use Rattle.chor_base.specs.declared.names.NameId.{NameId}
-use Rattle.chor_base.specs.declared.value.Value.{Value}
-use Rattle.chor_base.specs.Vars.{Variables, map_of}
+use Rattle.chor_base.specs.NameMap.{map_of}
 
 -- numbers tie by their order where they are equal
 pub ties : (x y : ℕ) → eq_by_cmp nat_cmp x y ≡ (x == y)
 ties x y = grind (arith, nat_tests)
 
-found : (es : List (NameId × Value)) (x : NameId) → fin.find nat_cmp x.0 (map (λ e. (e.0.0, e.1)) es) ≡ lookup (λ k. x.0 == k.0) es
+found : {V : Type 0} (es : List (NameId × V)) (x : NameId) → fin.find nat_cmp x.0 (map (λ e. (e.0.0, e.1)) es) ≡ lookup (λ k. x.0 == k.0) es
 found [] x = refl
 found (e ∷ es) x = ap (λ b. cond b (Some e.1) (fin.find nat_cmp x.0 (map (λ e. (e.0.0, e.1)) es))) (ties x.0 e.0.0) ∙ ap (cond (x.0 == e.0.0) (Some e.1)) (found es x)
 
 -- the value of a name
-pub get_found : (es : List (NameId × Value)) (x : NameId) → fin.get (map_of es) x.0 ≡ lookup (λ k. x.0 == k.0) es
+pub get_found : {V : Type 0} (es : List (NameId × V)) (x : NameId) → fin.get (map_of es) x.0 ≡ lookup (λ k. x.0 == k.0) es
 get_found es x = fin.get-from_entries nat_cmp_total (map (λ e. (e.0.0, e.1)) es) x.0 ∙ found es x
 
 -- entries that answer like those with one more value are the map with it
-pub put_found : (old new : List (NameId × Value)) (x : NameId) (v : Value) → ((q : NameId) → lookup (λ k. q.0 == k.0) new ≡ cond (x.0 == q.0) (Some v) (lookup (λ k. q.0 == k.0) old)) → map_of new ≡ fin.insert (map_of old) x.0 v
+pub put_found : {V : Type 0} (old new : List (NameId × V)) (x : NameId) (v : V) → ((q : NameId) → lookup (λ k. q.0 == k.0) new ≡ cond (x.0 == q.0) (Some v) (lookup (λ k. q.0 == k.0) old)) → map_of new ≡ fin.insert (map_of old) x.0 v
 put_found old new x v h = fin.same_map nat_cmp_total fin.nat_cmp-IsAntisymmetric (map_of new) (fin.insert (map_of old) x.0 v) same
   where
     turned : (a b : ℕ) → eq_by_cmp nat_cmp a b ≡ (b == a)
@@ -34,5 +33,5 @@ put_found old new x v h = fin.same_map nat_cmp_total fin.nat_cmp-IsAntisymmetric
         get_found new (record { 0 = q }) ∙ h (record { 0 = q }) ∙ ap (cond (x.0 == q) (Some v)) (sym (get_found old (record { 0 = q })))
         ∙ ap (λ b. cond b (Some v) (fin.get (map_of old) q)) (sym (turned q x.0)) ∙ sym (fin.get-insert nat_cmp_total (map_of old) x.0 v q)
 
-pub no_room : (es : List (NameId × Value)) (x : NameId) (n : ℕ) → lookup (λ k. x.0 == k.0) es ≡ None → (1 ≤ n → ⊥) → ((is_some (fin.get (map_of es) x.0) ≡ true) ⊎ (1 ≤ n)) → ⊥
+pub no_room : {V : Type 0} (es : List (NameId × V)) (x : NameId) (n : ℕ) → lookup (λ k. x.0 == k.0) es ≡ None → (1 ≤ n → ⊥) → ((is_some (fin.get (map_of es) x.0) ≡ true) ⊎ (1 ≤ n)) → ⊥
 no_room es x n absent none some = elim some [ inl h ↦ (let e : is_some (fin.get (map_of es) x.0) ≡ false = ap is_some (get_found es x ∙ absent) in cc) | inr h ↦ none h ]

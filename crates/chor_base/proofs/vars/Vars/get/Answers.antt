@@ -1,7 +1,0 @@
-use Rattle.std.proofs.Common.{◌∙◌, sym, ap}
-use Rattle.std.specs.FinMap as fin
-use Rattle.chor_base.proofs.VarMaps.{get_found}
-use Rattle.chor_base.proofs.vars.Vars.get.Goals as goal
-
-pub returns : goal.returns
-returns c = c.copied.ensures ∙ c.get.ensures.value ∙ sym (get_found c.self.inside.values.entries c.args.name) ∙ ap (λ v. fin.get v.map c.args.name.0) c.self.view_is
