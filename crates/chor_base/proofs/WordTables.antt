@@ -8,6 +8,7 @@ use Rattle.std.proofs.lemmas.Option.{slice_get-get_or, slice_get-map}
 use Rattle.std.proofs.lemmas.Slice.Eq.{bytes_eq-Decides}
 use Rattle.std.proofs.lemmas.Bool.Decides.{nat_tests}
 use Rattle.std.proofs.lemmas.List.{take_more}
+use Rattle.chor_base.proofs.Lists.{AtEnd, before, last, at_end, slice_get_last}
 use Rattle.chor_base.specs.Words.{words_of, with_word, AllDistinct, Lacks}
 
 pub any_words : (p : List ℕ → Bool) (ws : List (Vec ℕ Global)) → list_any (λ k. p k.items) ws ≡ list_any p (words_of ws)
@@ -62,28 +63,12 @@ pub put_present : (ws : List (List ℕ)) (w : List ℕ) (n : ℕ) → slice_get 
 put_present ws w n h = ap (λ b. if b then ws else ws ++ w ∷ []) (any_at ws w n h)
 
 pub get_last : (ws : List (List ℕ)) (w : List ℕ) → slice_get (ws ++ w ∷ []) (length ws) ≡ Some w
-get_last [] w = refl
-get_last (v ∷ ws) w = get_last ws w
+get_last = slice_get_last
 
 -- ---- no word twice
 
 any_none : (ws : List (List ℕ)) (w : List ℕ) (i : ℕ) → list_any (bytes_eq w) ws ≡ false → slice_get ws i ≡ Some w → ⊥
 any_none ws w i none at = let t = any_at ws w i at in cc
-
--- what stands at a place of a list with one word more
-data AtEnd (ws : List (List ℕ)) (w v : List ℕ) (i : ℕ) : Type 0 where
-  before : slice_get ws i ≡ Some v → AtEnd ws w v i
-  last : i ≡ length ws → v ≡ w → AtEnd ws w v i
-
-at_end : (ws : List (List ℕ)) (w v : List ℕ) (i : ℕ) → slice_get (ws ++ w ∷ []) i ≡ Some v → AtEnd ws w v i
-at_end [] w v zero h = last refl cc
-at_end [] w v (suc i) h = absurd cc
-at_end (u ∷ ws) w v zero h = before h
-at_end (u ∷ ws) w v (suc i) h = go (at_end ws w v i h)
-  where
-    go : AtEnd ws w v i → AtEnd (u ∷ ws) w v (suc i)
-    go (before b) = before b
-    go (last e s) = last (ap suc e) s
 
 pub distinct_more : (ws : List (List ℕ)) (w : List ℕ) → AllDistinct ws → Lacks ws w → AllDistinct (ws ++ w ∷ [])
 distinct_more ws w d none i j v h k = go (at_end ws w v i h) (at_end ws w v j k)

@@ -1,0 +1,23 @@
+-- Lists with one item more.
+use Rattle.std.proofs.Common.{◌≡◌, ℕ, zero, suc, List, [], ◌∷◌, ◌++◌, length, refl, ap, Some}
+use Rattle.std.specs.Prelude.{slice_get}
+
+-- what stands at a place of a list with one item more
+pub data AtEnd {X : Type 0} (xs : List X) (x y : X) (i : ℕ) : Type 0 where
+  before : slice_get xs i ≡ Some y → AtEnd xs x y i
+  last : i ≡ length xs → y ≡ x → AtEnd xs x y i
+
+pub at_end : {X : Type 0} (xs : List X) (x y : X) (i : ℕ) → slice_get (xs ++ x ∷ []) i ≡ Some y → AtEnd xs x y i
+at_end [] x y zero h = last refl cc
+at_end [] x y (suc i) h = absurd cc
+at_end (z ∷ xs) x y zero h = before h
+at_end (z ∷ xs) x y (suc i) h = go (at_end xs x y i h)
+  where
+    go : AtEnd xs x y i → AtEnd (z ∷ xs) x y (suc i)
+    go (before b) = before b
+    go (last e s) = last (ap suc e) s
+
+-- the last item
+pub slice_get_last : {X : Type 0} (xs : List X) (x : X) → slice_get (xs ++ x ∷ []) (length xs) ≡ Some x
+slice_get_last [] x = refl
+slice_get_last (y ∷ xs) x = slice_get_last xs x

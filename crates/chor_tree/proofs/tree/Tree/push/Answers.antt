@@ -1,0 +1,5 @@
+use Rattle.chor_tree.proofs.Closed.{closed_after}
+use Rattle.chor_tree.proofs.tree.Tree.push.Goals as goal
+
+pub invariant_of-self : goal.invariant_of-self
+invariant_of-self c = record { closed = closed_after c.args.self.now.nodes c.push.new.self c.args.node c.push.result c.push.ensures.ok c.push.ensures.err c.args.self.now.closed c.requires }
