@@ -1,0 +1,4 @@
+pub mod Choreography
+pub mod Sources
+pub mod Steps
+pub mod Runs
