@@ -1,11 +1,12 @@
 -- Runs of a choreography.
 use Rattle.std.specs.Prelude.{ℕ, ◌≡◌, List, [], ◌∷◌, Option, Some, None}
 use Rattle.chor_base.specs.declared.event.Event.{Event}
+use Rattle.chor_base.specs.Meaning.{Hosts}
 use Rattle.chor_base.specs.Events.{IsWithin}
 use Rattle.chor_tree.specs.declared.file.File.{File}
 use Rattle.chor_semantics.specs.Choreography.{Choreography, Calls, Ends}
 use Rattle.chor_semantics.specs.Sources.{Procedure, Configuration, procedures_of, first_configuration}
-use Rattle.chor_semantics.specs.Steps.{Hosts, Steps, procedure_named, body_of}
+use Rattle.chor_semantics.specs.Steps.{Steps, procedure_named, body_of}
 
 -- the events lead from one configuration to another, step by step
 abbrev pub Leads : List Procedure → Hosts → Configuration → List Event → Configuration → Type 0

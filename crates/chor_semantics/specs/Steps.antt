@@ -9,10 +9,9 @@ use Rattle.chor_base.specs.declared.value.Load.{Load}
 use Rattle.chor_base.specs.declared.value.Load.TheVariants.{Value as Carries, Label as Picks}
 use Rattle.chor_base.specs.declared.event.Event.{Event}
 use Rattle.chor_base.specs.declared.event.Event.TheVariants.{Start, Send, Recv, Test, Set, Show, Host}
-use Rattle.chor_base.specs.declared.meaning.Meaning.{Meaning}
 use Rattle.chor_base.specs.Expr.{Term, value_of, number_of, truth_of}
 use Rattle.chor_base.specs.NameMap.{Variables}
-use Rattle.chor_base.specs.Meaning.{IsAllowed}
+use Rattle.chor_base.specs.Meaning.{Hosts, meaning_named, MayAnswer}
 use Rattle.chor_base.specs.Events.{actors_of}
 use Rattle.chor_semantics.specs.Choreography.{Ref, Live, Named, Content, OfValue, OfLabel, OfPart, Message, ValueSent, LabelSent, PartSent, Own, Sets, Shows, Asks, Node, Starts, Communicates, InTransit, Alone, Choreography, Then, Either, Calls, Ends, meets, named_in, put, number_for, numbers_for, instance_of}
 use Rattle.chor_semantics.specs.Sources.{Procedure, Configuration}
@@ -25,22 +24,6 @@ vars_of all p = slice_index_or all p fin.empty
 pub data Effect : Type 0 where
   Keeps : Effect
   Assigns : (p : ℕ) (x : NameId) (v : Value) → Effect
-
--- ---- host functions
-
--- the host functions by name, with what they may answer
-abbrev pub Hosts : Type 0
-Hosts = List (NameId × Meaning)
-
--- the meaning of the first function of that name
-abbrev pub meaning_named : Hosts → NameId → Option Meaning
-meaning_named [] f = None
-meaning_named (h ∷ hs) f = if h.0.0 == f.0 then Some h.1 else meaning_named hs f
-
--- a function that is there may answer v to a and b
-abbrev pub MayAnswer : Option Meaning → ℤ → ℤ → ℤ → Type 0
-MayAnswer None a b v = ⊥
-MayAnswer (Some m) a b v = IsAllowed m a b v
 
 -- where a process asks a host function, v is an answer that it may give
 abbrev pub Answers : Hosts → List Variables → Node → ℤ → Type 0

@@ -3,8 +3,9 @@
 
 ghost use Rattle.std.specs.Prelude.{◌≡◌, List};
 ghost use Rattle.chor_base.specs.declared.event.Event.{Event};
+ghost use Rattle.chor_base.specs.Meaning.{Hosts};
 ghost use Rattle.chor_semantics.specs.Sources.{Procedure, Configuration};
-ghost use Rattle.chor_semantics.specs.Steps.{Hosts, Steps};
+ghost use Rattle.chor_semantics.specs.Steps.{Steps};
 
 /// A configuration and an event have one next configuration at most.
 pub fn one_next()
