@@ -1,0 +1,2 @@
+pub mod ThinItems
+pub mod ThinSteps

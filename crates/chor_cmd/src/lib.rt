@@ -1,0 +1,6 @@
+//! The commands.
+#![tactic(auto)]
+
+pub fn one() -> u8 {
+    1
+}
