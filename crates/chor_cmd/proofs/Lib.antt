@@ -1,2 +1,3 @@
 pub mod ThinItems
 pub mod ThinSteps
+pub mod ThinRuns
