@@ -1,3 +1,4 @@
 pub mod ThinItems
 pub mod ThinSteps
 pub mod ThinRuns
+pub mod ThinBegins

@@ -52,9 +52,9 @@ module _ (e : Endpoints) (k o : NameId) where
   in_steps n m x rest s r z q on l is =
       let runs : has_ended e m ≡ false = line_ends m (In x ∷ rest) l in
       let waits : waits_for e None n m ≡ None =
-              ap (λ w. place_waits e None n m.vars (place_in e w m.sessions)) l.1
-              ∙ ap (λ w. waits_to_receive n o w (takes_value l.0 m.vars m.sessions x)) on
-              ∙ ap (waits_for_first s o r (takes_value l.0 m.vars m.sessions x)) is in
+      ap (λ w. place_waits e None n m.vars (place_in e w m.sessions)) l.1
+      ∙ ap (λ w. waits_to_receive n o w (takes_value l.0 m.vars m.sessions x)) on
+      ∙ ap (waits_for_first s o r (takes_value l.0 m.vars m.sessions x)) is in
       rw runs (rw waits refl)
 
 -- nothing is left where neither process has anything to do

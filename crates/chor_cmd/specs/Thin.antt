@@ -39,7 +39,7 @@ module _ {N : Type 0} where
 abbrev pub exchange_node : Thin NameId → Exchange NameId → Node
 exchange_node t m =
     Communicates (Named t.session.0 0) (Named (process t m.forward).0 0) (role t m.forward) (Named (process t (not m.forward)).0 0) (role t (not m.forward))
-      (OfValue (Constant (Int (pos m.number))) m.variable)
+    (OfValue (Constant (Int (pos m.number))) m.variable)
 
 abbrev pub exchanges_tree : Thin NameId → List (Exchange NameId) → Choreography
 exchanges_tree t [] = Ends
@@ -49,4 +49,4 @@ exchanges_tree t (m ∷ ms) = Then (exchange_node t m) (exchanges_tree t ms)
 abbrev pub thin_tree : Thin NameId → Choreography
 thin_tree t =
     Then (Starts t.channel 0 t.session.0 ((Named t.first_process.0 0, t.first_role) ∷ (Named t.second_process.0 0, t.second_role) ∷ []) [])
-      (exchanges_tree t t.exchanges)
+    (exchanges_tree t t.exchanges)
