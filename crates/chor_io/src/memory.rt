@@ -1,8 +1,7 @@
 //! A shelf and a sink in memory.
 
-ghost use Rattle.std.specs.Prelude.{◌≡◌, ◌≢◌, ◌≤◌, ◌<◌, ◌^◌, ◌⊎◌, ◌++◌, [], Some, None, IfOk, MatchOption, ℕ, List, option_copied, take, length, vec_len, vec_capacity};
-ghost use Rattle.std.specs.Option.{option_copied};
-ghost use Rattle.chor_io.specs.Outside.{FetchFrom, FetchGrows, FetchTells, PutTells, Risen, times};
+ghost use Rattle.std.specs.Prelude.{◌≡◌, ◌≢◌, ◌≤◌, ◌<◌, ◌^◌, ◌⊎◌, ℕ, List, [], Some, None, IfOk, MatchOption};
+ghost use Rattle.chor_io.specs.Outside.{times, FetchFrom, FetchGrows, PutTells, Risen};
 ghost use Rattle.chor_io.specs.Memory.{after_fetch, after_put, allowance_of, file_of, put_answer, FailsAt};
 
 use crate::failed::FailedNames;

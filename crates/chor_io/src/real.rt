@@ -1,7 +1,7 @@
-//! Real files and standard output. What they hold isn't told: whether they do what their system
-//! calls promise is trusted.
+//! Real files and standard output. What they hold isn't told: that the system's calls do what they
+//! promise is trusted.
 
-ghost use Rattle.std.specs.Prelude.{◌≡◌, ◌≢◌, ◌≤◌, ◌<◌, ◌^◌, ◌+◌, ℕ, List, [], None};
+ghost use Rattle.std.specs.Prelude.{◌≡◌, ◌≢◌, ◌≤◌, ◌<◌, ◌^◌, ℕ, List, [], None};
 ghost use Rattle.chor_io.specs.Outside.{failed_after, failures_after, times, FetchGrows, FetchTells, PutTells, ReadTells, Risen, WriteTells};
 
 use crate::failed::FailedNames;
@@ -82,6 +82,8 @@ impl<R: Files> Shelf for DiskShelf<'_, R> {
 
     ghost files = { λ _. None };
 
+    /// Opens the file and reads it to its end or to one byte beyond the limit. A directory fails, and
+    /// so does a read that a signal interrupts.
     fn fetch(&mut self, name: &[u8], limit: u64, into: &mut Vec<u8>) -> Fetched
         requires { limit < 2 ^ 32 }
         ensures grows { FetchGrows limit into.old.items into.new.items result }
@@ -146,6 +148,8 @@ impl<R: Print> Sink for OutSink<'_, R> {
 
     ghost written = { λ _. None };
 
+    /// Writes until the piece is written or a write fails. A write that takes nothing has failed,
+    /// and so has one that a signal interrupts.
     fn put(&mut self, piece: &[u8]) -> Put
         ensures told { PutTells None None piece.now result }
         ensures empty { piece.now ≡ [] → result ≡ Put.All }
