@@ -1,5 +1,5 @@
 -- Runs written step by step, and where they can't go on.
-use Rattle.std.proofs.Common.{◌≡◌, refl, ℕ, Bool, false, List, [], ◌∷◌, ◌++◌, Some, None, ℤ, pos, ap, subst, ◌⊎◌, inl, inr}
+use Rattle.std.proofs.Common.{◌≡◌, refl, ℕ, false, List, [], ◌∷◌, ◌++◌, Some, None, ℤ, pos, ap, subst, ◌⊎◌, inl, inr}
 use Rattle.chor_base.specs.declared.event.Event.{Event}
 use Rattle.chor_base.specs.declared.event.Event.TheVariants.{Send}
 use Rattle.chor_base.specs.declared.names.NameId.{NameId}
@@ -11,13 +11,12 @@ use Rattle.chor_base.specs.Events.{actors_of}
 use Rattle.chor_tree.specs.Children.{IsClosed}
 use Rattle.chor_semantics.specs.Choreography.{Ref, Live, Node, Communicates, InTransit, OfValue, ValueSent, Choreography, Then, Either, Ends, meets, named_in}
 use Rattle.chor_semantics.specs.Sources.{Procedure, Configuration, procedures_of, first_configuration}
-use Rattle.chor_semantics.specs.Steps.{Hosts, Effect, Keeps, Makes, Moves, head, test, delay, both, head_makes, branch_makes, vars_of, Steps, vars_after, sid_after}
-use Rattle.chor_semantics.specs.Runs.{Leads, IsTerminated, quiet, IsRun, IsEndedRun}
-use Rattle.chor_semantics.specs.Examples.Source.{Source, nodes_of, file_of, HasEndedRun, HasOpenRun, HasNoRun}
+use Rattle.chor_semantics.specs.Steps.{Hosts, Effect, Keeps, Makes, Moves, head, test, delay, both, head_makes, branch_makes, vars_of, vars_after, sid_after}
+use Rattle.chor_semantics.specs.Runs.{Leads, IsTerminated, quiet, IsRun}
+use Rattle.chor_semantics.specs.Examples.Source.{Source, nodes_of, file_of, HasEndedRun, HasOpenRun}
 use Rattle.chor_semantics.proofs.Determined.{steps_agree, head_names}
 
 infixr 30 ◌⨟◌
-
 -- the configuration after a step
 abbrev pub after : Configuration → Event → Effect → Choreography → Configuration
 after old e f d = record { tree = d; vars = vars_after old.vars e f; sid = sid_after old.sid e }

@@ -1,7 +1,7 @@
--- Sources whose runs are known event by event.
+-- Small choreographies whose runs are known event by event.
 pub mod Source
 pub mod Names
-pub mod EarlyEvent
-pub mod Delegation
-pub mod Endless
-pub mod TwoStarts
+pub mod EventBeforeDecision
+pub mod DelegationWhileWaiting
+pub mod EndlessExchange
+pub mod ServiceTwice

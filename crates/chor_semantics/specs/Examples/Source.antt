@@ -1,9 +1,9 @@
 -- Small sources, each as a table of nodes. Places and the spelling of names don't matter to runs:
 -- all places are the same here, and names are numbers.
-use Rattle.std.specs.Prelude.{ℕ, ◌-◌, List, [], ◌∷◌, map, length, None, pos}
+use Rattle.std.specs.Prelude.{ℕ, ◌-◌, List, [], map, length, None, pos}
 use Rattle.chor_base.specs.declared.names.NameId.{NameId}
 use Rattle.chor_base.specs.declared.rule.Place.{Place}
-use Rattle.chor_base.specs.declared.value.Value.TheVariants.{Int, Bool as Truth}
+use Rattle.chor_base.specs.declared.value.Value.TheVariants.{Int}
 use Rattle.chor_base.specs.declared.value.Load.{Load}
 use Rattle.chor_base.specs.declared.value.Load.TheVariants.{Value as Carries}
 use Rattle.chor_base.specs.declared.event.Event.{Event}

@@ -1,4 +1,4 @@
-use Rattle.std.proofs.Common.{◌≡◌, refl, ap, ◌∙◌, pos, [], ◌∷◌, Some}
+use Rattle.std.proofs.Common.{◌≡◌, refl, ap, ◌∙◌, pos, ◌∷◌}
 use Rattle.std.specs.Prelude.{unwrap_or}
 use Rattle.std.specs.FinMap as fin
 use Rattle.std.proofs.lemmas.Cmp.{nat_cmp_total}
@@ -12,7 +12,7 @@ use Rattle.chor_semantics.proofs.Tables.{closed_table}
 use Rattle.chor_semantics.proofs.Walks.{stop, ◌⨟◌, at_node, sends, not_last, open_run, no_run}
 use Rattle.chor_semantics.specs.Examples.Source.{nodes_of}
 use Rattle.chor_semantics.specs.Examples.Names.{x}
-use Rattle.chor_semantics.specs.Examples.Endless.{x_and_one, source, start, asked, asking, ten_events}
+use Rattle.chor_semantics.specs.Examples.EndlessExchange.{x_and_one, source, start, asked, asking, ten_events}
 use Rattle.chor_semantics.proofs.examples.endless_exchange.Goals as goal
 
 -- x was set to 1
@@ -28,7 +28,7 @@ returns-clause-run c e same = open_run (source e) (closed_table (nodes_of (sourc
     ⨟ unfolded refl (head (pos 0) tt refl) ⨟ head (pos 0) tt refl ⨟ sends (two e _ same) ⨟ head (pos 0) tt refl
     ⨟ unfolded refl (head (pos 0) tt refl) ⨟ stop not_last)
 
-pub returns-clause-order : goal.returns-clause-order
-returns-clause-order c e same closed hosts = no_run (source e) closed (start ∷ asked) asking hosts
+pub returns-clause-waits : goal.returns-clause-waits
+returns-clause-waits c e same closed hosts = no_run (source e) closed (start ∷ asked) asking hosts
     (head (pos 0) tt refl ⨟ unfolded refl (head (pos 0) tt refl) ⨟ head (pos 0) tt refl ⨟ sends (two e _ same)
     ⨟ stop (at_node (λ v f d h. cc) (λ g. absurd cc)))

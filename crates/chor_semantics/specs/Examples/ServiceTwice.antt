@@ -1,4 +1,4 @@
--- a service is started twice, and each start has a process of its own for it:
+-- A service started twice. Channel d has the active role A and the service role S:
 --     start d(k): p[A] new s[S];
 --     p[A] -> s[S] : k.up;
 --     s[S].1 -> p[A].x : k;
@@ -29,16 +29,18 @@ source = record {
       ∷ [];
 }
 
--- p and q are processes 0 and 1
+-- ---- events, in which p and q are processes 0 and 1
 
--- p starts the service, whose process has this number
+-- start d #0 A=p, with service process n
 abbrev pub first_start : ℕ → Event
 first_start n = Start d 0 ((A, 0) ∷ (S, n) ∷ [])
 
--- q starts the service, whose process has this number
+-- start d #1 A=q, with service process n
 abbrev pub second_start : ℕ → Event
 second_start n = Start d 1 ((A, 1) ∷ (S, n) ∷ [])
 
+-- both starts, and then pick p #0 A>S up, branch %2 #0 A>S up, pick q #1 A>S down, branch %3 #1 A>S down,
+-- send %2 #0 S>A 1, send %3 #1 S>A 2, recv p #0 S>A 1, recv q #1 S>A 2
 abbrev pub events : List Event
 events =
     first_start 2

@@ -1,11 +1,14 @@
--- p and q exchange messages forever:
+-- The endless exchange: a procedure that calls itself. Channel a has the roles A and B:
 --     proc Loop (p, q; k : Ping.begin {A = p, B = q}) {
 --       p[A].1 -> q[B].x : k;
 --       q[B].x + 1 -> p[A].y : k;
 --       call Loop(p, q; k)
 --     }
---     main (p, q) { start a(k): p[A], q[B]; call Loop(p, q; k) }
-use Rattle.std.specs.Prelude.{ℕ, List, [], ◌∷◌, ◌++◌, pos}
+--     main (p, q) {
+--       start a(k): p[A], q[B];
+--       call Loop(p, q; k)
+--     }
+use Rattle.std.specs.Prelude.{List, [], ◌∷◌, ◌++◌, pos}
 use Rattle.chor_base.specs.declared.value.Value.TheVariants.{Int}
 use Rattle.chor_base.specs.declared.expr.Expr.{Expr}
 use Rattle.chor_base.specs.declared.expr.BinOp.TheVariants.{Add}
@@ -17,6 +20,7 @@ use Rattle.chor_tree.specs.declared.tree.Form.TheVariants.{Start as Starts, Valu
 use Rattle.chor_semantics.specs.Examples.Source.{Source, written, at, node, number, load}
 use Rattle.chor_semantics.specs.Examples.Names.{p, q, x, y, k, a, A, B, Loop, Ping, begin}
 
+-- Loop, whose body begins at node 2
 abbrev pub loop : Proc
 loop = record {
   name = written Loop;
@@ -31,10 +35,11 @@ loop = record {
   body = node 2;
 }
 
+-- x + 1
 abbrev pub x_and_one : Term
 x_and_one = Binary Add (Variable x) (Constant (Int (pos 1)))
 
--- the source with this expression for x + 1
+-- the source, with an expression that stands for x + 1
 abbrev pub source : Expr → Source
 source e = record {
   procs = loop ∷ [];
@@ -48,22 +53,23 @@ source e = record {
       ∷ [];
 }
 
--- p and q are processes 0 and 1
+-- ---- events, in which p and q are processes 0 and 1
 
+-- start a #0 A=p B=q
 abbrev pub start : Event
 start = Start a 0 ((A, 0) ∷ (B, 1) ∷ [])
 
--- p sends 1
+-- send p #0 A>B 1
 abbrev pub asking : Event
 asking = Send 0 0 A B (load 1)
 
--- up to q answering 2
+-- then recv q #0 A>B 1, send q #0 B>A 2
 abbrev pub asked : List Event
 asked = asking ∷ Recv 1 0 A B (load 1) ∷ Send 1 0 B A (load 2) ∷ []
 
--- up to p receiving 2
-abbrev pub round : List Event
-round = asked ++ Recv 0 0 B A (load 2) ∷ []
+-- then recv p #0 B>A 2
+abbrev pub exchange : List Event
+exchange = asked ++ Recv 0 0 B A (load 2) ∷ []
 
 abbrev pub ten_events : List Event
-ten_events = start ∷ round ++ round ++ asking ∷ []
+ten_events = start ∷ exchange ++ exchange ++ asking ∷ []

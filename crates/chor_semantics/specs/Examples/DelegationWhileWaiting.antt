@@ -1,4 +1,5 @@
--- s hands the seller's role to c while a message to the seller waits:
+-- Delegation while a message waits: s hands the role of the seller to c, and the buyer has sent its message before that.
+-- Channel sale has the roles Buyer and Seller, and hand has From and To:
 --     start sale(k): b[Buyer], s[Seller];
 --     start hand(h): s[From], c[To];
 --     s[From] -> c[To] : h(k[Seller]);
@@ -27,13 +28,13 @@ source = record {
       ∷ [];
 }
 
--- b, s and c are processes 0, 1 and 2
+-- ---- events, in which b, s and c are processes 0, 1 and 2
 
 -- the role that is handed over
 abbrev pub seller : Load
 seller = Carries (Endpoint 0 Seller)
 
--- up to s giving the role
+-- start sale #0 Buyer=b Seller=s, start hand #1 From=s To=c, send b #0 Buyer>Seller 5, give s #1 From>To #0.Seller
 abbrev pub given : List Event
 given =
     Start sale 0 ((Buyer, 0) ∷ (Seller, 1) ∷ [])
@@ -42,9 +43,10 @@ given =
     ∷ Send 1 1 From To seller
     ∷ []
 
--- a process receives the buyer's message
+-- process n receives what the buyer sent
 abbrev pub receiving : ℕ → Load → Event
-receiving n l = Recv n 0 Buyer Seller l
+receiving n sent = Recv n 0 Buyer Seller sent
 
+-- then gain c #1 From>To #0.Seller, recv c #0 Buyer>Seller 5
 abbrev pub events : List Event
 events = given ++ Recv 2 1 From To seller ∷ receiving 2 (load 5) ∷ []
