@@ -2,3 +2,4 @@ pub mod Choreography
 pub mod Sources
 pub mod Steps
 pub mod Runs
+pub mod Examples

@@ -7,6 +7,8 @@ ghost use Rattle.chor_base.specs.Meaning.{Hosts};
 ghost use Rattle.chor_semantics.specs.Sources.{Procedure, Configuration};
 ghost use Rattle.chor_semantics.specs.Steps.{Steps};
 
+pub mod examples;
+
 /// A configuration and an event have one next configuration at most.
 pub fn one_next()
     ensures { (procs : List Procedure) (hosts : Hosts) (old new other : Configuration) (e : Event) → Steps procs hosts old e new → Steps procs hosts old e other → new ≡ other }
