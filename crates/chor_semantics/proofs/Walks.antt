@@ -11,7 +11,8 @@ use Rattle.chor_base.specs.Events.{actors_of}
 use Rattle.chor_tree.specs.Children.{IsClosed}
 use Rattle.chor_semantics.specs.Choreography.{Ref, Live, Node, Communicates, InTransit, OfValue, ValueSent, Choreography, Then, Either, Ends, meets, named_in}
 use Rattle.chor_semantics.specs.Sources.{Procedure, Configuration, procedures_of, first_configuration}
-use Rattle.chor_semantics.specs.Steps.{Hosts, Effect, Keeps, Makes, Moves, head, test, delay, both, head_makes, branch_makes, vars_of, vars_after, sid_after}
+use Rattle.chor_base.specs.Meaning.{Hosts}
+use Rattle.chor_semantics.specs.Steps.{Effect, Keeps, Makes, Moves, head, test, delay, both, head_makes, branch_makes, vars_of, vars_after, sid_after}
 use Rattle.chor_semantics.specs.Runs.{Leads, IsTerminated, quiet, IsRun}
 use Rattle.chor_semantics.specs.Examples.Source.{Source, nodes_of, file_of, HasEndedRun, HasOpenRun}
 use Rattle.chor_semantics.proofs.Determined.{steps_agree, head_names}

@@ -17,7 +17,7 @@ use Rattle.chor_tree.specs.declared.tree.NodeId.{NodeId}
 use Rattle.chor_tree.specs.declared.tree.Node.{Node}
 use Rattle.chor_tree.specs.declared.tree.Form.{Form}
 use Rattle.chor_tree.specs.Children.{IsClosed}
-use Rattle.chor_semantics.specs.Steps.{Hosts}
+use Rattle.chor_base.specs.Meaning.{Hosts}
 use Rattle.chor_semantics.specs.Runs.{IsRun, IsEndedRun}
 
 abbrev pub nowhere : Place
