@@ -2,3 +2,4 @@ pub mod ThinItems
 pub mod ThinSteps
 pub mod ThinRuns
 pub mod ThinBegins
+pub mod Lines

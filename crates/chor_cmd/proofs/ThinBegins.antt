@@ -38,20 +38,20 @@ false_eq m n h = grind (arith, nat_tests)
 -- the exchanges, none of which is made yet
 abbrev pub items_of : List (Exchange NameId) → List Item
 items_of [] = []
-items_of (m ∷ ms) = Unsent m.forward (pos m.number) m.variable ∷ items_of ms
+items_of (m ∷ ms) = Unsent m.forward m.number m.variable ∷ items_of ms
 
 acts_items : (d : Bool) (ms : List (Exchange NameId)) → acts_of d (items_of ms) ≡ acts_in d ms
 acts_items d [] = refl
 acts_items true (m ∷ ms) = one m.forward refl (acts_items true ms)
   where
-    one : (f : Bool) → m.forward ≡ f → acts_of true (items_of ms) ≡ acts_in true ms → acts_of true (Unsent m.forward (pos m.number) m.variable ∷ items_of ms) ≡ act_if m.forward m ∷ acts_in true ms
-    one true e r = rw e (ap (λ w. Out (pos m.number) ∷ w) r)
+    one : (f : Bool) → m.forward ≡ f → acts_of true (items_of ms) ≡ acts_in true ms → acts_of true (Unsent m.forward m.number m.variable ∷ items_of ms) ≡ act_if m.forward m ∷ acts_in true ms
+    one true e r = rw e (ap (λ w. Out m.number ∷ w) r)
     one false e r = rw e (ap (λ w. In m.variable ∷ w) r)
 acts_items false (m ∷ ms) = one m.forward refl (acts_items false ms)
   where
-    one : (f : Bool) → m.forward ≡ f → acts_of false (items_of ms) ≡ acts_in false ms → acts_of false (Unsent m.forward (pos m.number) m.variable ∷ items_of ms) ≡ act_if (not m.forward) m ∷ acts_in false ms
+    one : (f : Bool) → m.forward ≡ f → acts_of false (items_of ms) ≡ acts_in false ms → acts_of false (Unsent m.forward m.number m.variable ∷ items_of ms) ≡ act_if (not m.forward) m ∷ acts_in false ms
     one true e r = rw e (ap (λ w. In m.variable ∷ w) r)
-    one false e r = rw e (ap (λ w. Out (pos m.number) ∷ w) r)
+    one false e r = rw e (ap (λ w. Out m.number ∷ w) r)
 
 loads_items : (d : Bool) (ms : List (Exchange NameId)) → loads_of d (items_of ms) ≡ []
 loads_items d [] = refl

@@ -1,5 +1,5 @@
 -- Thin files: one protocol, one channel and two processes that exchange numbers in one session (this project's own).
-use Rattle.std.specs.Prelude.{ℕ, ◌≡◌, Bool, true, false, not, List, [], ◌∷◌, map, pos}
+use Rattle.std.specs.Prelude.{ℕ, ◌≡◌, Bool, true, false, not, List, [], ◌∷◌, ℤ}
 use Rattle.chor_base.specs.declared.names.NameId.{NameId}
 use Rattle.chor_base.specs.declared.value.Value.TheVariants.{Int}
 use Rattle.chor_base.specs.Expr.{Term, Constant}
@@ -9,7 +9,7 @@ use Rattle.chor_semantics.specs.Choreography.{Ref, Named, OfValue, Node, Starts,
 pub record Exchange (N : Type 0) : Type 0 where
   pub forward : Bool
   pub state : N
-  pub number : ℕ
+  pub number : ℤ
   pub variable : N
 
 -- what a thin file says, with its names as N
@@ -39,7 +39,7 @@ module _ {N : Type 0} where
 abbrev pub exchange_node : Thin NameId → Exchange NameId → Node
 exchange_node t m =
     Communicates (Named t.session.0 0) (Named (process t m.forward).0 0) (role t m.forward) (Named (process t (not m.forward)).0 0) (role t (not m.forward))
-    (OfValue (Constant (Int (pos m.number))) m.variable)
+    (OfValue (Constant (Int m.number)) m.variable)
 
 abbrev pub exchanges_tree : Thin NameId → List (Exchange NameId) → Choreography
 exchanges_tree t [] = Ends

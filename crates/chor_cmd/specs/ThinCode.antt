@@ -1,5 +1,5 @@
 -- The two endpoint programs of a thin file.
-use Rattle.std.specs.Prelude.{ℕ, ◌≡◌, Bool, true, false, not, List, [], ◌∷◌, Some, slice_get, ℤ, pos}
+use Rattle.std.specs.Prelude.{ℕ, ◌≡◌, Bool, true, false, not, List, [], ◌∷◌, ◌++◌, Some, slice_get, ℤ}
 use Rattle.chor_base.specs.declared.names.NameId.{NameId}
 use Rattle.chor_base.specs.declared.value.Value.TheVariants.{Int}
 use Rattle.chor_base.specs.declared.expr.Expr.TheVariants.{Lit}
@@ -19,19 +19,26 @@ same true d = d
 same false d = not d
 
 abbrev pub act_if : Bool → Exchange NameId → Act
-act_if true m = Out (pos m.number)
+act_if true m = Out m.number
 act_if false m = In m.variable
+
+abbrev pub act_of : Bool → Exchange NameId → Act
+act_of d m = act_if (same d m.forward) m
 
 -- what the first or the second process does
 abbrev pub acts_in : Bool → List (Exchange NameId) → List Act
 acts_in d [] = []
-acts_in d (m ∷ ms) = act_if (same d m.forward) m ∷ acts_in d ms
+acts_in d (m ∷ ms) = act_of d m ∷ acts_in d ms
+
+-- at this node the code does this and goes on at the next
+abbrev pub IsStep : List CodeNode → NameId → NameId → CodeId → CodeId → Act → Type 0
+IsStep nodes k o id next (Out z) = slice_get nodes id.0 ≡ Some (Send k o (Lit (Int z)) next)
+IsStep nodes k o id next (In x) = slice_get nodes id.0 ≡ Some (Recv k o x next)
 
 -- the code from a node on does these in session k with the other role o, and then ends
 abbrev pub IsLine : List CodeNode → NameId → NameId → CodeId → List Act → Type 0
 IsLine nodes k o id [] = slice_get nodes id.0 ≡ Some End
-IsLine nodes k o id (Out z ∷ acts) = (next : CodeId) × (slice_get nodes id.0 ≡ Some (Send k o (Lit (Int z)) next)) × IsLine nodes k o next acts
-IsLine nodes k o id (In x ∷ acts) = (next : CodeId) × (slice_get nodes id.0 ≡ Some (Recv k o x next)) × IsLine nodes k o next acts
+IsLine nodes k o id (act ∷ acts) = (next : CodeId) × IsStep nodes k o id next act × IsLine nodes k o next acts
 
 -- the body joins the channel in this process's role, and then does its part of the exchanges
 pub record IsBody (nodes : List CodeNode) (t : Thin NameId) (d : Bool) (id : CodeId) : Type 0 where
@@ -45,3 +52,8 @@ pub record AreEndpointsOf (e : Endpoints) (t : Thin NameId) : Type 0 where
   pub body : Bool → CodeId
   pub processes : e.processes ≡ record { name = t.first_process; body = body true } ∷ record { name = t.second_process; body = body false } ∷ []
   pub bodies : (d : Bool) → IsBody e.code.nodes t d (body d)
+
+-- a table with more nodes after the old ones
+pub record Grows (old new : List CodeNode) : Type 0 where
+  pub more : List CodeNode
+  pub is : new ≡ old ++ more

@@ -1,6 +1,5 @@
 //! The commands.
 #![tactic(auto)]
 
-pub fn one() -> u8 {
-    1
-}
+mod shape;
+mod thin_endpoints;
