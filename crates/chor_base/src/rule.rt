@@ -1,6 +1,7 @@
 //! Rules, places and refusals.
 
 use crate::list::Word;
+use crate::memory::Memory as NoMemory;
 
 /// Where a byte stands: its line, and its column in bytes, both from 1.
 #[derive(Clone, Copy, Debug, PartialEq, Eq, PartialOrd, Ord)]
@@ -63,4 +64,15 @@ pub enum Denied {
     Refused(Refusal),
     /// There was no memory.
     Memory,
+}
+
+impl From<NoMemory> for Denied {
+    ghost use Rattle.std.specs.Prelude.{◌≡◌};
+    ghost use Rattle.chor_base.specs.declared.rule.Denied.TheVariants.{Memory};
+
+    ghost from_gives = { λ _ d. d ≡ Memory };
+
+    fn from(_error: NoMemory) -> Self {
+        Denied::Memory
+    }
 }

@@ -1,0 +1,16 @@
+//! Cuts the bytes of a file into tokens: words, numbers, texts and marks.
+#![tactic(auto)]
+
+mod laws;
+mod lex;
+mod mark;
+mod number;
+mod place;
+mod scan;
+mod text;
+mod token;
+
+pub use laws::{never_both, one_reading};
+pub use lex::tokens;
+pub use mark::Mark;
+pub use token::{Kind, Token, Tokens};
