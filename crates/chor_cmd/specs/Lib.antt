@@ -1,3 +1,4 @@
 pub mod Thin
 pub mod ThinCode
 pub mod Shapes
+pub mod Pieces

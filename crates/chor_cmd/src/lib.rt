@@ -1,5 +1,6 @@
 //! The commands.
 #![tactic(auto)]
 
+mod piece;
 mod shape;
 mod thin_endpoints;
