@@ -3,3 +3,4 @@ pub mod ThinSteps
 pub mod ThinRuns
 pub mod ThinBegins
 pub mod Lines
+pub mod Files

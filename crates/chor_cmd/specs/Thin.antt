@@ -45,8 +45,11 @@ abbrev pub exchanges_tree : Thin NameId → List (Exchange NameId) → Choreogra
 exchanges_tree t [] = Ends
 exchanges_tree t (m ∷ ms) = Then (exchange_node t m) (exchanges_tree t ms)
 
--- the start of the session by both processes, then the exchanges in order, then the end
+-- the start of the session by both processes
+abbrev pub start_tree : Thin NameId → Choreography → Choreography
+start_tree t rest =
+    Then (Starts t.channel 0 t.session.0 ((Named t.first_process.0 0, t.first_role) ∷ (Named t.second_process.0 0, t.second_role) ∷ []) []) rest
+
+-- the start, then the exchanges in order, then the end
 abbrev pub thin_tree : Thin NameId → Choreography
-thin_tree t =
-    Then (Starts t.channel 0 t.session.0 ((Named t.first_process.0 0, t.first_role) ∷ (Named t.second_process.0 0, t.second_role) ∷ []) [])
-    (exchanges_tree t t.exchanges)
+thin_tree t = start_tree t (exchanges_tree t t.exchanges)

@@ -4,3 +4,4 @@
 mod piece;
 mod shape;
 mod thin_endpoints;
+mod thin_file;
