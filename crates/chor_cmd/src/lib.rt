@@ -3,5 +3,10 @@
 
 mod piece;
 mod shape;
+mod status;
 mod thin_endpoints;
 mod thin_file;
+mod words;
+
+pub use status::Status;
+pub use words::{Command, Words, read_words};

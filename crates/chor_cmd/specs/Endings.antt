@@ -1,0 +1,83 @@
+-- How a call of the program may end, and with which text (this project's own).
+use Rattle.std.specs.Prelude.{ℕ, suc, ◌≡◌, ◌≢◌, ◌<◌, ◌≤◌, ◌+◌, ◌*◌, ◌^◌, List, [], ◌∷◌, ◌++◌, length, map, Option, Some, None, codes}
+use Rattle.std.specs.Fmt.{decimal}
+use Rattle.chor_base.specs.declared.event.Event.{Event}
+use Rattle.chor_base.specs.Events.{IsFifo}
+use Rattle.chor_tree.specs.declared.file.File.{File}
+use Rattle.chor_semantics.specs.Runs.{IsEndedRun}
+use Rattle.chor_io.specs.Outside.{Risen, GrowsByFront}
+use Rattle.transcript.specs.Text.{Words as Book, transcript}
+use Rattle.chor_cmd.specs.declared.words.Words.{Words}
+use Rattle.chor_cmd.specs.declared.status.Status.{Status}
+use Rattle.chor_cmd.specs.declared.status.Status.TheVariants.{Done, Usage, ReadFault, WriteFault, Memory, TooLarge, Unbuilt}
+use Rattle.chor_cmd.specs.Words.{IsRunForm, HasNoForm}
+use Rattle.chor_cmd.specs.ThinFile.{plain, IsThinSource}
+
+-- the files by name, where they are told
+abbrev pub Told : Type 0
+Told = Option (List ℕ → Option (List ℕ))
+
+-- the shelf tells that this file has these bytes
+abbrev pub Tells : Told → List ℕ → List ℕ → Type 0
+Tells None name bytes = ⊥
+Tells (Some files) name bytes = files name ≡ Some bytes
+
+-- a source file has at most 1 MiB
+abbrev pub source_limit : ℕ
+source_limit = 1048576
+
+-- what the transcripts of a file are written with
+abbrev pub book_of : File → Book
+book_of f = record { names = f.names; texts = f.texts; processes = plain f.processes }
+
+abbrev pub end_line : ℕ → List ℕ
+end_line n = codes "end " ++ decimal n
+
+-- The text is the transcript of a run of this file's choreography to its end, in which messages are received first in,
+-- first out
+pub record IsRunText (f : File) (text : List ℕ) : Type 0 where
+  pub history : List Event
+  pub run : IsEndedRun f [] None history
+  pub fifo : IsFifo history
+  pub text_is : text ≡ transcript (book_of f) history (end_line (length history))
+
+-- a thin file with these bytes has such a run, of a start and two events for each exchange
+pub record RunsThin (bytes text : List ℕ) : Type 0 where
+  pub file : File
+  pub source : IsThinSource bytes file
+  pub run : IsRunText file text
+  pub count : length run.history ≡ suc (2 * length source.thin.exchanges)
+
+abbrev pub line_naming : List ℕ → List ℕ → List ℕ
+line_naming what name = what ++ name ++ 10 ∷ []
+
+-- The statuses with which a call may end that could write its text, each with its cause and that text. The counts are
+-- those of the failed fetches of each name, before and after
+pub data Ends (words : Words) (files : Told) (before after : List ℕ → ℕ) : Status → List ℕ → Type 0 where
+  usage : HasNoForm words → Ends words files before after Usage (codes "usage: chor COMMAND ARGUMENTS\n")
+  read_fault : (name : List ℕ) → IsRunForm words name → Risen (before name) (after name)
+      → Ends words files before after ReadFault (line_naming (codes "read fault ") name)
+  too_large : (name : List ℕ) → IsRunForm words name → ((bytes : List ℕ) → Tells files name bytes → source_limit < length bytes)
+      → Ends words files before after TooLarge (line_naming (codes "too large ") name)
+  unbuilt : (name : List ℕ) → IsRunForm words name → ((bytes : List ℕ) → Tells files name bytes → (length bytes ≤ source_limit) × ((f : File) → IsThinSource bytes f → ⊥))
+      → Ends words files before after Unbuilt (codes "not built\n")
+  done : (name text : List ℕ) → IsRunForm words name → ((bytes : List ℕ) → Tells files name bytes → (length bytes ≤ source_limit) × RunsThin bytes text)
+      → Ends words files before after Done text
+
+-- where the bytes written are told, exactly this text was added
+abbrev pub Wrote : Option (List ℕ) → Option (List ℕ) → List ℕ → Type 0
+Wrote None new text = Unit {0}
+Wrote (Some old) new text = new ≡ Some (old ++ text)
+
+-- where the bytes written are told, a front of this text was added
+abbrev pub WroteFront : Option (List ℕ) → Option (List ℕ) → List ℕ → Type 0
+WroteFront None new text = Unit {0}
+WroteFront (Some old) None text = ⊥
+WroteFront (Some old) (Some new) text = GrowsByFront old new text
+
+-- A call has ended so: by a failing write after a front of a text, for want of memory, or with the whole text
+abbrev pub HasEnded : Words → Told → (List ℕ → ℕ) → (List ℕ → ℕ) → ℕ → ℕ → Option (List ℕ) → Option (List ℕ) → Status → Type 0
+HasEnded words files before after faults faults' old new WriteFault =
+    Risen faults faults' × ((status : Status) × (text : List ℕ) × Ends words files before after status text × WroteFront old new text)
+HasEnded words files before after faults faults' old new Memory = ((name : List ℕ) × IsRunForm words name) × (new ≡ old)
+HasEnded words files before after faults faults' old new status = (text : List ℕ) × Ends words files before after status text × Wrote old new text

@@ -1,0 +1,40 @@
+//! How a call of the program ends.
+
+ghost use Rattle.std.specs.Prelude.{◌≡◌};
+ghost use Rattle.chor_cmd.specs.Status.{number_of};
+
+/// How a call of the program ends.
+#[derive(Clone, Copy, Debug, PartialEq, Eq)]
+pub enum Status {
+    /// The command is done.
+    Done,
+    /// The words are of no form.
+    Usage,
+    /// Reading the file failed.
+    ReadFault,
+    /// Writing failed.
+    WriteFault,
+    /// There was no memory.
+    Memory,
+    /// The file is longer than its limit.
+    TooLarge,
+    /// The command doesn't handle files like this one yet.
+    Unbuilt,
+}
+
+impl Status {
+    /// The number with which the process ends.
+    pub fn number(&self) -> u8
+        ensures { result ≡ number_of self.now }
+    {
+        match self {
+            Status::Done => 0,
+            Status::Usage => 2,
+            Status::ReadFault => 3,
+            Status::WriteFault => 4,
+            Status::Memory => 5,
+            Status::TooLarge => 8,
+            Status::Unbuilt => 9,
+        }
+    }
+}
