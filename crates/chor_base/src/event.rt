@@ -65,16 +65,19 @@ impl Event {
     pub fn copy(&self, alloc: Global) -> Result<Event, Memory>
         ensures { IfOk result (λ event. event ≡ self.now) }
     {
-        let copied = match self {
+        let copied = match *self {
             Event::Start {
                 channel,
                 sid,
-                parts,
-            } => Event::Start {
-                channel: *channel,
-                sid: *sid,
-                parts: parts.copy(alloc)?,
-            },
+                ref parts,
+            } => {
+                let parts = parts.copy(alloc)?;
+                Event::Start {
+                    channel,
+                    sid,
+                    parts,
+                }
+            }
             Event::Send {
                 pid,
                 sid,
@@ -82,11 +85,11 @@ impl Event {
                 to,
                 load,
             } => Event::Send {
-                pid: *pid,
-                sid: *sid,
-                from: *from,
-                to: *to,
-                load: *load,
+                pid,
+                sid,
+                from,
+                to,
+                load,
             },
             Event::Recv {
                 pid,
@@ -95,25 +98,15 @@ impl Event {
                 to,
                 load,
             } => Event::Recv {
-                pid: *pid,
-                sid: *sid,
-                from: *from,
-                to: *to,
-                load: *load,
+                pid,
+                sid,
+                from,
+                to,
+                load,
             },
-            Event::Test { pid, answer } => Event::Test {
-                pid: *pid,
-                answer: *answer,
-            },
-            Event::Set { pid, var, value } => Event::Set {
-                pid: *pid,
-                var: *var,
-                value: *value,
-            },
-            Event::Show { pid, value } => Event::Show {
-                pid: *pid,
-                value: *value,
-            },
+            Event::Test { pid, answer } => Event::Test { pid, answer },
+            Event::Set { pid, var, value } => Event::Set { pid, var, value },
+            Event::Show { pid, value } => Event::Show { pid, value },
             Event::Host {
                 pid,
                 var,
@@ -122,12 +115,12 @@ impl Event {
                 right,
                 value,
             } => Event::Host {
-                pid: *pid,
-                var: *var,
-                name: *name,
-                left: *left,
-                right: *right,
-                value: *value,
+                pid,
+                var,
+                name,
+                left,
+                right,
+                value,
             },
         };
         Ok(copied)
