@@ -1,6 +1,7 @@
 -- Lists with one item more.
-use Rattle.std.proofs.Common.{◌≡◌, ℕ, zero, suc, List, [], ◌∷◌, ◌++◌, length, refl, ap, Some}
-use Rattle.std.specs.Prelude.{slice_get}
+use Rattle.std.proofs.Common.{◌≡◌, ℕ, ◌+◌, ◌<◌, zero, suc, List, [], ◌∷◌, ◌++◌, length, take, get_or, refl, sym, ap, ◌∙◌, Some}
+use Rattle.std.specs.Prelude.{map, slice_get}
+use Rattle.std.proofs.lemmas.List.{map-append, take_more}
 
 -- what stands at a place of a list with one item more
 pub data AtEnd {X : Type 0} (xs : List X) (x y : X) (i : ℕ) : Type 0 where
@@ -21,3 +22,10 @@ at_end (z ∷ xs) x y (suc i) h = go (at_end xs x y i h)
 pub slice_get_last : {X : Type 0} (xs : List X) (x : X) → slice_get (xs ++ x ∷ []) (length xs) ≡ Some x
 slice_get_last [] x = refl
 slice_get_last (y ∷ xs) x = slice_get_last xs x
+
+-- one item more is read and a like one is written
+pub mapped_more : {X Y : Type 0} (f : X → Y) (xs old new : List X) (x y : X) (i : ℕ) → i < length xs → x ≡ get_or xs i x → f y ≡ f x → map f old ≡ map f (take i xs) → new ≡ old ++ y ∷ [] → map f new ≡ map f (take (i + 1) xs)
+mapped_more f xs old new x y i within at same so_far added =
+    ap (map f) added ∙ map-append f old (y ∷ []) ∙ ap (λ r. r ++ f y ∷ []) so_far
+    ∙ ap (λ z. map f (take i xs) ++ z ∷ []) (same ∙ ap f at)
+    ∙ sym (ap (map f) (take_more xs i x within) ∙ map-append f (take i xs) (get_or xs i x ∷ []))

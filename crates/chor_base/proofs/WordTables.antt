@@ -1,7 +1,7 @@
 -- Words in a set and their places.
 use Rattle.std.proofs.Common.{take, drop, take-append-drop, drop-cons, ◌<◌, ◌+◌, ◌≡◌, ℕ, Bool, true, false, List, [], ◌∷◌, ◌++◌, refl, sym, ap, ◌∙◌, Option, Some, None, Vec, Global, subst, arith, get_or, ◌||◌, ◌&&◌, ◌==◌, length, zero, suc}
 use Rattle.indexmap.specs.IndexSet.{insert_key}
-use Rattle.std.specs.Prelude.{position, slice_get, map, bytes_eq, Decides, IfSome, IfNone, is_some, if◌then◌else◌}
+use Rattle.std.specs.Prelude.{position, slice_get, bytes_eq, Decides, IfSome, IfNone, is_some, if◌then◌else◌}
 use Rattle.std.specs.List.{list_any}
 use Rattle.std.proofs.lemmas.List.Quantifiers.{position-Some}
 use Rattle.std.proofs.lemmas.Option.{slice_get-get_or, slice_get-map}

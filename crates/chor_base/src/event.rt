@@ -1,8 +1,12 @@
 //! What a run is made of.
 
+ghost use Rattle.std.specs.Prelude.{◌≡◌, IfOk};
+
 use crate::list::List;
+use crate::memory::Memory;
 use crate::names::NameId;
 use crate::value::{Load, Value};
+use std::alloc::Global;
 
 /// One event of a run. Processes and sessions have the numbers that they were given in the run.
 #[derive(Drop)]
@@ -56,11 +60,117 @@ pub enum Event {
     },
 }
 
+impl Event {
+    /// The same event once more.
+    pub fn copy(&self, alloc: Global) -> Result<Event, Memory>
+        ensures { IfOk result (λ event. event ≡ self.now) }
+    {
+        let copied = match *self {
+            Event::Start {
+                channel,
+                sid,
+                ref parts,
+            } => {
+                let parts = parts.copy(alloc)?;
+                Event::Start {
+                    channel,
+                    sid,
+                    parts,
+                }
+            }
+            Event::Send {
+                pid,
+                sid,
+                from,
+                to,
+                load,
+            } => Event::Send {
+                pid,
+                sid,
+                from,
+                to,
+                load,
+            },
+            Event::Recv {
+                pid,
+                sid,
+                from,
+                to,
+                load,
+            } => Event::Recv {
+                pid,
+                sid,
+                from,
+                to,
+                load,
+            },
+            Event::Test { pid, answer } => Event::Test { pid, answer },
+            Event::Set { pid, var, value } => Event::Set { pid, var, value },
+            Event::Show { pid, value } => Event::Show { pid, value },
+            Event::Host {
+                pid,
+                var,
+                name,
+                left,
+                right,
+                value,
+            } => Event::Host {
+                pid,
+                var,
+                name,
+                left,
+                right,
+                value,
+            },
+        };
+        Ok(copied)
+    }
+}
+
+impl List<Event> {
+    /// The same events once more.
+    pub fn copy(&self, alloc: Global) -> Result<List<Event>, Memory>
+        ensures { IfOk result (λ list. list ≡ self.now) }
+    {
+        let mut list = List::new(alloc);
+        for event in self.as_slice() {
+            list.push(event.copy(alloc)?)?;
+        }
+        Ok(list)
+    }
+}
+
 /// An event and the worker that made it; 0 where there are no workers.
 #[derive(Drop)]
 pub struct Entry {
     pub worker: u32,
     pub event: Event,
+}
+
+impl Entry {
+    /// The same entry once more.
+    pub fn copy(&self, alloc: Global) -> Result<Entry, Memory>
+        ensures { IfOk result (λ entry. entry ≡ self.now) }
+    {
+        let event = self.event.copy(alloc)?;
+        Ok(Entry {
+            worker: self.worker,
+            event,
+        })
+    }
+}
+
+impl List<Entry> {
+    /// The same entries once more.
+    pub fn copy(&self, alloc: Global) -> Result<List<Entry>, Memory>
+        ensures { IfOk result (λ list. list ≡ self.now) }
+    {
+        let mut list = List::new(alloc);
+        for entry in self.as_slice() {
+            list.push(entry.copy(alloc)?)?;
+        }
+        Ok(list)
+    }
 }
 
 /// Why a process that hasn't ended can't step.

@@ -1,11 +1,14 @@
 //! Expressions and their values.
 
-ghost use Rattle.std.specs.Prelude.{◌≡◌, ◌≢◌, pos};
+ghost use Rattle.std.specs.Prelude.{◌≡◌, ◌≢◌, pos, IfOk, map};
 ghost use Rattle.chor_base.specs.Expr.{term_of, value_of, unary, binary, divided, number_of, truth_of, is_same};
 
+use crate::list::List;
+use crate::memory::Memory;
 use crate::name_map::Vars;
 use crate::names::NameId;
 use crate::value::Value;
+use std::alloc::Global;
 
 /// An operator of one operand.
 #[derive(Clone, Copy, Debug, PartialEq, Eq)]
@@ -38,6 +41,38 @@ pub enum Expr {
     Var(NameId),
     Un(UnOp, Box<Expr>),
     Bin(BinOp, Box<Expr>, Box<Expr>),
+}
+
+impl Expr {
+    /// The same expression once more.
+    pub fn copy(&self, alloc: Global) -> Result<Expr, Memory>
+        ensures { IfOk result (λ expr. term_of expr ≡ term_of self.now) }
+    {
+        let copied = match self {
+            Expr::Lit(value) => Expr::Lit(*value),
+            Expr::Var(name) => Expr::Var(*name),
+            Expr::Un(op, operand) => Expr::Un(*op, Box::new(alloc, operand.copy(alloc)?)?),
+            Expr::Bin(op, left, right) => {
+                let left = Box::new(alloc, left.copy(alloc)?)?;
+                let right = Box::new(alloc, right.copy(alloc)?)?;
+                Expr::Bin(*op, left, right)
+            }
+        };
+        Ok(copied)
+    }
+}
+
+impl List<Expr> {
+    /// The same expressions once more.
+    pub fn copy(&self, alloc: Global) -> Result<List<Expr>, Memory>
+        ensures { IfOk result (λ list. map term_of list ≡ map term_of self.now) }
+    {
+        let mut list = List::new(alloc);
+        for expr in self.as_slice() {
+            list.push(expr.copy(alloc)?)?;
+        }
+        Ok(list)
+    }
 }
 
 // The number that an operand counts as: 0 where it is none.

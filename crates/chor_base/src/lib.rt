@@ -10,6 +10,8 @@ mod name_map;
 mod names;
 mod rule;
 mod table;
+#[cfg(test)]
+mod tests;
 mod texts;
 mod value;
 

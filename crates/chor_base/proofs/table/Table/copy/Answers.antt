@@ -1,4 +1,4 @@
-use Rattle.std.proofs.Common.{◌≡◌, ◌<◌, ◌∙◌, ap, sym, take, List, ℕ, Some, length, arith}
+use Rattle.std.proofs.Common.{◌<◌, ◌∙◌, ap, sym, take, List, ℕ, Some, length, arith}
 use Rattle.std.proofs.lemmas.Option.{slice_get-get_or}
 use Rattle.chor_base.specs.Words.{words_of, with_word}
 use Rattle.chor_base.proofs.WordTables.{copied_more, copied_word, length-words_of}
