@@ -4,3 +4,4 @@ pub mod ThinRuns
 pub mod ThinBegins
 pub mod Lines
 pub mod Files
+pub mod Faultless

@@ -1,6 +1,7 @@
 -- A table with more nodes keeps what it has.
 use Rattle.std.proofs.Common.{◌≡◌, ℕ, zero, suc, ◌+◌, ◌<◌, Bool, true, false, if◌then◌else◌, not, List, [], ◌∷◌, ◌++◌, length, refl, sym, ap, ◌∙◌, Some, Option, subst, arith, append_assoc, length-append}
 use Rattle.std.specs.Prelude.{slice_get, map, All}
+use Rattle.std.proofs.lemmas.List.Elements.{All-append}
 use Rattle.chor_base.proofs.Lists.{slice_get_last}
 use Rattle.chor_base.specs.declared.names.NameId.{NameId}
 use Rattle.endpoint_code.specs.declared.code.CodeId.{CodeId}
@@ -14,7 +15,22 @@ use Rattle.endpoint_code.specs.Bodies.{AreInside}
 use Rattle.chor_cmd.specs.Thin.{Thin, role}
 use Rattle.chor_cmd.specs.Shapes.{exchange_of}
 use Rattle.chor_cmd.specs.declared.shape.Exchange.{Exchange as Held}
-use Rattle.chor_cmd.specs.ThinCode.{Act, Out, In, act_of, IsStep, IsLine, IsBody, Grows, acts_in, AreEndpointsOf}
+use Rattle.chor_cmd.specs.ThinCode.{Act, Out, In, act_of, IsStep, IsLine, IsBody, is_simple, Grows, acts_in, AreEndpointsOf}
+
+pub grows_trans : (a b c : List CodeNode) → Grows a b → Grows b c → Grows a c
+grows_trans a b c g h = record {
+  more = g.more ++ h.more;
+  is = h.is ∙ ap (λ l. l ++ h.more) g.is ∙ append_assoc a g.more h.more;
+  simple = All-append (λ n. is_simple n ≡ true) g.more h.more g.simple h.simple;
+}
+
+-- one simple node more
+pub grows_one : (old new : List CodeNode) (n : CodeNode) → new ≡ old ++ n ∷ [] → is_simple n ≡ true → Grows old new
+grows_one old new n h s = record { more = n ∷ []; is = h; simple = one }
+  where
+    one : All (λ m. is_simple m ≡ true) (n ∷ [])
+    one zero d k = s
+    one (suc i) d k = absurd (omega arith)
 
 get_grown : (ns more : List CodeNode) (i : ℕ) (n : CodeNode) → slice_get ns i ≡ Some n → slice_get (ns ++ more) i ≡ Some n
 get_grown [] more i n h = absurd cc
@@ -32,9 +48,6 @@ pub line_kept : (old new : List CodeNode) (k o : NameId) (id : CodeId) (acts : L
 line_kept old new k o id [] g h = get_kept old new id.0 _ g h
 line_kept old new k o id (act ∷ acts) g h = (h.0, step_kept old new k o id h.0 act g h.1, line_kept old new k o h.0 acts g h.2)
 
-pub grows_trans : (a b c : List CodeNode) → Grows a b → Grows b c → Grows a c
-grows_trans a b c g h = record { more = g.more ++ h.more; is = h.is ∙ ap (λ l. l ++ h.more) g.is ∙ append_assoc a g.more h.more }
-
 pub body_kept : (old new : List CodeNode) (t : Thin NameId) (d : Bool) (id : CodeId) → Grows old new → IsBody old t d id → IsBody new t d id
 body_kept old new t d id g b = record {
   next = b.next;
@@ -50,7 +63,7 @@ pub body_is : (old new : List CodeNode) (t : Thin NameId) (d : Bool) (id next : 
 body_is old new t d id next h i l = record {
   next = next;
   joins = get_pushed old new _ id.0 h i;
-  line = line_kept old new t.session (role t (not d)) next (acts_in d t.exchanges) (record { more = Join t.channel (role t d) t.session next ∷ []; is = h }) l;
+  line = line_kept old new t.session (role t (not d)) next (acts_in d t.exchanges) (grows_one old new (Join t.channel (role t d) t.session next) h refl) l;
 }
 
 -- what is left of the exchanges is nothing, or one and the rest
@@ -66,9 +79,12 @@ line_some old new k o id next d ms rest m e g h s =
 pub endpoints_are : (e : Endpoints) (t : Thin NameId) (first second : CodeId) (before : List CodeNode)
     → e.channels ≡ record { name = t.channel; active = t.first_role ∷ t.second_role ∷ []; serve = [] } ∷ []
     → e.processes ≡ record { name = t.first_process; body = first } ∷ record { name = t.second_process; body = second } ∷ []
+    → e.procedures ≡ [] → e.services ≡ []
     → IsBody before t true first → Grows before e.code.nodes → IsBody e.code.nodes t false second → AreEndpointsOf e t
-endpoints_are e t first second before channels processes one grows two = record {
+endpoints_are e t first second before channels processes none nobody one grows two = record {
   channels = channels;
+  procedures = none;
+  services = nobody;
   body = λ d. if d then first else second;
   processes = processes;
   bodies = bodies;

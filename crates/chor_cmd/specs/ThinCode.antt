@@ -1,5 +1,5 @@
 -- The two endpoint programs of a thin file.
-use Rattle.std.specs.Prelude.{ℕ, ◌≡◌, Bool, true, false, not, List, [], ◌∷◌, ◌++◌, Some, slice_get, ℤ}
+use Rattle.std.specs.Prelude.{ℕ, ◌≡◌, Bool, true, false, not, List, [], ◌∷◌, ◌++◌, Some, slice_get, All, ℤ}
 use Rattle.chor_base.specs.declared.names.NameId.{NameId}
 use Rattle.chor_base.specs.declared.value.Value.TheVariants.{Int}
 use Rattle.chor_base.specs.declared.expr.Expr.TheVariants.{Lit}
@@ -50,10 +50,21 @@ pub record IsBody (nodes : List CodeNode) (t : Thin NameId) (d : Bool) (id : Cod
 pub record AreEndpointsOf (e : Endpoints) (t : Thin NameId) : Type 0 where
   pub channels : e.channels ≡ record { name = t.channel; active = t.first_role ∷ t.second_role ∷ []; serve = [] } ∷ []
   pub body : Bool → CodeId
+  pub procedures : e.procedures ≡ []
+  pub services : e.services ≡ []
   pub processes : e.processes ≡ record { name = t.first_process; body = body true } ∷ record { name = t.second_process; body = body false } ∷ []
   pub bodies : (d : Bool) → IsBody e.code.nodes t d (body d)
 
--- a table with more nodes after the old ones
+-- a node that joins, sends, receives or ends
+abbrev pub is_simple : CodeNode → Bool
+is_simple (Join c r k next) = true
+is_simple (Send k b e next) = true
+is_simple (Recv k a x next) = true
+is_simple End = true
+is_simple _ = false
+
+-- a table with more nodes after the old ones, all of which are simple
 pub record Grows (old new : List CodeNode) : Type 0 where
   pub more : List CodeNode
   pub is : new ≡ old ++ more
+  pub simple : All (λ n. is_simple n ≡ true) more

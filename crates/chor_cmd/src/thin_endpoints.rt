@@ -73,7 +73,7 @@ fn processes(
 }
 
 // The code of the first or the second process.
-#[tactic(auto, using(crate::proofs::Lines::body_is, crate::proofs::Lines::grows_trans))]
+#[tactic(auto, using(crate::proofs::Lines::body_is, crate::proofs::Lines::grows_trans, crate::proofs::Lines::grows_one))]
 fn body(code: &mut Code, shape: &Shape, first: bool) -> Result<CodeId, Memory>
     ensures body { IfOk result (IsBody code.new.nodes (thin_of shape.now) first) }
     ensures inside { IfOk result (λ id. id.0 < length code.new.nodes) }
@@ -86,7 +86,7 @@ fn body(code: &mut Code, shape: &Shape, first: bool) -> Result<CodeId, Memory>
 }
 
 // Its part of these exchanges, and then its end.
-#[tactic(auto, using(crate::proofs::Lines::grows_trans))]
+#[tactic(auto, using(crate::proofs::Lines::grows_trans, crate::proofs::Lines::grows_one))]
 fn line(
     code: &mut Code,
     shape: &Shape,
@@ -111,6 +111,7 @@ fn line(
 }
 
 // One exchange at the first or the second process.
+#[tactic(auto, using(crate::proofs::Lines::grows_one))]
 fn step(
     code: &mut Code,
     shape: &Shape,

@@ -2,7 +2,7 @@ use Rattle.chor_cmd.proofs.Lines.{endpoints_are, endpoints_inside}
 use Rattle.chor_cmd.proofs.thin_endpoints.endpoints.Goals as goal
 
 pub returns-clause-are : goal.returns-clause-are
-returns-clause-are c = endpoints_are _ _ c.in_ok-first.first c.in_ok-second.second c.body.new.code.nodes c.in_ok-channels.ensures c.in_ok-processes.ensures c.in_ok-first.ensures.body c.in_ok-second.ensures.grows c.in_ok-second.ensures.body
+returns-clause-are c = endpoints_are _ _ c.in_ok-first.first c.in_ok-second.second c.body.new.code.nodes c.in_ok-channels.ensures c.in_ok-processes.ensures c.new.ensures c.new-2.ensures c.in_ok-first.ensures.body c.in_ok-second.ensures.grows c.in_ok-second.ensures.body
 
 pub invariant_of-result : goal.invariant_of-result
 invariant_of-result c = record {
