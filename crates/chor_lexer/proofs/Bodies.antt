@@ -8,7 +8,7 @@ use Rattle.chor_lexer.specs.declared.text.Part.TheVariants.{Quote, LineEnd, Plai
 use Rattle.chor_lexer.specs.Scan.{IsPart, ClosesAt, FailsAt, IsMeant}
 use Rattle.chor_lexer.proofs.Texts.{heads, tails, text_body, plain_no_quote, plain_no_backslash, plain_no_feed, quote_no_backslash, escaped_clash}
 
-body-append : (a b : List ℕ) → IsBody a → IsBody b → IsBody (a ++ b)
+pub body-append : (a b : List ℕ) → IsBody a → IsBody b → IsBody (a ++ b)
 body-append a b empty k = k
 body-append a b (one p h) k = one p (body-append _ b h k)
 body-append a b (two p h) k = two p (body-append _ b h k)

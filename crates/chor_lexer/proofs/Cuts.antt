@@ -47,7 +47,7 @@ pub next_some : (s : Symbol) (w r bs : List ℕ) → IsNext s w r bs → 1 ≤ l
 next_some s w r bs n = omega (arith, lexeme_long s w n.longest.is, ap length n.longest.parts, length-append w r)
 
 -- the longest token at the front is written in one way
-longest_same : (s t : Symbol) (w r v q bs cs : List ℕ) → IsLongest s w r bs → IsLongest t v q cs → bs ≡ cs → w ≡ v
+pub longest_same : (s t : Symbol) (w r v q bs cs : List ℕ) → IsLongest s w r bs → IsLongest t v q cs → bs ≡ cs → w ≡ v
 longest_same s t w r v q bs cs a b e =
     let one = a.longest t v q (e ∙ b.parts) b.is in
     let two = b.longest s w r (sym e ∙ a.parts) a.is in
@@ -100,11 +100,11 @@ ended_same : (front other ls ms : List Lexeme) (q q' : Place) → ls ≡ front +
 ended_same front other ls ms q q' a b e f = a ∙ (λ i. e i ++ record { symbol = last; place = f i } ∷ []) ∙ sym b
 
 pub one_reading : (bytes : List ℕ) (ls ms : List Lexeme) → IsTokens bytes ls → IsTokens bytes ms → ls ≡ ms
-one_reading bytes ls ms a b = go (joins bytes bytes start start a.front b.front [] a.close [] b.close a.cut b.cut refl refl)
+one_reading bytes ls ms a b = go (joins bytes bytes start start a.front b.front [] a.next [] b.next a.cut b.cut refl refl)
   where
-    go : Joins a.front b.front [] a.close [] b.close → ls ≡ ms
-    go (first {more = more} h c) = let n = cut_nothing [] a.close more [] b.close c refl in ended_same a.front b.front ls ms a.close b.close a.whole b.whole (sym (append-nil a.front) ∙ ap (λ (l : List Lexeme). a.front ++ l) (sym n.none) ∙ sym h) (sym n.place)
-    go (second {more = more} h c) = let n = cut_nothing [] b.close more [] a.close c refl in ended_same a.front b.front ls ms a.close b.close a.whole b.whole (h ∙ ap (λ (l : List Lexeme). b.front ++ l) n.none ∙ append-nil b.front) n.place
+    go : Joins a.front b.front [] a.next [] b.next → ls ≡ ms
+    go (first {more = more} h c) = let n = cut_nothing [] a.next more [] b.next c refl in ended_same a.front b.front ls ms a.next b.next a.whole b.whole (sym (append-nil a.front) ∙ ap (λ (l : List Lexeme). a.front ++ l) (sym n.none) ∙ sym h) (sym n.place)
+    go (second {more = more} h c) = let n = cut_nothing [] b.next more [] a.next c refl in ended_same a.front b.front ls ms a.next b.next a.whole b.whole (h ∙ ap (λ (l : List Lexeme). b.front ++ l) n.none ∙ append-nil b.front) n.place
 
 -- ---- a fault stops
 
@@ -193,4 +193,4 @@ faulty_cut bytes front ls p q rest rule k a b f = go (joins bytes bytes start st
 -- a file that has tokens isn't refused
 pub not_both : (bytes : List ℕ) (ls : List Lexeme) (rule : Rule) (place : Place) → IsTokens bytes ls → Refuses bytes rule place → ⊥
 not_both bytes ls rule place t (malformed h) = h t.utf8
-not_both bytes ls rule place t (faulty u c f) = faulty_cut bytes _ t.front _ t.close _ rule _ t.cut c f
+not_both bytes ls rule place t (faulty u c f) = faulty_cut bytes _ t.front _ t.next _ rule _ t.cut c f

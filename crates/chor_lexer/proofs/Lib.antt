@@ -5,4 +5,5 @@ pub mod Bodies
 pub mod Pieces
 pub mod Spelled
 pub mod Cuts
+pub mod Faults
 pub mod Progress

@@ -1,7 +1,7 @@
 -- What is known while tokens are read.
 use Rattle.std.proofs.Common.{◌≡◌, ◌<◌, ◌≤◌, ◌+◌, ◌-◌, ◌^◌, ℕ, true, false, List, [], ◌∷◌, ◌++◌, length, take, drop, None, refl, sym, ap, ◌∙◌, subst, arith, length-append, take-append-drop, length-take-le, length-drop}
 use Rattle.std.proofs.lemmas.List.{append-nil}
-use Rattle.std.specs.List.{AllByRecursion}
+use Rattle.std.specs.List.{AllByRecursion, fold}
 use Rattle.std.specs.Str.{IsUtf8}
 use Rattle.std.specs.Str.Lossy.{utf8_valid_len}
 use Rattle.chor_base.specs.declared.rule.Place.{Place}
@@ -15,7 +15,7 @@ use Rattle.chor_lexer.specs.declared.token.Kind.TheVariants as kind
 use Rattle.chor_lexer.specs.declared.token.Token.{Token}
 use Rattle.chor_lexer.specs.Lexeme.{Symbol, word, text, last, Lexeme, IsLexeme, is_word, is_number, is_text, is_mark}
 use Rattle.chor_lexer.specs.Cut.{IsBlank, start, place_after, IsNext, IsCut, here, blank, token}
-use Rattle.chor_lexer.specs.Tokens.{AreTokensOf, Spells, AreSpelled, Grows, Has, is_last, is_ended}
+use Rattle.chor_lexer.specs.Tokens.{AreTokensOf, Spells, AreSpelled, Grows, HasSymbol, is_last, is_ended, with_name, with_text}
 use Rattle.chor_lexer.specs.Refusal.{IsFault, Refuses, malformed, faulty, IsDenial}
 use Rattle.chor_lexer.specs.Scan.{HasForm, IsWritten, IsNextOf}
 use Rattle.chor_lexer.proofs.Fronts.{lexeme_same, lexeme_long}
@@ -40,8 +40,10 @@ pub record Progress (bytes : List ℕ) (names texts : List (List ℕ)) (rest : L
   pub front : List Lexeme
   pub cut : IsCut bytes start front rest p
   pub spelled : AreSpelled names' texts' items front
-  pub names_grow : Grows (λ w. Has bytes (word w)) names names'
-  pub texts_grow : Grows (λ t. Has bytes (text t)) texts texts'
+  pub names_are : names' ≡ fold (λ table l. with_name table l.symbol) names front
+  pub texts_are : texts' ≡ fold (λ table l. with_text table l.symbol) texts front
+  pub names_grow : Grows (λ w. HasSymbol bytes (word w)) names names'
+  pub texts_grow : Grows (λ t. HasSymbol bytes (text t)) texts texts'
   pub unended : AllByRecursion (λ t. is_last t.kind ≡ false) items
   pub line : p.line + length rest ≤ length bytes + 1
   pub col : p.col + length rest ≤ length bytes + 1
@@ -53,6 +55,8 @@ progress_none bytes names texts items p e f = record {
   front = [];
   cut = subst (λ (x : Place). IsCut bytes start [] bytes x) (sym f) here;
   spelled = subst (λ (l : List Token). AreSpelled names texts l []) (sym e) tt;
+  names_are = refl;
+  texts_are = refl;
   names_grow = grows_none _ names names refl;
   texts_grow = grows_none _ texts texts refl;
   unended = subst (AllByRecursion (λ t. is_last t.kind ≡ false)) (sym e) tt;
@@ -86,6 +90,8 @@ progress_blank bytes names texts rest written after p q items names' texts' n g 
       front = g.front;
       cut = past_cut bytes rest written after p q n g.front h (cut_blank bytes rest p g.front n g.cut b);
       spelled = g.spelled;
+      names_are = g.names_are;
+      texts_are = g.texts_are;
       names_grow = g.names_grow;
       texts_grow = g.texts_grow;
       unended = g.unended;
@@ -95,7 +101,7 @@ progress_blank bytes names texts rest written after p q items names' texts' n g 
       few = omega (arith, g.few);
     }
 
-pub has_written : (bytes rest written : List ℕ) (p : Place) (ls : List Lexeme) (f : Form) (n : ℕ) (s : Symbol) → IsCut bytes start ls rest p → IsNextOf f rest n → written ≡ take n rest → IsLexeme s written → Has bytes s
+pub has_written : (bytes rest written : List ℕ) (p : Place) (ls : List Lexeme) (f : Form) (n : ℕ) (s : Symbol) → IsCut bytes start ls rest p → IsNextOf f rest n → written ≡ take n rest → IsLexeme s written → HasSymbol bytes s
 has_written bytes rest written p ls f n s c x e l =
     let same = lexeme_same x.symbol s (take n rest) written x.next.longest.is l (sym e) in
     record {
@@ -106,10 +112,10 @@ has_written bytes rest written p ls f n s c x e l =
       cut = subst (λ (t : Symbol). IsCut bytes start (ls ++ record { symbol = t; place = p } ∷ []) (drop n rest) (place_after p (take n rest))) same (cut_token bytes rest p ls n x.symbol c x.next);
     }
 
-pub names_on : (bytes : List ℕ) (names texts : List (List ℕ)) (rest written : List ℕ) (p : Place) (items : List Token) (names' texts' names'' : List (List ℕ)) (f : Form) (n : ℕ) → Progress bytes names texts rest p items names' texts' → IsNextOf f rest n → written ≡ take n rest → Grows (λ w. IsLexeme (word w) written) names' names'' → Grows (λ w. Has bytes (word w)) names names''
+pub names_on : (bytes : List ℕ) (names texts : List (List ℕ)) (rest written : List ℕ) (p : Place) (items : List Token) (names' texts' names'' : List (List ℕ)) (f : Form) (n : ℕ) → Progress bytes names texts rest p items names' texts' → IsNextOf f rest n → written ≡ take n rest → Grows (λ w. IsLexeme (word w) written) names' names'' → Grows (λ w. HasSymbol bytes (word w)) names names''
 names_on bytes names texts rest written p items names' texts' names'' f n g x e h = grows_on _ _ names names' names'' g.names_grow h (λ w l. has_written bytes rest written p g.front f n (word w) g.cut x e l)
 
-pub texts_on : (bytes : List ℕ) (names texts : List (List ℕ)) (rest written : List ℕ) (p : Place) (items : List Token) (names' texts' texts'' : List (List ℕ)) (f : Form) (n : ℕ) → Progress bytes names texts rest p items names' texts' → IsNextOf f rest n → written ≡ take n rest → Grows (λ t. IsLexeme (text t) written) texts' texts'' → Grows (λ t. Has bytes (text t)) texts texts''
+pub texts_on : (bytes : List ℕ) (names texts : List (List ℕ)) (rest written : List ℕ) (p : Place) (items : List Token) (names' texts' texts'' : List (List ℕ)) (f : Form) (n : ℕ) → Progress bytes names texts rest p items names' texts' → IsNextOf f rest n → written ≡ take n rest → Grows (λ t. IsLexeme (text t) written) texts' texts'' → Grows (λ t. HasSymbol bytes (text t)) texts texts''
 texts_on bytes names texts rest written p items names' texts' texts'' f n g x e h = grows_on _ _ texts texts' texts'' g.texts_grow h (λ t l. has_written bytes rest written p g.front f n (text t) g.cut x e l)
 
 pub is_written : (f : Form) (rest written : List ℕ) (n : ℕ) → IsNextOf f rest n → written ≡ take n rest → IsWritten f written
@@ -129,8 +135,13 @@ unended_push : (ts : List Token) (t : Token) → AllByRecursion (λ t. is_last t
 unended_push [] t h e = (e, tt)
 unended_push (x ∷ ts) t h e = (h.0, unended_push ts t h.1 e)
 
-pub progress_token : (bytes : List ℕ) (names texts : List (List ℕ)) (rest written after : List ℕ) (p q : Place) (items items' : List Token) (names' texts' names'' texts'' : List (List ℕ)) (f : Form) (n : ℕ) (k : Kind) → Progress bytes names texts rest p items names' texts' → IsPast p rest n q written after → IsNextOf f rest n → ((s : Symbol) → HasForm f s → IsLexeme s written → Spells names'' texts'' k s) → Grows (λ w. IsLexeme (word w) written) names' names'' → Grows (λ t. IsLexeme (text t) written) texts' texts'' → length names'' + length texts'' ≤ length names' + length texts' + 1 → items' ≡ items ++ record { kind = k; place = p } ∷ [] → Progress bytes names texts after q items' names'' texts''
-progress_token bytes names texts rest written after p q items items' names' texts' names'' texts'' f n k g h x spells gn gt more e =
+-- one symbol more goes into a table
+folded : (f : List (List ℕ) → Symbol → List (List ℕ)) (old mid new : List (List ℕ)) (ls : List Lexeme) (s : Symbol) (p : Place) → mid ≡ fold (λ table l. f table l.symbol) old ls → new ≡ f mid s → new ≡ fold (λ table l. f table l.symbol) old (ls ++ record { symbol = s; place = p } ∷ [])
+folded f old mid new [] s p e h = h ∙ ap (λ (t : List (List ℕ)). f t s) e
+folded f old mid new (l ∷ ls) s p e h = folded f (f old l.symbol) mid new ls s p e h
+
+pub progress_token : (bytes : List ℕ) (names texts : List (List ℕ)) (rest written after : List ℕ) (p q : Place) (items items' : List Token) (names' texts' names'' texts'' : List (List ℕ)) (f : Form) (n : ℕ) (k : Kind) → Progress bytes names texts rest p items names' texts' → IsPast p rest n q written after → IsNextOf f rest n → ((s : Symbol) → HasForm f s → IsLexeme s written → Spells names'' texts'' k s) → ((s : Symbol) → HasForm f s → IsLexeme s written → names'' ≡ with_name names' s) → ((s : Symbol) → HasForm f s → IsLexeme s written → texts'' ≡ with_text texts' s) → Grows (λ w. IsLexeme (word w) written) names' names'' → Grows (λ t. IsLexeme (text t) written) texts' texts'' → length names'' + length texts'' ≤ length names' + length texts' + 1 → items' ≡ items ++ record { kind = k; place = p } ∷ [] → Progress bytes names texts after q items' names'' texts''
+progress_token bytes names texts rest written after p q items items' names' texts' names'' texts'' f n k g h x spells en et gn gt more e =
     let len = past_length p rest n q written after h in
     let w : IsLexeme x.symbol written = subst (IsLexeme x.symbol) (sym h.written_is) x.next.longest.is in
     let some = lexeme_long x.symbol written w in
@@ -140,6 +151,8 @@ progress_token bytes names texts rest written after p q items items' names' text
       front = g.front ++ record { symbol = x.symbol; place = p } ∷ [];
       cut = past_cut bytes rest written after p q n _ h (cut_token bytes rest p g.front n x.symbol g.cut x.next);
       spelled = subst (λ (l : List Token). AreSpelled names'' texts'' l (g.front ++ record { symbol = x.symbol; place = p } ∷ [])) (sym e) (spelled_push names'' texts'' items g.front token_is _ (spelled_on _ _ names' texts' names'' texts'' items g.front gn gt g.spelled) spell refl);
+      names_are = folded with_name names names' names'' g.front x.symbol p g.names_are (en x.symbol x.has w);
+      texts_are = folded with_text texts texts' texts'' g.front x.symbol p g.texts_are (et x.symbol x.has w);
       names_grow = names_on bytes names texts rest written p items names' texts' names'' f n g x h.written_is gn;
       texts_grow = texts_on bytes names texts rest written p items names' texts' texts'' f n g x h.written_is gt;
       unended = subst (AllByRecursion (λ t. is_last t.kind ≡ false)) (sym e) (unended_push items token_is g.unended (spells_unended names'' texts'' k x.symbol written spell w));
@@ -160,13 +173,15 @@ progress_fault bytes names texts rest front p q items names' texts' rule n d g u
 
 -- ---- the end
 
-pub progress_end : (bytes : List ℕ) (names texts : List (List ℕ)) (rest : List ℕ) (p : Place) (items items' : List Token) (names' texts' : List (List ℕ)) → Progress bytes names texts rest p items names' texts' → IsUtf8 bytes → length rest ≡ 0 → items' ≡ items ++ record { kind = kind.Last; place = p } ∷ [] → AreTokensOf bytes names' texts' items'
+pub progress_end : (bytes : List ℕ) (names texts : List (List ℕ)) (rest : List ℕ) (p : Place) (items items' : List Token) (names' texts' : List (List ℕ)) → Progress bytes names texts rest p items names' texts' → IsUtf8 bytes → length rest ≡ 0 → items' ≡ items ++ record { kind = kind.Last; place = p } ∷ [] → AreTokensOf bytes names texts names' texts' items'
 progress_end bytes names texts [] p items items' names' texts' g u z e =
     let l : Lexeme = record { symbol = last; place = p } in
     record {
       lexemes = g.front ++ l ∷ [];
-      tokens = record { utf8 = u; front = g.front; close = p; cut = g.cut; whole = refl };
+      tokens = record { utf8 = u; front = g.front; next = p; cut = g.cut; whole = refl };
       spelled = subst (λ (ts : List Token). AreSpelled names' texts' ts (g.front ++ l ∷ [])) (sym e) (spelled_push names' texts' items g.front (record { kind = kind.Last; place = p }) l g.spelled tt refl);
+      names_are = folded with_name names names' names' g.front last p g.names_are refl;
+      texts_are = folded with_text texts texts' texts' g.front last p g.texts_are refl;
     }
 progress_end bytes names texts (b ∷ rest) p items items' names' texts' g u z e = absurd (omega arith)
 

@@ -12,7 +12,7 @@ use Rattle.chor_lexer.specs.declared.token.Kind.TheVariants as kind
 use Rattle.chor_lexer.specs.declared.token.Token.{Token}
 use Rattle.chor_lexer.specs.Text.{IsTextOf}
 use Rattle.chor_lexer.specs.Lexeme.{Symbol, word, number, text, mark, last, Lexeme, IsLexeme, is_word, is_text}
-use Rattle.chor_lexer.specs.Tokens.{Spells, AreSpelled, Grows}
+use Rattle.chor_lexer.specs.Tokens.{Spells, AreSpelled, Grows, with_name, with_text}
 use Rattle.chor_lexer.specs.Scan.{HasForm, IsWritten, IsMeant}
 use Rattle.chor_lexer.proofs.Texts.{tails, text_body, body_same, text_same, fronts_same}
 
@@ -99,6 +99,49 @@ word_grows f w old new i q e = grows_one _ old new w e (written_word i.symbol (s
     written_word (word v) h l = subst (λ (x : List ℕ). IsLexeme (word x) w) (word_written v w l) l
     written_word _ h l = absurd h
 
+-- ---- what goes into the tables
+
+abbrev is_word_form : Form → Bool
+is_word_form form.Word = true
+is_word_form (form.Number z) = false
+is_word_form form.Text = false
+is_word_form (form.Mark m) = false
+
+abbrev is_text_form : Form → Bool
+is_text_form form.Word = false
+is_text_form (form.Number z) = false
+is_text_form form.Text = true
+is_text_form (form.Mark m) = false
+
+no_name : (old : List (List ℕ)) (f : Form) (s : Symbol) → is_word_form f ≡ false → HasForm f s → old ≡ with_name old s
+no_name old form.Word s e h = absurd cc
+no_name old f (word w) e h = absurd h
+no_name old f (number n) e h = refl
+no_name old f (text t) e h = refl
+no_name old f (mark m) e h = refl
+no_name old f last e h = refl
+
+no_text : (old : List (List ℕ)) (f : Form) (s : Symbol) → is_text_form f ≡ false → HasForm f s → old ≡ with_text old s
+no_text old form.Text s e h = absurd cc
+no_text old f (text t) e h = absurd h
+no_text old f (word w) e h = refl
+no_text old f (number n) e h = refl
+no_text old f (mark m) e h = refl
+no_text old f last e h = refl
+
+pub unnamed : (old : List (List ℕ)) (f g : Form) (s : Symbol) → f ≡ g → is_word_form g ≡ false → HasForm f s → old ≡ with_name old s
+unnamed old f g s e n h = no_name old g s n (subst (λ (x : Form). HasForm x s) e h)
+
+pub untexted : (old : List (List ℕ)) (f g : Form) (s : Symbol) → f ≡ g → is_text_form g ≡ false → HasForm f s → old ≡ with_text old s
+untexted old f g s e n h = no_text old g s n (subst (λ (x : Form). HasForm x s) e h)
+
+name_added : (old new : List (List ℕ)) (w : List ℕ) (s : Symbol) → new ≡ with_word old w → HasForm form.Word s → IsLexeme s w → new ≡ with_name old s
+name_added old new w (word v) e h l = e ∙ ap (with_word old) (sym (word_written v w l))
+name_added old new w _ e h l = absurd h
+
+pub named : (old new : List (List ℕ)) (w : List ℕ) (f : Form) (s : Symbol) → new ≡ with_word old w → f ≡ form.Word → HasForm f s → IsLexeme s w → new ≡ with_name old s
+named old new w f s e q h l = name_added old new w s e (subst (λ (g : Form). HasForm g s) q h) l
+
 -- the text that is written between the quotes
 record HasText (written t : List ℕ) : Type 0 where
   body : List ℕ
@@ -122,6 +165,13 @@ spells_text names texts written body t n f s e q i g h l = text_spells names tex
 
 pub text_grows : (written body t : List ℕ) (old new : List (List ℕ)) → written ≡ 34 ∷ body ++ 34 ∷ [] → IsTextOf body t → new ≡ with_word old t → Grows (λ u. IsLexeme (text u) written) old new
 text_grows written body t old new q i e = grows_one _ old new t e (is_text q i)
+
+text_added : (old new : List (List ℕ)) (written body t : List ℕ) (s : Symbol) → new ≡ with_word old t → written ≡ 34 ∷ body ++ 34 ∷ [] → IsTextOf body t → HasForm form.Text s → IsLexeme s written → new ≡ with_text old s
+text_added old new written body t (text u) e q i h l = e ∙ ap (with_word old) (same_text written body t u q i l)
+text_added old new written body t _ e q i h l = absurd h
+
+pub texted : (old new : List (List ℕ)) (written body t : List ℕ) (f : Form) (s : Symbol) → new ≡ with_word old t → written ≡ 34 ∷ body ++ 34 ∷ [] → IsTextOf body t → f ≡ form.Text → HasForm f s → IsLexeme s written → new ≡ with_text old s
+texted old new written body t f s e q i g h l = text_added old new written body t s e q i (subst (λ (k : Form). HasForm k s) g h) l
 
 -- the text of a token that is one
 record MeansText (written : List ℕ) : Type 0 where

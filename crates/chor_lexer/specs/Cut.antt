@@ -10,6 +10,7 @@ use Rattle.chor_lexer.specs.Lexeme.{Symbol, Lexeme, IsLongest, IsWithin}
 abbrev pub is_space : ℕ → Bool
 is_space b = b == 32 || b == 9 || b == 13 || b == 10
 
+-- all but line feed
 abbrev pub is_line_byte : ℕ → Bool
 is_line_byte b = not (b == 10)
 
@@ -18,17 +19,20 @@ abbrev pub EndsLine : List ℕ → Type 0
 EndsLine [] = Unit {0}
 EndsLine (b ∷ bs) = b ≡ 10
 
--- what stands before the rest is white space, or a comment: two slashes and all that follows on the line
+-- what stands before the rest is a byte of white space, or a comment: two slashes (47) and all that follows on the line
 pub data IsBlank : List ℕ → List ℕ → Type 0 where
   space : {b : ℕ} {rest : List ℕ} → is_space b ≡ true → IsBlank (b ∷ []) rest
-  comment : {line rest : List ℕ} → AllByRecursion (λ b. is_line_byte b ≡ true) line → EndsLine rest → IsBlank (47 ∷ 47 ∷ line) rest
+  comment : {line rest : List ℕ}
+      → AllByRecursion (λ b. is_line_byte b ≡ true) line → EndsLine rest
+      → IsBlank (47 ∷ 47 ∷ line) rest
 
+-- neither white space nor a comment stands at the front
 abbrev pub NoBlank : List ℕ → Type 0
 NoBlank bs = (w u : List ℕ) → bs ≡ w ++ u → IsBlank w u → ⊥
 
 -- ---- places
 
--- the first byte of a file
+-- where the first byte of a file stands
 abbrev pub start : Place
 start = record { line = 1; col = 1 }
 
@@ -43,7 +47,7 @@ place_after p (b ∷ bs) = place_after (after_byte p b) bs
 
 -- ---- cuts
 
--- neither white space nor a comment stands at the front of bs: its longest token does, within the limits
+-- at the front of bs stands this symbol as its longest token, within the limits
 pub record IsNext (s : Symbol) (w rest bs : List ℕ) : Type 0 where
   pub no_blank : NoBlank bs
   pub longest : IsLongest s w rest bs
@@ -52,5 +56,11 @@ pub record IsNext (s : Symbol) (w rest bs : List ℕ) : Type 0 where
 -- the bytes bs, whose first stands at p, begin with these tokens; the rest begins at q
 pub data IsCut : List ℕ → Place → List Lexeme → List ℕ → Place → Type 0 where
   here : {bs : List ℕ} {p : Place} → IsCut bs p [] bs p
-  blank : {bs w mid rest : List ℕ} {p q : Place} {ls : List Lexeme} → bs ≡ w ++ mid → IsBlank w mid → IsCut mid (place_after p w) ls rest q → IsCut bs p ls rest q
-  token : {bs w mid rest : List ℕ} {p q : Place} {s : Symbol} {ls : List Lexeme} → IsNext s w mid bs → IsCut mid (place_after p w) ls rest q → IsCut bs p (record { symbol = s; place = p } ∷ ls) rest q
+  blank : {bs w mid rest : List ℕ} {p q : Place} {ls : List Lexeme}
+      → bs ≡ w ++ mid → IsBlank w mid
+      → IsCut mid (place_after p w) ls rest q
+      → IsCut bs p ls rest q
+  token : {bs w mid rest : List ℕ} {p q : Place} {s : Symbol} {ls : List Lexeme}
+      → IsNext s w mid bs
+      → IsCut mid (place_after p w) ls rest q
+      → IsCut bs p (record { symbol = s; place = p } ∷ ls) rest q

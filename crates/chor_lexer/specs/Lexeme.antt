@@ -21,17 +21,25 @@ pub record Lexeme : Type 0 where
   pub symbol : Symbol
   pub place : Place
 
+-- a letter A to Z or a to z, or an underscore (95)
 abbrev pub is_letter : ℕ → Bool
 is_letter b = is_ascii_alphabetic b || b == 95
 
+-- one of these, or a digit
 abbrev pub is_word_byte : ℕ → Bool
 is_word_byte b = is_ascii_alphanumeric b || b == 95
 
--- the symbol is written so
+-- the symbol is written so, limits left out: a word from a letter on, a number in decimal digits, a text between quotes (34), a mark
 pub data IsLexeme : Symbol → List ℕ → Type 0 where
-  is_word : {c : ℕ} {cs : List ℕ} → is_letter c ≡ true → AllByRecursion (λ b. is_word_byte b ≡ true) cs → IsLexeme (word (c ∷ cs)) (c ∷ cs)
-  is_number : {d : ℕ} {ds : List ℕ} → is_ascii_digit d ≡ true → AllByRecursion (λ b. is_ascii_digit b ≡ true) ds → IsLexeme (number (digits_value 10 (d ∷ ds))) (d ∷ ds)
-  is_text : {body t written : List ℕ} → written ≡ 34 ∷ body ++ 34 ∷ [] → IsTextOf body t → IsLexeme (text t) written
+  is_word : {c : ℕ} {cs : List ℕ}
+      → is_letter c ≡ true → AllByRecursion (λ b. is_word_byte b ≡ true) cs
+      → IsLexeme (word (c ∷ cs)) (c ∷ cs)
+  is_number : {d : ℕ} {ds : List ℕ}
+      → is_ascii_digit d ≡ true → AllByRecursion (λ b. is_ascii_digit b ≡ true) ds
+      → IsLexeme (number (digits_value 10 (d ∷ ds))) (d ∷ ds)
+  is_text : {body t written : List ℕ}
+      → written ≡ 34 ∷ body ++ 34 ∷ [] → IsTextOf body t
+      → IsLexeme (text t) written
   is_mark : {m : Mark} {written : List ℕ} → written ≡ spelling m → IsLexeme (mark m) written
 
 -- the longest token at the front of bs is this symbol, written as w

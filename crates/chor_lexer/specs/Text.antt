@@ -1,4 +1,4 @@
--- What stands between the quotes of a text, and the text that it means.
+-- What stands between the quotes of a text, and the text that it means. A quote is 34, a backslash 92, a line feed 10, an n 110.
 use Rattle.std.specs.Prelude.{◌≡◌, ◌≢◌, ℕ, Bool, true, ◌||◌, not, ◌==◌, List, [], ◌∷◌, ◌++◌, Option, Some, None, if◌then◌else◌}
 
 -- a byte that stands for itself: it is no quote, no backslash and no line feed
@@ -12,10 +12,14 @@ escaped b = if b == 34 then Some 34 else (if b == 92 then Some 92 else (if b == 
 -- these bytes, written between quotes, mean this text
 pub data IsTextOf : List ℕ → List ℕ → Type 0 where
   nothing : IsTextOf [] []
-  plain : {b : ℕ} {written text : List ℕ} → is_plain b ≡ true → IsTextOf written text → IsTextOf (b ∷ written) (b ∷ text)
-  escape : {b c : ℕ} {written text : List ℕ} → escaped b ≡ Some c → IsTextOf written text → IsTextOf (92 ∷ b ∷ written) (c ∷ text)
+  plain : {b : ℕ} {written text : List ℕ}
+      → is_plain b ≡ true → IsTextOf written text
+      → IsTextOf (b ∷ written) (b ∷ text)
+  escape : {b c : ℕ} {written text : List ℕ}
+      → escaped b ≡ Some c → IsTextOf written text
+      → IsTextOf (92 ∷ b ∷ written) (c ∷ text)
 
--- these bytes reach up to the quote that closes a text, whether or not their escapes exist: a backslash takes the next byte with it
+-- these bytes may stand before the quote that closes a text, whether or not their escapes exist: a backslash takes the next byte with it
 pub data IsBody : List ℕ → Type 0 where
   empty : IsBody []
   one : {b : ℕ} {written : List ℕ} → is_plain b ≡ true → IsBody written → IsBody (b ∷ written)

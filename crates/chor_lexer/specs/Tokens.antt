@@ -1,7 +1,8 @@
 -- The tokens of a file.
 use Rattle.std.specs.Prelude.{◌≡◌, ℕ, pos, Bool, true, false, ◌&&◌, not, List, [], ◌∷◌, ◌++◌, Some, slice_get}
-use Rattle.std.specs.List.{AllByRecursion, AllZip}
+use Rattle.std.specs.List.{AllByRecursion, AllZip, fold}
 use Rattle.std.specs.Str.{IsUtf8}
+use Rattle.chor_base.specs.Words.{with_word}
 use Rattle.chor_base.specs.declared.rule.Place.{Place}
 use Rattle.chor_lexer.specs.declared.token.Kind.{Kind}
 use Rattle.chor_lexer.specs.declared.token.Kind.TheVariants.{Word, Number, Text, Mark, Last}
@@ -13,9 +14,9 @@ use Rattle.chor_lexer.specs.Cut.{start, IsCut}
 pub record IsTokens (bytes : List ℕ) (ls : List Lexeme) : Type 0 where
   pub utf8 : IsUtf8 bytes
   pub front : List Lexeme
-  pub close : Place
-  pub cut : IsCut bytes start front [] close
-  pub whole : ls ≡ front ++ record { symbol = last; place = close } ∷ []
+  pub next : Place
+  pub cut : IsCut bytes start front [] next
+  pub whole : ls ≡ front ++ record { symbol = last; place = next } ∷ []
 
 -- the symbol that a kind stands for, where words and texts have these numbers
 abbrev pub Spells : List (List ℕ) → List (List ℕ) → Kind → Symbol → Type 0
@@ -30,14 +31,26 @@ Spells names texts _ _ = ⊥
 abbrev pub AreSpelled : List (List ℕ) → List (List ℕ) → List Token → List Lexeme → Type 0
 AreSpelled names texts ts ls = AllZip (λ t l. Spells names texts t.kind l.symbol × (t.place ≡ l.place)) ts ls
 
--- these are the tokens of the bytes
-pub record AreTokensOf (bytes : List ℕ) (names texts : List (List ℕ)) (ts : List Token) : Type 0 where
+-- the names with the word of this symbol, where it is one
+abbrev pub with_name : List (List ℕ) → Symbol → List (List ℕ)
+with_name names (word w) = with_word names w
+with_name names _ = names
+
+-- the texts with the text of this symbol, where it is one
+abbrev pub with_text : List (List ℕ) → Symbol → List (List ℕ)
+with_text texts (text t) = with_word texts t
+with_text texts _ = texts
+
+-- these are the tokens of the bytes; each word or text that is new went last into its table, in their order
+pub record AreTokensOf (bytes : List ℕ) (old_names old_texts names texts : List (List ℕ)) (ts : List Token) : Type 0 where
   pub lexemes : List Lexeme
   pub tokens : IsTokens bytes lexemes
   pub spelled : AreSpelled names texts ts lexemes
+  pub names_are : names ≡ fold (λ table l. with_name table l.symbol) old_names lexemes
+  pub texts_are : texts ≡ fold (λ table l. with_text table l.symbol) old_texts lexemes
 
--- the symbol is cut off the bytes somewhere
-pub record Has (bytes : List ℕ) (s : Symbol) : Type 0 where
+-- the symbol is a token of the bytes, or of a front of them
+pub record HasSymbol (bytes : List ℕ) (s : Symbol) : Type 0 where
   pub front : List Lexeme
   pub place : Place
   pub rest : List ℕ
@@ -50,6 +63,7 @@ pub record Grows (P : List ℕ → Type 0) (old new : List (List ℕ)) : Type 0 
   pub grown : new ≡ old ++ more
   pub each : AllByRecursion P more
 
+-- the end of the file
 abbrev pub is_last : Kind → Bool
 is_last (Word n) = false
 is_last (Number z) = false
@@ -57,7 +71,7 @@ is_last (Text n) = false
 is_last (Mark m) = false
 is_last Last = true
 
--- the last token is `Last`, and no other is
+-- there is a token, the last one is `Last`, and no other is
 abbrev pub is_ended : List Token → Bool
 is_ended [] = false
 is_ended (t ∷ []) = is_last t.kind

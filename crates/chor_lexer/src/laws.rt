@@ -16,3 +16,8 @@ pub fn one_reading()
 pub fn never_both()
     ensures { (bytes : List ℕ) (ls : List Lexeme) (rule : Rule) (place : Place) → IsTokens bytes ls → Refuses bytes rule place → ⊥ }
 {}
+
+/// Bytes are refused by one rule at most, and at one place.
+pub fn one_refusal()
+    ensures { (bytes : List ℕ) (r s : Rule) (p q : Place) → Refuses bytes r p → Refuses bytes s q → (r ≡ s) × (p ≡ q) }
+{}

@@ -1,8 +1,8 @@
 //! The tokens of a file.
 
-ghost use Rattle.std.specs.Prelude.{◌≡◌, ◌+◌, ◌-◌, ◌^◌, ◌<◌, ◌≤◌, ◌∷◌, ◌++◌, [], length, IfOk, IfErr};
+ghost use Rattle.std.specs.Prelude.{◌≡◌, ◌+◌, ◌-◌, ◌^◌, ◌<◌, ◌≤◌, ◌∷◌, ◌++◌, [], length, OnOk, IfOk, IfErr};
 ghost use Rattle.chor_lexer.specs.Lexeme.{Symbol, word, text, IsLexeme};
-ghost use Rattle.chor_lexer.specs.Tokens.{AreTokensOf, Spells, Grows, Has};
+ghost use Rattle.chor_lexer.specs.Tokens.{AreTokensOf, with_name, with_text, Spells, Grows, HasSymbol};
 ghost use Rattle.chor_lexer.specs.Refusal.{IsDenial};
 ghost use Rattle.chor_lexer.specs.Scan.{HasForm, IsWritten};
 
@@ -27,10 +27,10 @@ pub fn tokens(
     texts: &mut Texts,
 ) -> Result<Tokens, Denied>
     requires { length bytes.now + length names.old + length texts.old < 2 ^ 32 - 1 }
-    ensures found { IfOk result (λ tokens. AreTokensOf bytes.now names.new texts.new tokens.items) }
+    ensures found { IfOk result (λ tokens. AreTokensOf bytes.now names.old texts.old names.new texts.new tokens.items) }
     ensures denied { IfErr result (IsDenial bytes.now) }
-    ensures names { Grows (λ w. Has bytes.now (word w)) names.old names.new }
-    ensures texts { Grows (λ t. Has bytes.now (text t)) texts.old texts.new }
+    ensures names { Grows (λ w. HasSymbol bytes.now (word w)) names.old names.new }
+    ensures texts { Grows (λ t. HasSymbol bytes.now (text t)) texts.old texts.new }
 {
     if let Err(error) = str::from_utf8(bytes) {
         let valid = &bytes[..error.valid_up_to()];
@@ -77,6 +77,8 @@ fn kind_of(
     requires names { length names.old < 2 ^ 32 }
     requires texts { length texts.old < 2 ^ 32 }
     ensures kind { IfOk result (λ kind. (s : Symbol) → HasForm form s → IsLexeme s written.now → Spells names.new texts.new kind s) }
+    ensures names_are { OnOk result ((s : Symbol) → HasForm form s → IsLexeme s written.now → names.new ≡ with_name names.old s) }
+    ensures texts_are { OnOk result ((s : Symbol) → HasForm form s → IsLexeme s written.now → texts.new ≡ with_text texts.old s) }
     ensures names { Grows (λ w. IsLexeme (word w) written.now) names.old names.new }
     ensures texts { Grows (λ t. IsLexeme (text t) written.now) texts.old texts.new }
     ensures room { length names.new + length texts.new ≤ length names.old + length texts.old + 1 }

@@ -10,7 +10,7 @@ mod scan;
 mod text;
 mod token;
 
-pub use laws::{never_both, one_reading};
+pub use laws::{never_both, one_reading, one_refusal};
 pub use lex::tokens;
 pub use mark::Mark;
 pub use token::{Kind, Token, Tokens};

@@ -62,6 +62,7 @@ pub fn piece_at(bytes: &[u8]) -> Result<Piece, Fault>
     }
 }
 
+// What follows two slashes.
 fn after_slashes(bytes: &[u8]) -> Option<&[u8]>
     ensures { MatchOption result ((rest : List ℕ) → bytes.now ≢ 47 ∷ 47 ∷ rest) (λ rest. bytes.now ≡ 47 ∷ 47 ∷ rest.now) }
 {
@@ -71,6 +72,7 @@ fn after_slashes(bytes: &[u8]) -> Option<&[u8]>
     }
 }
 
+// The word that begins here.
 fn word_at(bytes: &[u8]) -> Result<Piece, Fault>
     requires { Begins bytes.now (λ b. is_letter b ≡ true) }
     ensures piece { IfOk result (IsPiece bytes.now) }
@@ -87,6 +89,7 @@ fn word_at(bytes: &[u8]) -> Result<Piece, Fault>
     Ok(Piece::Token(Form::Word, len))
 }
 
+// The number that begins here.
 fn number_at(bytes: &[u8]) -> Result<Piece, Fault>
     requires { Begins bytes.now (λ b. is_ascii_digit b ≡ true) }
     ensures piece { IfOk result (IsPiece bytes.now) }
@@ -104,6 +107,7 @@ fn number_at(bytes: &[u8]) -> Result<Piece, Fault>
     }
 }
 
+// The text that this quote opens.
 fn text_at(bytes: &[u8]) -> Result<Piece, Fault>
     requires { Begins bytes.now (λ b. b ≡ 34) }
     ensures piece { IfOk result (IsPiece bytes.now) }
@@ -133,6 +137,7 @@ fn text_at(bytes: &[u8]) -> Result<Piece, Fault>
     }
 }
 
+// The mark that begins here.
 fn mark_at(bytes: &[u8]) -> Result<Piece, Fault>
     requires begins { Begins bytes.now (λ b. (is_space b ≡ false) × (is_letter b ≡ false) × (is_ascii_digit b ≡ false) × (b ≢ 34)) }
     requires no_blank { (rest : List ℕ) → bytes.now ≢ 47 ∷ 47 ∷ rest }
@@ -163,36 +168,42 @@ fn double_at(bytes: &[u8]) -> Option<Mark>
     }
 }
 
+// How many bytes go on with a word.
 fn word_len(bytes: &[u8]) -> usize
     ensures { result ≡ prefix_len is_word_byte bytes.now }
 {
     bytes.iter().take_while(|b| is_word_byte(**b)).count()
 }
 
+// How many digits stand at the front.
 fn digits_len(bytes: &[u8]) -> usize
     ensures { result ≡ prefix_len is_ascii_digit bytes.now }
 {
     bytes.iter().take_while(|b| b.is_ascii_digit()).count()
 }
 
+// How many bytes stand before the end of the line.
 fn line_len(bytes: &[u8]) -> usize
     ensures { result ≡ prefix_len is_line_byte bytes.now }
 {
     bytes.iter().take_while(|b| **b != b'\n').count()
 }
 
+// A byte of a word.
 fn is_word_byte(byte: u8) -> bool
     ensures { result ≡ is_word_byte byte }
 {
     byte.is_ascii_alphanumeric() || byte == b'_'
 }
 
+// A byte that begins a word.
 fn is_letter(byte: u8) -> bool
     ensures { result ≡ is_letter byte }
 {
     byte.is_ascii_alphabetic() || byte == b'_'
 }
 
+// White space.
 fn is_space(byte: u8) -> bool
     ensures { result ≡ is_space byte }
 {

@@ -77,6 +77,7 @@ pub fn text_of(alloc: Global, body: &[u8]) -> Result<Vec<u8>, Memory>
     Ok(text)
 }
 
+// What stands at the front.
 fn part_at(bytes: &[u8]) -> Part
     ensures { IsPart bytes.now result }
 {
@@ -101,6 +102,7 @@ fn escape_at(rest: &[u8]) -> Part
     }
 }
 
+// What a backslash and this byte stand for.
 fn escaped(byte: u8) -> Option<u8>
     ensures { result ≡ escaped byte }
 {
