@@ -4,3 +4,7 @@ pub mod Network
 pub mod NetworkRuns
 pub mod Scheduled
 pub mod Faults
+pub mod Trees
+pub mod Above
+pub mod Labels
+pub mod Heads
