@@ -8,3 +8,4 @@ pub mod Trees
 pub mod Above
 pub mod Labels
 pub mod Heads
+pub mod LeastAbove
