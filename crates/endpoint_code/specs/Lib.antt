@@ -4,3 +4,8 @@ pub mod Network
 pub mod NetworkRuns
 pub mod Scheduled
 pub mod Faults
+pub mod Trees
+pub mod Above
+pub mod Labels
+pub mod Heads
+pub mod LeastAbove

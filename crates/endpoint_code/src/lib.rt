@@ -9,6 +9,7 @@ ghost use Rattle.endpoint_code.specs.declared.endpoints.Endpoints.{Endpoints as 
 ghost use Rattle.endpoint_code.specs.Network.{NetworkState};
 ghost use Rattle.endpoint_code.specs.NetworkRuns.{IsNetworkRun};
 
+pub mod above;
 mod code;
 mod endpoints;
 
@@ -18,5 +19,4 @@ pub use endpoints::{Channel, Endpoints, Procedure, Process, ServiceCode};
 /// In each run of a network, whatever its endpoints, messages are received first in, first out.
 pub fn first_in_first_out()
     ensures { (e : AnyEndpoints) (hosts : Hosts) (capacity : Option ℕ) (h : List Event) (last : NetworkState) → IsNetworkRun e hosts capacity h last → IsFifo h }
-{
-}
+{}
