@@ -5,3 +5,5 @@ pub mod ThinBegins
 pub mod Lines
 pub mod Files
 pub mod Faultless
+pub mod Outputs
+pub mod ThinTexts

@@ -11,7 +11,9 @@ use Rattle.chor_cmd.specs.declared.words.Words.{Words}
 use Rattle.chor_cmd.specs.declared.status.Status.{Status}
 use Rattle.chor_cmd.specs.declared.status.Status.TheVariants.{Done, Usage, ReadFault, WriteFault, Memory, TooLarge, Unbuilt}
 use Rattle.chor_cmd.specs.Words.{IsRunForm, HasNoForm}
-use Rattle.chor_cmd.specs.ThinFile.{plain, IsThinSource}
+use Rattle.chor_base.specs.declared.names.NameId.{NameId}
+use Rattle.chor_cmd.specs.Thin.{Thin}
+use Rattle.chor_cmd.specs.ThinFile.{plain, IsSourceOf, IsThinSource}
 
 -- the files by name, where they are told
 abbrev pub Told : Type 0
@@ -41,12 +43,17 @@ pub record IsRunText (f : File) (text : List ℕ) : Type 0 where
   pub fifo : IsFifo history
   pub text_is : text ≡ transcript (book_of f) history (end_line (length history))
 
--- a thin file with these bytes has such a run, of a start and two events for each exchange
+-- such a run of a file that says what t says has a start and two events for each exchange
+pub record RunsShape (f : File) (t : Thin NameId) (text : List ℕ) : Type 0 where
+  pub run : IsRunText f text
+  pub count : length run.history ≡ suc (2 * length t.exchanges)
+
+-- a thin file with these bytes has such a run
 pub record RunsThin (bytes text : List ℕ) : Type 0 where
   pub file : File
-  pub source : IsThinSource bytes file
-  pub run : IsRunText file text
-  pub count : length run.history ≡ suc (2 * length source.thin.exchanges)
+  pub thin : Thin NameId
+  pub source : IsSourceOf bytes file thin
+  pub runs : RunsShape file thin text
 
 abbrev pub line_naming : List ℕ → List ℕ → List ℕ
 line_naming what name = what ++ name ++ 10 ∷ []

@@ -1,5 +1,5 @@
 -- The file of a thin source.
-use Rattle.std.specs.Prelude.{ℕ, suc, ◌≡◌, Bool, true, false, not, List, [], ◌∷◌, ◌++◌, length, map, Some, slice_get, slice_index_or, All, ◌<◌}
+use Rattle.std.specs.Prelude.{ℕ, suc, ◌≡◌, ◌≢◌, ◌≤◌, Bool, true, false, not, List, [], ◌∷◌, ◌++◌, length, map, Some, slice_get, slice_index_or, All, ◌<◌}
 use Rattle.chor_base.specs.declared.names.NameId.{NameId}
 use Rattle.chor_base.specs.declared.value.Sort.TheVariants.{Int}
 use Rattle.chor_tree.specs.declared.file.File.{File}
@@ -64,11 +64,22 @@ pub record HasShape (f : File) (t : Thin NameId) : Type 0 where
   pub processes : plain f.processes ≡ t.first_process ∷ t.second_process ∷ []
   pub tree : tree_in (trees_of f.tree.nodes) f.body ≡ thin_tree t
 
--- The bytes are the text of this thin file: they are ASCII, their tokens are those of a thin file, and the file says the same
-pub record IsThinSource (bytes : List ℕ) (f : File) : Type 0 where
+-- The bytes are the text of a file that says what t says: they are ASCII, their tokens are those of a thin file, and the
+-- file says the same
+pub record IsSourceOf (bytes : List ℕ) (f : File) (t : Thin NameId) : Type 0 where
   pub ascii : All (λ b. b < 128) bytes
   pub lexemes : List Lexeme
   pub tokens : IsTokens bytes lexemes
-  pub thin : Thin NameId
-  pub written : AreThin lexemes (in_words f.names thin)
-  pub shape : HasShape f thin
+  pub written : AreThin lexemes (in_words f.names t)
+  pub shape : HasShape f t
+
+-- The bytes are the text of this thin file
+abbrev pub IsThinSource : List ℕ → File → Type 0
+IsThinSource bytes f = (t : Thin NameId) × IsSourceOf bytes f t
+
+-- what a run needs to know of a thin file
+pub record IsRunnable (f : File) (t : Thin NameId) : Type 0 where
+  pub shape : HasShape f t
+  pub roles : t.first_role.0 ≢ t.second_role.0
+  pub processes : t.first_process.0 ≢ t.second_process.0
+  pub few : length t.exchanges ≤ 255

@@ -1,6 +1,7 @@
 //! The commands.
 #![tactic(auto)]
 
+mod output;
 mod piece;
 mod shape;
 mod status;

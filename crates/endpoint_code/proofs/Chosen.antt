@@ -1,5 +1,5 @@
 -- What a process chooses to make is a step of the network.
-use Rattle.std.proofs.Common.{◌≡◌, ℕ, List, Option, Some, None, ℤ, subst, sym, ap, ◌∙◌, refl}
+use Rattle.std.proofs.Common.{◌≡◌, ℕ, suc, List, Option, Some, None, ℤ, subst, sym, ap, ◌∙◌, refl}
 use Rattle.std.specs.Prelude.{slice_get}
 use Rattle.chor_base.specs.declared.names.NameId.{NameId}
 use Rattle.chor_base.specs.declared.event.Event.{Event}
@@ -9,7 +9,8 @@ use Rattle.endpoint_code.specs.declared.code.CodeNode.TheVariants.{Join, Send, R
 use Rattle.endpoint_code.specs.declared.endpoints.Channel.{Channel}
 use Rattle.endpoint_code.specs.declared.endpoints.Endpoints.{Endpoints}
 use Rattle.endpoint_code.specs.Network.{NetworkState, Place, Sessions, Made, Makes, place_at, channel_of, makes, starts, MachineAnswers, NetworkSteps, acts, begins}
-use Rattle.endpoint_code.specs.Scheduled.{partners, started, started_on, chosen_at, chosen, Chooses}
+use Rattle.endpoint_code.specs.Scheduled.{partners, started, started_on, chosen_at, chosen, Chooses, IsScheduled, closed, goes, Close}
+use Rattle.endpoint_code.specs.NetworkRuns.{NetworkLeads}
 
 module _ (e : Endpoints) (hosts : Hosts) (cap : Option ℕ) (n : NetworkState) (p : ℕ) (x : Event) (m : NetworkState) where
   partners_start : (c : NameId) (o : Option (List ℕ)) → started e n c o ≡ Some (Makes x m) → NetworkSteps e hosts cap n x m
@@ -41,3 +42,10 @@ module _ (e : Endpoints) (hosts : Hosts) (cap : Option ℕ) (n : NetworkState) (
 
   pub chooses_steps : Chooses e hosts cap n p x m → NetworkSteps e hosts cap n x m
   chooses_steps c = place_steps c.answer c.allowed (place_at e (slice_get n.machines p)) c.made
+
+-- A scheduled run is a run
+pub scheduled_leads : (e : Endpoints) (hosts : Hosts) (cap : Option ℕ) (seed steps : ℕ) (h : List Event) (n last : NetworkState) (events : ℕ) (close : Close)
+    → IsScheduled e hosts cap seed steps n events h last close → NetworkLeads e hosts cap n h last
+scheduled_leads e hosts cap seed steps h n last events close (closed c) = refl
+scheduled_leads e hosts cap seed steps h n last events close (goes {m = m} {p = p} {x = x} {xs = xs} a b picks chooses rest) =
+    (m, chooses_steps e hosts cap n p x m chooses, scheduled_leads e hosts cap seed steps xs m last (suc events) close rest)

@@ -1,0 +1,103 @@
+-- The transcript of the scheduled run of a thin file.
+use Rattle.std.proofs.Common.{◌≡◌, ◌≢◌, ℕ, zero, suc, ◌+◌, ◌*◌, ◌<◌, ◌≤◌, Bool, true, false, ◌==◌, List, [], ◌∷◌, ◌++◌, length, refl, sym, ap, ◌∙◌, subst, Option, None, arith, if◌then◌else◌}
+use Rattle.std.specs.Prelude.{map}
+use Rattle.std.specs.FinMap as fin
+use Rattle.std.proofs.lemmas.Bool.Decides.{nat_tests}
+use Rattle.chor_base.specs.declared.names.NameId.{NameId}
+use Rattle.chor_base.specs.declared.event.Event.{Event}
+use Rattle.chor_base.specs.NameMap.{Variables}
+use Rattle.chor_base.specs.Words.{AllDistinct}
+use Rattle.chor_tree.specs.declared.file.File.{File}
+use Rattle.chor_tree.specs.declared.file.Named.{Named}
+use Rattle.chor_semantics.specs.Choreography.{Ref, Live, Named as Unbound, instance_of}
+use Rattle.chor_semantics.specs.Sources.{Configuration, first_configuration, numbered, procedures_of, tree_in, trees_of}
+use Rattle.chor_semantics.specs.Runs.{Leads, IsRunTo, IsEndedRun, IsTerminated, IsQuiet, quiet, ended}
+use Rattle.endpoint_code.specs.declared.endpoints.Endpoints.{Endpoints}
+use Rattle.endpoint_code.specs.Network.{NetworkState, first_state}
+use Rattle.endpoint_code.specs.Scheduled.{IsScheduled, Close, Ended}
+use Rattle.endpoint_code.proofs.Fifo.{network_fifo}
+use Rattle.endpoint_code.proofs.Chosen.{scheduled_leads}
+use Rattle.transcript.specs.Text.{transcript}
+use Rattle.chor_cmd.specs.Thin.{Thin, thin_tree}
+use Rattle.chor_cmd.specs.ThinCode.{AreEndpointsOf}
+use Rattle.chor_cmd.specs.Pieces.{word_of, in_words, IsProper, AreThin}
+use Rattle.chor_cmd.specs.ThinFile.{plain, HasShape, IsSourceOf, IsRunnable}
+use Rattle.chor_cmd.specs.Endings.{book_of, end_line, IsRunText, RunsShape}
+use Rattle.chor_cmd.proofs.ThinRuns.{Runs}
+use Rattle.chor_cmd.proofs.ThinBegins.{whole, distinct}
+
+-- names whose words differ, differ
+pub apart : (names : List (List ℕ)) (x y : NameId) → word_of names x ≢ word_of names y → x.0 ≢ y.0
+apart names x y h e = h (ap (λ n. word_of names (record { 0 = n })) e)
+
+pub runnable : (bytes : List ℕ) (f : File) (t : Thin NameId) → IsSourceOf bytes f t → length t.exchanges ≤ 255 → IsRunnable f t
+runnable bytes f t s few = record {
+  shape = s.shape;
+  roles = apart f.names t.first_role t.second_role s.written.proper.roles;
+  processes = apart f.names t.first_process t.second_process s.written.proper.processes;
+  few = few;
+}
+
+true_eq : (n : ℕ) → (n == n) ≡ true
+true_eq n = grind (arith, nat_tests)
+
+false_eq : (m n : ℕ) → m ≢ n → (m == n) ≡ false
+false_eq m n h = grind (arith, nat_tests)
+
+-- the two declared processes
+abbrev no_vars : List Named → List Variables
+no_vars ps = map (λ w. fin.empty) ps
+
+record AreTwo (ps : List Named) (p q : NameId) : Type 0 where
+  vars : no_vars ps ≡ fin.empty ∷ fin.empty ∷ []
+  first : numbered 0 ps p.0 ≡ Live 0
+  second : numbered 0 ps q.0 ≡ Live 1
+
+two : (ps : List Named) (p q : NameId) → p.0 ≢ q.0 → plain ps ≡ p ∷ q ∷ [] → AreTwo ps p q
+two [] p q d h = absurd cc
+two (v ∷ []) p q d h = absurd cc
+two (v ∷ w ∷ x ∷ ps) p q d h = absurd cc
+two (v ∷ w ∷ []) p q d h =
+    let i : v.name ≡ p = cc in
+    let j : w.name ≡ q = cc in
+    let a : (v.name.0 == p.0) ≡ true = ap (λ n. n.0 == p.0) i ∙ true_eq p.0 in
+    let b : (v.name.0 == q.0) ≡ false = ap (λ n. n.0 == q.0) i ∙ false_eq p.0 q.0 d in
+    let c : (w.name.0 == q.0) ≡ true = ap (λ n. n.0 == q.0) j ∙ true_eq q.0 in
+    record { vars = refl; first = rw a refl; second = rw b (rw c refl) }
+
+module _ (f : File) (t : Thin NameId) (r : IsRunnable f t) (e : Endpoints) (are : AreEndpointsOf e t) where
+  processes : AreTwo f.processes t.first_process t.second_process
+  processes = two f.processes t.first_process t.second_process r.processes r.shape.processes
+
+  enough : suc (2 * length t.exchanges) < 100000
+  enough = let few = r.few in omega arith
+
+  abbrev started : Configuration
+  started = record { tree = instance_of 0 (numbered 0 f.processes) (λ y. Unbound y 0) (thin_tree t); vars = fin.empty ∷ fin.empty ∷ []; sid = 0 }
+
+  first_is : first_configuration f ≡ started
+  first_is = λ i. record { tree = instance_of 0 (numbered 0 f.processes) (λ y. Unbound y 0) (r.shape.tree i); vars = processes.vars i; sid = 0 }
+
+  runs_of : (h : List Event) (last : NetworkState) (close : Close) → IsScheduled e [] None 0 100000 (first_state e) 0 h last close
+      → Runs e t.first_role t.second_role t.session 0 (procedures_of f) [] (distinct e t are r.roles) started 0 (suc (2 * length t.exchanges)) h close
+  runs_of h last close s = whole e t are r.roles (procedures_of f) [] (numbered 0 f.processes) (λ y. Unbound y 0) processes.first processes.second 0 100000 enough h last close s
+
+  -- The run comes to its end
+  pub closes_ended : (h : List Event) (last : NetworkState) (close : Close) → IsScheduled e [] None 0 100000 (first_state e) 0 h last close → close ≡ Ended
+  closes_ended h last close s = (runs_of h last close s).closes
+
+  -- Its transcript is that of a run of the choreography
+  pub runs_shape : (h : List Event) (last : NetworkState) (close : Close) (text : List ℕ) → IsScheduled e [] None 0 100000 (first_state e) 0 h last close
+      → text ≡ transcript (book_of f) h (end_line (length h)) → RunsShape f t text
+  runs_shape h last close text s written =
+      let run = runs_of h last close s in
+      let count : 0 + length h ≡ suc (2 * length t.exchanges) = run.count in
+      record {
+        run = record {
+          history = h;
+          run = (run.last, record { leads = subst (λ (c : Configuration). Leads (procedures_of f) [] c h run.last) (sym first_is) run.leads; within = tt }, subst (IsTerminated (procedures_of f)) (sym run.ends) (quiet ended));
+          fifo = network_fifo e [] None h last (scheduled_leads e [] None 0 100000 h (first_state e) last 0 close s);
+          text_is = written;
+        };
+        count = omega arith;
+      }

@@ -1,0 +1,47 @@
+//! Writing the text with which a call ends.
+
+ghost use Rattle.std.specs.Prelude.{◌≡◌, ℕ, List, IfOk};
+ghost use Rattle.chor_cmd.specs.declared.words.Words.{Words as CommandWords};
+ghost use Rattle.chor_cmd.specs.Endings.{Ends, HasEnded, Told, line_naming};
+ghost use Rattle.chor_cmd.specs.Words.{IsRunForm};
+
+use crate::status::Status;
+use chor_base::{Memory, Word};
+use chor_io::{Put, Sink};
+use std::alloc::Global;
+
+/// Writes the text with which a call ends, and answers the status.
+#[tactic(auto, using(crate::proofs::Outputs::wrote_all, crate::proofs::Outputs::wrote_some))]
+pub fn finish<K: Sink>(out: &mut K, text: &[u8], status: Status) -> Status
+    ensures { (words : CommandWords) (files : Told) (before after : List ℕ → ℕ) → Ends words files before after status text.now → HasEnded words files before after (K.faults out.old) (K.faults out.new) (K.written out.old) (K.written out.new) result }
+{
+    match out.put(text) {
+        Put::All => status,
+        Put::Failed => Status::WriteFault,
+    }
+}
+
+/// Writes a line of these bytes and the name of a file, and answers the status.
+pub fn finish_naming<K: Sink>(
+    alloc: Global,
+    out: &mut K,
+    what: &[u8],
+    name: &Word,
+    status: Status,
+) -> Status
+    ensures { (words : CommandWords) (files : Told) (before after : List ℕ → ℕ) → IsRunForm words name.now → Ends words files before after status (line_naming what.now name.now) → HasEnded words files before after (K.faults out.old) (K.faults out.new) (K.written out.old) (K.written out.new) result }
+{
+    match naming_line(alloc, what, name) {
+        Ok(line) => finish(out, line.as_slice(), status),
+        Err(Memory) => Status::Memory,
+    }
+}
+
+fn naming_line(alloc: Global, what: &[u8], name: &Word) -> Result<Vec<u8>, Memory>
+    ensures { IfOk result (λ line. line.items ≡ line_naming what.now name.now) }
+{
+    let mut line = what.to_vec(alloc)?;
+    line.extend_from_slice(name.as_slice())?;
+    line.push(b'\n')?;
+    Ok(line)
+}
