@@ -2,5 +2,7 @@
 #![tactic(auto)]
 
 mod piece;
+mod reader;
 mod shape;
 mod thin_endpoints;
+mod written;
