@@ -3,6 +3,9 @@ pub mod ThinSteps
 pub mod ThinRuns
 pub mod ThinBegins
 pub mod Lines
+pub mod Places
+pub mod Keeping
+pub mod Comparing
 pub mod Files
 pub mod Faultless
 pub mod Outputs

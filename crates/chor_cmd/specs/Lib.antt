@@ -2,6 +2,7 @@ pub mod Thin
 pub mod ThinCode
 pub mod Shapes
 pub mod Pieces
+pub mod Reading
 pub mod ThinFile
 pub mod Words
 pub mod Status

@@ -3,11 +3,13 @@
 
 mod output;
 mod piece;
+mod reader;
 mod shape;
 mod status;
 mod thin_endpoints;
 mod thin_file;
 mod words;
+mod written;
 
 pub use status::Status;
 pub use words::{Command, Words, read_words};
