@@ -10,3 +10,4 @@ pub mod Files
 pub mod Faultless
 pub mod Outputs
 pub mod ThinTexts
+pub mod Sources

@@ -6,7 +6,6 @@ use Rattle.std.proofs.lemmas.Bool.Decides.{nat_tests}
 use Rattle.chor_base.specs.declared.names.NameId.{NameId}
 use Rattle.chor_base.specs.declared.event.Event.{Event}
 use Rattle.chor_base.specs.NameMap.{Variables}
-use Rattle.chor_base.specs.Words.{AllDistinct}
 use Rattle.chor_tree.specs.declared.file.File.{File}
 use Rattle.chor_tree.specs.declared.file.Named.{Named}
 use Rattle.chor_semantics.specs.Choreography.{Ref, Live, Named as Unbound, instance_of}
@@ -20,23 +19,10 @@ use Rattle.endpoint_code.proofs.Chosen.{scheduled_leads}
 use Rattle.transcript.specs.Text.{transcript}
 use Rattle.chor_cmd.specs.Thin.{Thin, thin_tree}
 use Rattle.chor_cmd.specs.ThinCode.{AreEndpointsOf}
-use Rattle.chor_cmd.specs.Pieces.{word_of, in_words, IsProper, AreThin}
-use Rattle.chor_cmd.specs.ThinFile.{plain, HasShape, IsSourceOf, IsRunnable}
+use Rattle.chor_cmd.specs.ThinFile.{plain, HasShape, IsRunnable}
 use Rattle.chor_cmd.specs.Endings.{book_of, end_line, IsRunText, RunsShape}
 use Rattle.chor_cmd.proofs.ThinRuns.{Runs}
 use Rattle.chor_cmd.proofs.ThinBegins.{whole, distinct}
-
--- names whose words differ, differ
-pub apart : (names : List (List ℕ)) (x y : NameId) → word_of names x ≢ word_of names y → x.0 ≢ y.0
-apart names x y h e = h (ap (λ n. word_of names (record { 0 = n })) e)
-
-pub runnable : (bytes : List ℕ) (f : File) (t : Thin NameId) → IsSourceOf bytes f t → length t.exchanges ≤ 255 → IsRunnable f t
-runnable bytes f t s few = record {
-  shape = s.shape;
-  roles = apart f.names t.first_role t.second_role s.written.proper.roles;
-  processes = apart f.names t.first_process t.second_process s.written.proper.processes;
-  few = few;
-}
 
 true_eq : (n : ℕ) → (n == n) ≡ true
 true_eq n = grind (arith, nat_tests)

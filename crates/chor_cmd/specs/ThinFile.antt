@@ -15,7 +15,8 @@ use Rattle.chor_tree.specs.declared.tree.Form.{Form}
 use Rattle.chor_tree.specs.Children.{children_of}
 use Rattle.chor_semantics.specs.Choreography.{Choreography, Then}
 use Rattle.chor_semantics.specs.Sources.{tree_in, trees_of, form_tree}
-use Rattle.chor_lexer.specs.Tokens.{IsTokens}
+use Rattle.chor_lexer.specs.declared.token.Token.{Token}
+use Rattle.chor_lexer.specs.Tokens.{IsTokens, AreTokensOf}
 use Rattle.chor_lexer.specs.Lexeme.{Lexeme}
 use Rattle.chor_cmd.specs.Thin.{Exchange, Thin, role, exchange_node, thin_tree}
 use Rattle.chor_cmd.specs.Pieces.{state_before, in_words, AreThin}
@@ -76,6 +77,18 @@ pub record IsSourceOf (bytes : List ℕ) (f : File) (t : Thin NameId) : Type 0 w
 -- The bytes are the text of this thin file
 abbrev pub IsThinSource : List ℕ → File → Type 0
 IsThinSource bytes f = (t : Thin NameId) × IsSourceOf bytes f t
+
+-- The bytes are the text of no thin file
+pub record IsNoSource (bytes : List ℕ) : Type 0 where
+  pub never : (f : File) → IsThinSource bytes f → ⊥
+
+-- whatever bytes have these tokens, they are the text of no thin file
+pub record AreNoSource (names texts : List (List ℕ)) (ts : List Token) : Type 0 where
+  pub none : (bytes : List ℕ) → AreTokensOf bytes [] [] names texts ts → IsNoSource bytes
+
+-- whatever ASCII bytes have these tokens, they are the text of this file
+pub record AreSourceOf (names texts : List (List ℕ)) (ts : List Token) (f : File) (t : Thin NameId) : Type 0 where
+  pub source : (bytes : List ℕ) → All (λ b. b < 128) bytes → AreTokensOf bytes [] [] names texts ts → IsSourceOf bytes f t
 
 -- what a run needs to know of a thin file
 pub record IsRunnable (f : File) (t : Thin NameId) : Type 0 where

@@ -5,6 +5,7 @@ mod output;
 mod piece;
 mod reader;
 mod shape;
+mod source;
 mod status;
 mod thin_endpoints;
 mod thin_file;
