@@ -1,6 +1,6 @@
 //! Finite maps from names.
 
-ghost use Rattle.std.specs.Prelude.{◌≡◌, ◌≤◌, ◌+◌, ◌⊎◌, OnOk, IsTrue, is_some, true};
+ghost use Rattle.std.specs.Prelude.{◌≡◌, ◌≤◌, ◌+◌, ◌⊎◌, OnOk, IsOk, IsTrue, is_some, true};
 ghost use Rattle.std.specs.Ordering.{nat_cmp};
 ghost use Rattle.std.specs.FinMap as fin;
 
@@ -59,6 +59,7 @@ impl<V: Copy> NameMap<V> {
         ensures map { self.new.map ≡ self.old.map }
         ensures ok { OnOk result (1 ≤ self.new.spare) }
         ensures kept { self.old.spare ≤ self.new.spare }
+        ensures succeeds { 1 ≤ self.old.spare → IsOk result }
     {
         self.entries.reserve(1)?;
         Ok(())
