@@ -1,2 +1,3 @@
 pub mod Lanes
-pub mod Views
+pub mod Plain
+pub mod Machines

@@ -1,7 +1,5 @@
 //! Networks of endpoint programs.
 #![tactic(auto)]
 
-mod network;
+mod machine;
 mod queues;
-
-pub use network::Network;
