@@ -1,3 +1,6 @@
 pub mod Lanes
 pub mod Plain
 pub mod Machines
+pub mod Views
+pub mod Heads
+pub mod Steps

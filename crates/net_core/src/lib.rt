@@ -2,4 +2,7 @@
 #![tactic(auto)]
 
 mod machine;
+mod network;
 mod queues;
+
+pub use network::Network;
