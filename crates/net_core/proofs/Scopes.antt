@@ -16,7 +16,8 @@ use Rattle.net_core.specs.Lanes.{QueuesView}
 use Rattle.net_core.specs.Plain.{is_plain, IsPlain}
 use Rattle.net_core.specs.Machines.{standing_of}
 use Rattle.net_core.specs.Heads.{Stands}
-use Rattle.net_core.specs.Views.{IsBound, IsSound, state_of}
+use Rattle.net_core.specs.Bound.{AreBound, IsBound}
+use Rattle.net_core.specs.Views.{IsSound, state_of}
 use Rattle.net_core.proofs.Turns.{all_at}
 
 -- a node stands at scoped code
@@ -73,6 +74,9 @@ stands e ms q sid p r node sound lt h found = record {
   place =
       ap (λ (n : Option CodeNode). place_in e n r.sessions.map) found
       ∙ plain_place e node r.sessions.map (all_at (λ n. is_plain n ≡ true) e.code.nodes r.at.0 node sound.plain.nodes found);
+  found = found;
+  plain = all_at (λ n. is_plain n ≡ true) e.code.nodes r.at.0 node sound.plain.nodes found;
+  bound = bound_at e ms p r sound lt h;
 }
 
 -- the processes at their bodies are sound

@@ -4,15 +4,21 @@ use Rattle.chor_base.specs.declared.names.NameId.{NameId}
 use Rattle.chor_base.specs.declared.event.Why.{Why}
 use Rattle.endpoint_code.specs.declared.code.CodeNode.{CodeNode}
 use Rattle.endpoint_code.specs.declared.endpoints.Endpoints.{Endpoints}
-use Rattle.endpoint_code.specs.Network.{Machine, NetworkState, Place, place_of, place_at}
+use Rattle.endpoint_code.specs.Network.{Machine, NetworkState, Place, node_at, place_of, place_at}
 use Rattle.endpoint_code.specs.NetworkRuns.{has_ended, waits_for, can_step, joins_there}
-use Rattle.endpoint_code.specs.Scheduled.{is_listed}
+use Rattle.endpoint_code.specs.Scheduled.{is_listed, listed_at}
+use Rattle.net_core.specs.Plain.{is_plain}
+use Rattle.net_core.specs.Machines.{is_join}
+use Rattle.net_core.specs.Bound.{IsBound}
 
 -- the machine of the process stands at this node
 pub record Stands (e : Endpoints) (n : NetworkState) (p : ℕ) (node : CodeNode) : Type 0 where
   pub machine : Machine
   pub there : slice_get n.machines p ≡ Some machine
   pub place : place_of e machine ≡ Some (record { node = node; sessions = machine.sessions })
+  pub found : node_at e machine.at ≡ Some node
+  pub plain : is_plain node ≡ true
+  pub bound : IsBound e machine
 
 abbrev pub ended_of : Endpoints → Option Machine → Bool
 ended_of e None = false
@@ -49,3 +55,15 @@ is_listed_at e n p = listed_of e n (slice_get n.machines p)
 -- a process stands where it joins channel c in role r
 abbrev pub joins_in : Endpoints → NetworkState → ℕ → NameId → NameId → Bool
 joins_in e n p c r = joins_there (place_at e (slice_get n.machines p)) c r
+
+-- a process that joins does so in its channel's first active role
+abbrev pub leads_at : Endpoints → NetworkState → ℕ → Bool
+leads_at e n p = listed_at e (place_at e (slice_get n.machines p))
+
+abbrev pub is_joining : Option Place → Bool
+is_joining None = false
+is_joining (Some q) = is_join q.node
+
+-- a process stands where it joins a session
+abbrev pub joins_at_all : Endpoints → NetworkState → ℕ → Bool
+joins_at_all e n p = is_joining (place_at e (slice_get n.machines p))

@@ -1,5 +1,6 @@
 pub mod Lanes
 pub mod Plain
+pub mod Bound
 pub mod Machines
 pub mod Views
 pub mod Heads

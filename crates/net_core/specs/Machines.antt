@@ -83,3 +83,9 @@ waits_at q m _ = None
 abbrev pub joins_at : CodeNode → NameId → NameId → Bool
 joins_at (Join d q k next) c r = (d.0 == c.0) && (q.0 == r.0)
 joins_at _ c r = false
+
+-- after its event at the node a process stands at the next node with the same sessions
+abbrev pub GoesOn : CodeNode → Runner → Runner → Type 0
+GoesOn (Send k b e next) old new = (new.at ≡ next) × (new.sessions.map ≡ old.sessions.map)
+GoesOn (Recv k a x next) old new = (new.at ≡ next) × (new.sessions.map ≡ old.sessions.map)
+GoesOn _ old new = Unit {0}

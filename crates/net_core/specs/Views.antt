@@ -12,6 +12,7 @@ use Rattle.net_core.specs.declared.machine.Runner.{Runner}
 use Rattle.net_core.specs.Lanes.{QueuesView, loads_in}
 use Rattle.net_core.specs.Plain.{IsPlain}
 use Rattle.net_core.specs.Machines.{standing_of, has_room_at}
+use Rattle.net_core.specs.Bound.{IsBound}
 
 -- the programs, the state, the events so far, and for each process whether there is room for its next event
 pub record NetworkView : Type 0 where
@@ -48,16 +49,6 @@ place_has_room q m (Some p) = has_room_at q m p.node
 -- a process has room for its next event, where so many entries more fit the history
 abbrev pub has_room : Endpoints → ℕ → QueuesView → Runner → Bool
 has_room e entries q m = nat_lt 0 entries && place_has_room q m (place_of e (standing_of m))
-
--- these names are bound
-abbrev pub AreBound : Sessions → List NameId → Type 0
-AreBound m names = (k : NameId) → is_among k names ≡ true → is_some (fin.get m k.0) ≡ true
-
--- the code at which a process stands uses its session names well
-pub record IsBound (e : Endpoints) (m : Machine) : Type 0 where
-  pub names : List NameId
-  pub scoped : IsScoped e m.at names
-  pub bound : AreBound m.sessions names
 
 -- the programs are without fault, there are fewer than 2^32 processes, and each knows its sessions
 pub record IsSound (e : Endpoints) (machines : List Machine) : Type 0 where

@@ -6,7 +6,7 @@ ghost use Rattle.endpoint_code.specs.Network.{standing, NetworkState, puts, move
 ghost use Rattle.chor_base.specs.Events.{Triple};
 ghost use Rattle.net_core.specs.Lanes.{loads_in, room_on};
 ghost use Rattle.net_core.specs.Plain.{is_plain};
-ghost use Rattle.net_core.specs.Machines.{standing_of, has_room_at, waits_at, ActsAt, acts_alone, knows_sessions, is_value_load, waits_for_value, has_room_to, with_process, joins_at};
+ghost use Rattle.net_core.specs.Machines.{standing_of, has_room_at, waits_at, ActsAt, GoesOn, acts_alone, knows_sessions, is_value_load, waits_for_value, has_room_to, with_process, joins_at};
 
 use crate::queues::Queues;
 use chor_base::{Event, Load, Memory, NameId, NameMap, Value, Vars, Why, eval};
@@ -99,7 +99,8 @@ impl Runner {
         requires known { knows_sessions self.old.sessions.map node.now ≡ true }
         requires room { has_room_at queues.old self.old node.now ≡ true }
         requires goes { waits_at queues.old self.old node.now ≡ None }
-        ensures { ActsAt node.now pid queues.old self.old result queues.new self.new }
+        ensures acts { ActsAt node.now pid queues.old self.old result queues.new self.new }
+        ensures goes { GoesOn node.now self.old self.new }
     {
         match node {
             CodeNode::Send(session, to, expr, next) => {
@@ -125,7 +126,9 @@ impl Runner {
     ) -> Event
         requires known { is_some (fin.get self.old.sessions.map session.0) ≡ true }
         requires room { has_room_to queues.old (fin.get self.old.sessions.map session.0) to ≡ true }
-        ensures { (n : NetworkState) → n.queues ≡ loads_in queues.old.lanes → puts None (moved n pid next self.old.vars.map self.old.sessions.map) pid to (fin.get self.old.sessions.map session.0) (Some load) ≡ Some (Makes result (with_process n pid self.new queues.new)) }
+        ensures next { self.new.at ≡ next }
+        ensures sessions { self.new.sessions.map ≡ self.old.sessions.map }
+        ensures made { (n : NetworkState) → n.queues ≡ loads_in queues.old.lanes → puts None (moved n pid next self.old.vars.map self.old.sessions.map) pid to (fin.get self.old.sessions.map session.0) (Some load) ≡ Some (Makes result (with_process n pid self.new queues.new)) }
     {
         let Some((sid, from)) = self.sessions.get(session) else {
             unreachable!()
@@ -154,7 +157,9 @@ impl Runner {
         requires known { is_some (fin.get self.old.sessions.map session.0) ≡ true }
         requires room { 1 ≤ self.old.vars.spare }
         requires goes { waits_for_value (loads_in queues.old.lanes) from (fin.get self.old.sessions.map session.0) ≡ None }
-        ensures { (n : NetworkState) → n.queues ≡ loads_in queues.old.lanes → takes n pid from (fin.get self.old.sessions.map session.0) (takes_value next self.old.vars.map self.old.sessions.map name) ≡ Some (Makes result (with_process n pid self.new queues.new)) }
+        ensures next { self.new.at ≡ next }
+        ensures sessions { self.new.sessions.map ≡ self.old.sessions.map }
+        ensures made { (n : NetworkState) → n.queues ≡ loads_in queues.old.lanes → takes n pid from (fin.get self.old.sessions.map session.0) (takes_value next self.old.vars.map self.old.sessions.map name) ≡ Some (Makes result (with_process n pid self.new queues.new)) }
     {
         let Some((sid, to)) = self.sessions.get(session) else {
             unreachable!()

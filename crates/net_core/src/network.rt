@@ -1,18 +1,21 @@
 //! The network.
 
-ghost use Rattle.std.specs.Prelude.{◌≡◌, ◌<◌, ◌^◌, [], length, All, IfOk, OnOk, OnErr, IsTrue, ◌↔◌, Some, None, slice_get, IfSome};
+ghost use Rattle.std.specs.Prelude.{◌≡◌, ◌<◌, ◌^◌, [], length, All, IfOk, OnOk, OnErr, IsTrue, ◌↔◌, Some, None, slice_get, IfSome, vec_len, vec_capacity, ◌++◌, ◌∷◌, true, false, ℕ, IsOk, not, ◌||◌, ◌==◌};
 ghost use Rattle.std.specs.Prelude.{map};
+ghost use Rattle.std.specs.Option.{option_copied};
 ghost use Rattle.endpoint_code.specs.Network.{first_state, channel_of, standing_all};
 ghost use Rattle.net_core.specs.Machines.{standing_of};
-ghost use Rattle.endpoint_code.specs.NetworkRuns.{all_ended, absent_among, absent_on};
+ghost use Rattle.endpoint_code.specs.NetworkRuns.{all_ended, absent_on, is_joined};
 ghost use Rattle.endpoint_code.specs.Scheduled.{least_joiner};
 ghost use Rattle.endpoint_code.specs.Faults.{IsFaultless};
 ghost use Rattle.net_core.specs.Plain.{IsPlain};
-ghost use Rattle.net_core.specs.Heads.{Stands, ended_at, why_at, steps_at, is_listed_at, joins_in};
+ghost use Rattle.net_core.specs.Views.{IsSame, IsReserved};
+ghost use Rattle.net_core.specs.Steps.{HasStepped};
+ghost use Rattle.net_core.specs.Heads.{Stands, ended_at, why_at, steps_at, is_listed_at, joins_in, leads_at, joins_at_all};
 
 use crate::machine::Runner;
 use crate::queues::Queues;
-use chor_base::{Entry, Memory, NameId, Why};
+use chor_base::{Entry, Event, Memory, NameId, Why};
 use endpoint_code::{Channel, CodeNode, Endpoints, Process};
 use std::alloc::Global;
 use std::marker::Model;
@@ -141,4 +144,123 @@ impl<'a> Network<'a> {
         }
         None
     }
+
+    // Whether nobody joins in a role other than a process's own.
+    #[tactic(auto, using(crate::proofs::Heads::joined_least))]
+    fn is_missing(&self, channel: NameId, own: NameId, role: NameId) -> bool
+        ensures { result ≡ not ((role.0 == own.0) || is_joined self.now.endpoints self.now.state.machines channel role) }
+    {
+        role != own && self.joiner(channel, role).is_none()
+    }
+
+    // The first active role of a channel, other than a process's own, that nobody joins.
+    fn absent(&self, channel: NameId, own: NameId) -> Option<Why>
+        ensures { result ≡ absent_on self.now.endpoints self.now.state.machines channel own (channel_of self.now.endpoints.channels channel) }
+    {
+        let roles = channel_named(self.endpoints.channels.as_slice(), channel)?.active.as_slice();
+        for role in roles {
+            if self.is_missing(channel, own, *role) {
+                return Some(Why::Absent(channel, *role));
+            }
+        }
+        None
+    }
+
+    // Why a process waits, if it does.
+    fn waiting(&self, pid: u32) -> Option<Why>
+        requires { pid < length self.now.state.machines }
+        ensures { result ≡ why_at self.now.endpoints self.now.state pid }
+    {
+        match self.node(pid) {
+            CodeNode::Join(channel, role, _, _) => self.absent(*channel, *role),
+            node => {
+                let machine = &self.machines[pid as usize];
+                machine.waiting(node, &self.queues)
+            }
+        }
+    }
+
+    // Whether a process can step.
+    fn can_step(&self, pid: u32) -> bool
+        requires { pid < length self.now.state.machines }
+        ensures { result ≡ steps_at self.now.endpoints self.now.state pid }
+    {
+        !self.ended(pid) && self.waiting(pid).is_none()
+    }
+
+    // Whether a process that joins does so in its channel's first active role.
+    fn leads(&self, pid: u32) -> bool
+        requires { pid < length self.now.state.machines }
+        ensures { result ≡ leads_at self.now.endpoints self.now.state pid }
+    {
+        match self.node(pid) {
+            CodeNode::Join(channel, role, _, _) => {
+                match channel_named(self.endpoints.channels.as_slice(), *channel) {
+                    Some(channel) => channel.active.as_slice().first() == Some(role),
+                    None => false,
+                }
+            }
+            _ => true,
+        }
+    }
+
+    // Whether the pick rule may take a process.
+    fn is_listed(&self, pid: u32) -> bool
+        requires { pid < length self.now.state.machines }
+        ensures { result ≡ is_listed_at self.now.endpoints self.now.state pid }
+    {
+        self.can_step(pid) && self.leads(pid)
+    }
+
+    /// Takes memory for the next event of a process, if that event isn't the start of a session.
+    /// The room lasts until a call changes the network.
+    pub fn reserve(&mut self, pid: u32) -> Result<(), Memory>
+        requires { pid < length self.old.state.machines }
+        ensures same { IsSame self.old self.new }
+        ensures ok { OnOk result (IsReserved self.new pid) }
+        ensures kept { (p : ℕ) → IsReserved self.old p → IsReserved self.new p }
+        ensures succeeds { IsReserved self.old pid → IsOk result }
+    {
+        let node = self.node(pid);
+        self.history.reserve(1)?;
+        let machine = &mut self.machines[pid as usize];
+        machine.reserve(node, &mut self.queues)
+    }
+
+    // Makes the event of a process that can step and doesn't join.
+    fn act(&mut self, pid: u32)
+        requires there { pid < length self.old.state.machines }
+        requires steps { steps_at self.old.endpoints self.old.state pid ≡ true }
+        requires alone { joins_at_all self.old.endpoints self.old.state pid ≡ false }
+        requires room { IsReserved self.old pid }
+        ensures { HasStepped self.old pid self.new }
+    {
+        let node = self.node(pid);
+        let machine = &mut self.machines[pid as usize];
+        let event = machine.act(pid, node, &mut self.queues);
+        append(&mut self.history, event);
+    }
+}
+
+// One event more, for which there is room.
+fn append(history: &mut Vec<Entry>, event: Event)
+    requires { vec_len history.old < vec_capacity history.old }
+    ensures { history.new.items ≡ history.old.items ++ record { worker = 0; event = event } ∷ [] }
+{
+    match history.push(Entry { worker: 0, event }) {
+        Ok(()) => {}
+        Err(_) => unreachable!(),
+    }
+}
+
+// The channel of a name.
+fn channel_named(channels: &[Channel], name: NameId) -> Option<&Channel>
+    ensures { option_copied result ≡ channel_of channels.now name }
+{
+    for channel in channels {
+        if channel.name == name {
+            return Some(channel);
+        }
+    }
+    None
 }

@@ -1,0 +1,37 @@
+-- The fields of a network and what contracts see of it.
+use Rattle.std.proofs.Common.{◌≡◌, ℕ, ◌<◌, ◌++◌, ◌∷◌, [], Bool, true, List, length, get_or, sym, ap, ◌∙◌, subst, Some, None, arith}
+use Rattle.std.specs.Prelude.{slice_get, map}
+use Rattle.std.proofs.lemmas.List.{length-map}
+use Rattle.chor_base.specs.declared.event.Event.{Event}
+use Rattle.chor_base.specs.declared.event.Entry.{Entry}
+use Rattle.endpoint_code.specs.declared.code.CodeNode.{CodeNode}
+use Rattle.endpoint_code.specs.declared.endpoints.Endpoints.{Endpoints}
+use Rattle.endpoint_code.specs.Network.{Machine, NetworkState}
+use Rattle.endpoint_code.specs.Scheduled.{Chooses}
+use Rattle.net_core.specs.declared.machine.Runner.{Runner}
+use Rattle.net_core.specs.Lanes.{QueuesView}
+use Rattle.net_core.specs.Machines.{standing_of}
+use Rattle.net_core.specs.Heads.{Stands}
+use Rattle.net_core.specs.Views.{NetworkView, state_of}
+use Rattle.net_core.specs.Steps.{HasStepped}
+use Rattle.net_core.proofs.Scopes.{runner_at}
+
+abbrev pub fields : Endpoints → List Runner → QueuesView → ℕ → List Entry → List Bool → NetworkView
+fields e ms q sid h res = record { endpoints = e; state = state_of ms q sid; history = h; reserved = res }
+
+-- the machine of a process is the one at its place
+pub stands_there : (e : Endpoints) (ms : List Runner) (q : QueuesView) (sid p : ℕ) (r : Runner) (node : CodeNode) (s : Stands e (state_of ms q sid) p node) → p < length ms → r ≡ get_or ms p r → s.machine ≡ standing_of r
+stands_there e ms q sid p r node s lt h =
+    let a : Some s.machine ≡ Some (standing_of r) = sym s.there ∙ runner_at ms p r lt h in
+    cc
+
+module _ {e : Endpoints} (ms : List Runner) (q : QueuesView) {sid : ℕ} {h : List Entry} {res : List Bool} {v : NetworkView} (is : fields e ms q sid h res ≡ v) where
+  pub within : (p : ℕ) → p < length v.state.machines → p < length ms
+  within p lt = let k = ap (λ (w : NetworkView). length w.state.machines) is in omega (arith, k, length-map ms standing_of)
+
+  pub stands_in : (p : ℕ) (node : CodeNode) → Stands v.endpoints v.state p node → Stands e (state_of ms q sid) p node
+  stands_in p node s = subst (λ (w : NetworkView). Stands w.endpoints w.state p node) (sym is) s
+
+  pub stepped : (new : NetworkView) (p : ℕ) (x : Event) (n : NetworkState) → new.endpoints ≡ e → new.state ≡ n → new.history ≡ h ++ record { worker = 0; event = x } ∷ [] → Chooses e [] None (state_of ms q sid) p x n → HasStepped v p new
+  stepped new p x n a b d chooses =
+      subst (λ (w : NetworkView). HasStepped w p new) is (record { event = x; state = n; becomes = record { endpoints = a; state = b; history = d }; chooses = chooses })
