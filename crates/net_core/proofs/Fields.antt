@@ -6,13 +6,13 @@ use Rattle.chor_base.specs.declared.event.Event.{Event}
 use Rattle.chor_base.specs.declared.event.Entry.{Entry}
 use Rattle.endpoint_code.specs.declared.code.CodeNode.{CodeNode}
 use Rattle.endpoint_code.specs.declared.endpoints.Endpoints.{Endpoints}
-use Rattle.endpoint_code.specs.Network.{Machine, NetworkState}
+use Rattle.endpoint_code.specs.Network.{Machine, NetworkState, place_of}
 use Rattle.endpoint_code.specs.Scheduled.{Chooses}
 use Rattle.net_core.specs.declared.machine.Runner.{Runner}
 use Rattle.net_core.specs.Lanes.{QueuesView}
 use Rattle.net_core.specs.Machines.{standing_of}
 use Rattle.net_core.specs.Heads.{Stands}
-use Rattle.net_core.specs.Views.{NetworkView, state_of}
+use Rattle.net_core.specs.Views.{NetworkView, IsSame, state_of}
 use Rattle.net_core.specs.Steps.{HasStepped}
 use Rattle.net_core.proofs.Scopes.{runner_at}
 
@@ -25,6 +25,13 @@ stands_there e ms q sid p r node s lt h =
     let a : Some s.machine ≡ Some (standing_of r) = sym s.there ∙ runner_at ms p r lt h in
     cc
 
+-- the machine of a process is the one at its place, and stands at its node
+pub place_there : (e : Endpoints) (ms : List Runner) (q : QueuesView) (sid p : ℕ) (r : Runner) (node : CodeNode) (s : Stands e (state_of ms q sid) p node) → p < length ms → r ≡ get_or ms p r → place_of e (standing_of r) ≡ Some (record { node = node; sessions = r.sessions.map })
+place_there e ms q sid p r node s lt h =
+    let same = stands_there e ms q sid p r node s lt h in
+    subst (λ (m : Machine). place_of e m ≡ Some (record { node = node; sessions = m.sessions })) same s.place
+
+
 module _ {e : Endpoints} (ms : List Runner) (q : QueuesView) {sid : ℕ} {h : List Entry} {res : List Bool} {v : NetworkView} (is : fields e ms q sid h res ≡ v) where
   pub within : (p : ℕ) → p < length v.state.machines → p < length ms
   within p lt = let k = ap (λ (w : NetworkView). length w.state.machines) is in omega (arith, k, length-map ms standing_of)
@@ -35,3 +42,6 @@ module _ {e : Endpoints} (ms : List Runner) (q : QueuesView) {sid : ℕ} {h : Li
   pub stepped : (new : NetworkView) (p : ℕ) (x : Event) (n : NetworkState) → new.endpoints ≡ e → new.state ≡ n → new.history ≡ h ++ record { worker = 0; event = x } ∷ [] → Chooses e [] None (state_of ms q sid) p x n → HasStepped v p new
   stepped new p x n a b d chooses =
       subst (λ (w : NetworkView). HasStepped w p new) is (record { event = x; state = n; becomes = record { endpoints = a; state = b; history = d }; chooses = chooses })
+
+  pub same_but_room : (new : NetworkView) → new.endpoints ≡ e → new.state ≡ state_of ms q sid → new.history ≡ h → IsSame v new
+  same_but_room new a b d = subst (λ (w : NetworkView). IsSame w new) is (record { endpoints = a; state = b; history = d })

@@ -2,7 +2,7 @@
 use Rattle.std.proofs.Common.{◌≡◌, ℕ, zero, suc, ◌+◌, ◌-◌, ◌<◌, ◌≤◌, ◌&&◌, Bool, true, false, List, [], ◌∷◌, length, get_or, refl, sym, ap, ◌∙◌, subst, Option, Some, None, arith}
 use Rattle.std.specs.Prelude.{slice_get, slice_set, map, nat_lt}
 use Rattle.std.specs.FinMap as fin
-use Rattle.std.proofs.lemmas.Option.{slice_get-get_or, slice_get-map}
+use Rattle.std.proofs.lemmas.Option.{slice_get-get_or, slice_get-map, get_or_from_slice_get}
 use Rattle.std.proofs.lemmas.Bool.Decides.{nat_tests}
 use Rattle.chor_base.specs.declared.names.NameId.{NameId}
 use Rattle.chor_base.specs.Events.{Triple}
@@ -15,6 +15,7 @@ use Rattle.net_core.specs.Lanes.{QueuesView, room_on}
 use Rattle.net_core.specs.Machines.{standing_of, has_room_at, has_room_to}
 use Rattle.net_core.specs.Views.{place_has_room, has_room}
 use Rattle.net_core.proofs.Lanes.{both_true}
+use Rattle.net_core.proofs.Turns.{turn}
 
 abbrev got : {X Y : Type 0} → (X → Y) → Option X → Option Y
 got f None = None
@@ -73,3 +74,31 @@ room_stays e k l q r m n more queues vars same h =
     place_stays : (p : Option Place) → place_has_room q m p ≡ true → place_has_room r n p ≡ true
     place_stays None h = refl
     place_stays (Some p) h = node_stays p.node h
+
+-- the machines stay where one is put that stands where the old one stood
+pub standing_stays : (ms : List Runner) (p : ℕ) (m n : Runner) → p < length ms → m ≡ get_or ms p m → standing_of n ≡ standing_of m → map standing_of (slice_set ms p n) ≡ map standing_of ms
+standing_stays [] p m n lt h same = absurd (omega arith)
+standing_stays (z ∷ ms) zero m n lt h same = ap (λ (s : Machine). s ∷ map standing_of ms) (same ∙ ap standing_of h)
+standing_stays (z ∷ ms) (suc p) m n lt h same = ap (λ (r : List Machine). standing_of z ∷ r) (standing_stays ms p m n (omega arith) h same)
+
+-- a process that stands at a node has room where the history and the node have
+pub room_made : (e : Endpoints) (k : ℕ) (q : QueuesView) (m : Runner) (node : CodeNode) → place_of e (standing_of m) ≡ Some (record { node = node; sessions = m.sessions.map }) → 0 < k → has_room_at q m node ≡ true → has_room e k q m ≡ true
+room_made e k q m node place more room =
+    let first : nat_lt 0 k ≡ true = grind (arith, nat_tests) in
+    ap (λ (b : Bool). b && place_has_room q m (place_of e (standing_of m))) first ∙ ap (place_has_room q m) place ∙ room
+
+pub room_known : (e : Endpoints) (k : ℕ) (q : QueuesView) (m : Runner) (node : CodeNode) → place_of e (standing_of m) ≡ Some (record { node = node; sessions = m.sessions.map }) → has_room e k q m ≡ true → (0 < k) × (has_room_at q m node ≡ true)
+room_known e k q m node place h =
+    let parts = both_true (nat_lt 0 k) (place_has_room q m (place_of e (standing_of m))) h in
+    let a : nat_lt 0 k ≡ true = parts.0 in
+    (grind (arith, nat_tests), sym (ap (place_has_room q m) place) ∙ parts.1)
+
+pub reserved_room : (e : Endpoints) (k : ℕ) (q : QueuesView) (ms : List Runner) (p : ℕ) (m : Runner) → p < length ms → m ≡ get_or ms p m → slice_get (map (has_room e k q) ms) p ≡ Some true → has_room e k q m ≡ true
+reserved_room e k q ms p m lt h r = let a : Some (has_room e k q m) ≡ Some true = sym (mapped_at (has_room e k q) ms p m lt h) ∙ r in cc
+
+pub reserved_first : (e : Endpoints) (k : ℕ) (q : QueuesView) (ms : List Runner) (p : ℕ) → p < length ms → slice_get (map (has_room e k q) ms) p ≡ Some true → 0 < k
+reserved_first e k q ms p lt r =
+    let t = turn ms p lt in
+    let h = reserved_room e k q ms p t.item lt (sym (get_or_from_slice_get ms p t.item t.item t.there)) r in
+    let a : nat_lt 0 k ≡ true = (both_true (nat_lt 0 k) (place_has_room q t.item (place_of e (standing_of t.item))) h).0 in
+    grind (arith, nat_tests)
