@@ -5,3 +5,4 @@ pub mod Heads
 pub mod Fields
 pub mod Rooms
 pub mod Acts
+pub mod Joins

@@ -5,3 +5,4 @@ pub mod Machines
 pub mod Views
 pub mod Heads
 pub mod Steps
+pub mod Starts

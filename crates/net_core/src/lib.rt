@@ -4,5 +4,6 @@
 mod machine;
 mod network;
 mod queues;
+mod starts;
 
 pub use network::Network;

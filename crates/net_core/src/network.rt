@@ -1,6 +1,6 @@
 //! The network.
 
-ghost use Rattle.std.specs.Prelude.{◌≡◌, ◌<◌, ◌^◌, [], length, All, IfOk, OnOk, OnErr, IsTrue, ◌↔◌, Some, None, slice_get, IfSome, vec_len, vec_capacity, ◌++◌, ◌∷◌, true, false, ℕ, IsOk, not, ◌||◌, ◌==◌};
+ghost use Rattle.std.specs.Prelude.{◌≡◌, ◌<◌, ◌^◌, [], length, All, IfOk, OnOk, OnErr, IsTrue, ◌↔◌, Some, None, slice_get, IfSome, vec_len, vec_capacity, ◌++◌, ◌∷◌, true, false, ℕ, IsOk, not, ◌||◌, ◌==◌, ◌+◌};
 ghost use Rattle.std.specs.Prelude.{map};
 ghost use Rattle.std.specs.Option.{option_copied};
 ghost use Rattle.endpoint_code.specs.Network.{first_state, channel_of, standing_all};
@@ -11,11 +11,13 @@ ghost use Rattle.endpoint_code.specs.Faults.{IsFaultless};
 ghost use Rattle.net_core.specs.Plain.{IsPlain};
 ghost use Rattle.net_core.specs.Views.{IsSame, IsReserved};
 ghost use Rattle.net_core.specs.Steps.{HasStepped};
+ghost use Rattle.net_core.specs.Starts.{partner_for, IsCast};
 ghost use Rattle.net_core.specs.Heads.{Stands, ended_at, why_at, steps_at, is_listed_at, joins_in, leads_at, joins_at_all};
 
 use crate::machine::Runner;
 use crate::queues::Queues;
-use chor_base::{Entry, Event, Memory, NameId, Why};
+use crate::starts::{join_all, reserve_sessions};
+use chor_base::{Entry, Event, List, Memory, NameId, Why};
 use endpoint_code::{Channel, CodeNode, Endpoints, Process};
 use std::alloc::Global;
 use std::marker::Model;
@@ -239,6 +241,75 @@ impl<'a> Network<'a> {
         let machine = &mut self.machines[pid as usize];
         let event = machine.act(pid, node, &mut self.queues);
         append(&mut self.history, event);
+    }
+
+    // The process that takes a part in a start that a process makes in its own role.
+    fn partner(&self, pid: u32, channel: NameId, own: NameId, role: NameId) -> Option<u32>
+        ensures { result ≡ partner_for self.now.endpoints self.now.state.machines channel pid own role }
+    {
+        if role == own {
+            Some(pid)
+        } else {
+            self.joiner(channel, role)
+        }
+    }
+
+    // Each role with its process, where a process joins in each.
+    fn cast(
+        &self,
+        pid: u32,
+        channel: NameId,
+        own: NameId,
+        roles: &[NameId],
+    ) -> Result<List<(NameId, u32)>, Memory>
+        requires { absent_among self.now.endpoints self.now.state.machines channel own roles.now ≡ None }
+        ensures { IfOk result (λ parts. IsCast self.now.endpoints self.now.state.machines channel pid own roles.now parts) }
+    {
+        let mut parts = List::new(self.alloc);
+        for role in roles {
+            let Some(partner) = self.partner(pid, channel, own, *role) else {
+                unreachable!()
+            };
+            parts.push((*role, partner))?;
+        }
+        Ok(parts)
+    }
+
+    // Starts a session on the channel that a process joins, with the least partners.
+    fn start(&mut self, pid: u32) -> Result<(), Memory>
+        requires there { pid < length self.old.state.machines }
+        requires steps { steps_at self.old.endpoints self.old.state pid ≡ true }
+        requires joins { joins_at_all self.old.endpoints self.old.state pid ≡ true }
+        requires fits { self.old.state.sid + 1 < 2 ^ 32 }
+        ensures ok { OnOk result (HasStepped self.old pid self.new) }
+        ensures err { OnErr result (IsSame self.old self.new) }
+    {
+        let CodeNode::Join(channel, own, _, _) = self.node(pid) else {
+            unreachable!()
+        };
+        let endpoints = self.endpoints;
+        let Some(found) = channel_named(endpoints.channels.as_slice(), *channel) else {
+            unreachable!()
+        };
+        let parts = self.cast(pid, *channel, *own, found.active.as_slice())?;
+        self.history.reserve(1)?;
+        reserve_sessions(self.machines.as_mut_slice(), parts.as_slice())?;
+        let sid = self.sid;
+        join_all(
+            endpoints,
+            self.machines.as_mut_slice(),
+            *channel,
+            sid,
+            parts.as_slice(),
+        );
+        self.sid = sid + 1;
+        let event = Event::Start {
+            channel: *channel,
+            sid,
+            parts,
+        };
+        append(&mut self.history, event);
+        Ok(())
     }
 }
 
