@@ -1,19 +1,22 @@
 -- The fields of a network and what contracts see of it.
-use Rattle.std.proofs.Common.{◌≡◌, ℕ, ◌<◌, ◌++◌, ◌∷◌, [], Bool, true, List, length, get_or, sym, ap, ◌∙◌, subst, Some, None, arith}
+use Rattle.std.proofs.Common.{◌≡◌, ℕ, suc, ◌<◌, ◌++◌, ◌∷◌, [], Bool, true, List, length, get_or, sym, ap, ◌∙◌, subst, Some, None, arith}
 use Rattle.std.specs.Prelude.{slice_get, map}
 use Rattle.std.proofs.lemmas.List.{length-map}
+use Rattle.chor_base.specs.declared.names.NameId.{NameId}
 use Rattle.chor_base.specs.declared.event.Event.{Event}
+use Rattle.chor_base.specs.declared.event.Event.TheVariants as event
 use Rattle.chor_base.specs.declared.event.Entry.{Entry}
 use Rattle.endpoint_code.specs.declared.code.CodeNode.{CodeNode}
 use Rattle.endpoint_code.specs.declared.endpoints.Endpoints.{Endpoints}
 use Rattle.endpoint_code.specs.Network.{Machine, NetworkState, place_of}
 use Rattle.endpoint_code.specs.Scheduled.{Chooses}
 use Rattle.net_core.specs.declared.machine.Runner.{Runner}
-use Rattle.net_core.specs.Lanes.{QueuesView}
+use Rattle.net_core.specs.Lanes.{QueuesView, loads_in}
 use Rattle.net_core.specs.Machines.{standing_of}
 use Rattle.net_core.specs.Heads.{Stands}
 use Rattle.net_core.specs.Views.{NetworkView, IsSame, state_of}
-use Rattle.net_core.specs.Steps.{HasStepped}
+use Rattle.net_core.specs.Steps.{HasStepped, HasBegun}
+use Rattle.net_core.specs.Starts.{Joined}
 use Rattle.net_core.proofs.Scopes.{runner_at}
 
 abbrev pub fields : Endpoints → List Runner → QueuesView → ℕ → List Entry → List Bool → NetworkView
@@ -45,3 +48,7 @@ module _ {e : Endpoints} (ms : List Runner) (q : QueuesView) {sid : ℕ} {h : Li
 
   pub same_but_room : (new : NetworkView) → new.endpoints ≡ e → new.state ≡ state_of ms q sid → new.history ≡ h → IsSame v new
   same_but_room new a b d = subst (λ (w : NetworkView). IsSame w new) is (record { endpoints = a; state = b; history = d })
+
+  pub has_begun : (new : NetworkView) (c : NameId) (parts : List (NameId × ℕ)) (ns : List Machine) → new.endpoints ≡ e → new.state ≡ record { machines = ns; queues = loads_in q.lanes; sid = suc sid } → new.history ≡ h ++ record { worker = 0; event = event.Start c sid parts } ∷ [] → Joined e c sid (map standing_of ms) parts ns → HasBegun v c parts new
+  has_begun new c parts ns a b d joined =
+      subst (λ (w : NetworkView). HasBegun w c parts new) is (record { machines = ns; joined = joined; becomes = record { endpoints = a; state = b; history = d } })

@@ -6,3 +6,5 @@ pub mod Fields
 pub mod Rooms
 pub mod Acts
 pub mod Joins
+pub mod Casts
+pub mod Begins

@@ -4,5 +4,5 @@ pub mod Bound
 pub mod Machines
 pub mod Views
 pub mod Heads
-pub mod Steps
 pub mod Starts
+pub mod Steps

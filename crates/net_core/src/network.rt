@@ -5,13 +5,13 @@ ghost use Rattle.std.specs.Prelude.{map};
 ghost use Rattle.std.specs.Option.{option_copied};
 ghost use Rattle.endpoint_code.specs.Network.{first_state, channel_of, standing_all};
 ghost use Rattle.net_core.specs.Machines.{standing_of};
-ghost use Rattle.endpoint_code.specs.NetworkRuns.{all_ended, absent_on, is_joined};
+ghost use Rattle.endpoint_code.specs.NetworkRuns.{all_ended, absent_among, absent_on, is_joined};
 ghost use Rattle.endpoint_code.specs.Scheduled.{least_joiner};
 ghost use Rattle.endpoint_code.specs.Faults.{IsFaultless};
 ghost use Rattle.net_core.specs.Plain.{IsPlain};
 ghost use Rattle.net_core.specs.Views.{IsSame, IsReserved};
-ghost use Rattle.net_core.specs.Steps.{HasStepped};
-ghost use Rattle.net_core.specs.Starts.{partner_for, IsCast};
+ghost use Rattle.net_core.specs.Steps.{HasStepped, HasBegun};
+ghost use Rattle.net_core.specs.Starts.{partner_for, IsCast, AllJoin, AreApart};
 ghost use Rattle.net_core.specs.Heads.{Stands, ended_at, why_at, steps_at, is_listed_at, joins_in, leads_at, joins_at_all};
 
 use crate::machine::Runner;
@@ -292,19 +292,30 @@ impl<'a> Network<'a> {
             unreachable!()
         };
         let parts = self.cast(pid, *channel, *own, found.active.as_slice())?;
+        self.begin(*channel, parts)
+    }
+
+    // Starts a session on a channel with these processes.
+    fn begin(&mut self, channel: NameId, parts: List<(NameId, u32)>) -> Result<(), Memory>
+        requires joins { AllJoin self.old.endpoints self.old.state.machines channel parts }
+        requires apart { AreApart parts }
+        requires fits { self.old.state.sid + 1 < 2 ^ 32 }
+        ensures ok { OnOk result (HasBegun self.old channel parts self.new) }
+        ensures err { OnErr result (IsSame self.old self.new) }
+    {
         self.history.reserve(1)?;
         reserve_sessions(self.machines.as_mut_slice(), parts.as_slice())?;
         let sid = self.sid;
         join_all(
-            endpoints,
+            self.endpoints,
             self.machines.as_mut_slice(),
-            *channel,
+            channel,
             sid,
             parts.as_slice(),
         );
         self.sid = sid + 1;
         let event = Event::Start {
-            channel: *channel,
+            channel,
             sid,
             parts,
         };
