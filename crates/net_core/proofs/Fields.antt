@@ -1,6 +1,6 @@
 -- The fields of a network and what contracts see of it.
-use Rattle.std.proofs.Common.{◌≡◌, ℕ, suc, ◌<◌, ◌++◌, ◌∷◌, [], Bool, true, List, length, get_or, sym, ap, ◌∙◌, subst, Some, None, arith}
-use Rattle.std.specs.Prelude.{slice_get, map}
+use Rattle.std.proofs.Common.{◌≡◌, ℕ, suc, ◌<◌, ◌++◌, ◌∷◌, [], Bool, true, List, length, get_or, sym, ap, ◌∙◌, subst, refl, Some, None, arith, length-set}
+use Rattle.std.specs.Prelude.{slice_get, slice_set, map}
 use Rattle.std.proofs.lemmas.List.{length-map}
 use Rattle.chor_base.specs.declared.names.NameId.{NameId}
 use Rattle.chor_base.specs.declared.event.Event.{Event}
@@ -8,14 +8,14 @@ use Rattle.chor_base.specs.declared.event.Event.TheVariants as event
 use Rattle.chor_base.specs.declared.event.Entry.{Entry}
 use Rattle.endpoint_code.specs.declared.code.CodeNode.{CodeNode}
 use Rattle.endpoint_code.specs.declared.endpoints.Endpoints.{Endpoints}
-use Rattle.endpoint_code.specs.Network.{Machine, NetworkState, place_of}
+use Rattle.endpoint_code.specs.Network.{Machine, NetworkState, place_of, with_machines}
 use Rattle.endpoint_code.specs.Scheduled.{Chooses}
 use Rattle.net_core.specs.declared.machine.Runner.{Runner}
 use Rattle.net_core.specs.Lanes.{QueuesView, loads_in}
 use Rattle.net_core.specs.Machines.{standing_of}
 use Rattle.net_core.specs.Heads.{Stands}
 use Rattle.net_core.specs.Views.{NetworkView, IsSame, state_of}
-use Rattle.net_core.specs.Steps.{HasStepped, HasBegun}
+use Rattle.net_core.specs.Steps.{HasStepped, HasBegun, HasGrown}
 use Rattle.net_core.specs.Starts.{Joined}
 use Rattle.net_core.proofs.Scopes.{runner_at}
 
@@ -35,6 +35,20 @@ place_there e ms q sid p r node s lt h =
     subst (λ (m : Machine). place_of e m ≡ Some (record { node = node; sessions = m.sessions })) same s.place
 
 
+length-with_machines : (ms : List Machine) (js : List (ℕ × Machine)) → length (with_machines ms js) ≡ length ms
+length-with_machines ms [] = refl
+length-with_machines ms (j ∷ js) = length-with_machines (slice_set ms j.0 j.1) js ∙ length-set ms j.0 j.1
+
+-- a start draws one session number and no process number
+pub grown_begun : (old : NetworkView) (c : NameId) (parts : List (NameId × ℕ)) (new : NetworkView) → HasBegun old c parts new → HasGrown old new
+grown_begun old c parts new h = record {
+  sid = (let a : new.state.sid ≡ suc old.state.sid = ap (λ (n : NetworkState). n.sid) h.becomes.state in omega arith);
+  machines = (
+      let a : length new.state.machines ≡ length h.machines = ap (λ (n : NetworkState). length n.machines) h.becomes.state in
+      let b : length h.machines ≡ length old.state.machines = sym (ap length h.joined.placed) ∙ length-with_machines old.state.machines h.joined.joining in
+      omega arith);
+}
+
 module _ {e : Endpoints} (ms : List Runner) (q : QueuesView) {sid : ℕ} {h : List Entry} {res : List Bool} {v : NetworkView} (is : fields e ms q sid h res ≡ v) where
   pub within : (p : ℕ) → p < length v.state.machines → p < length ms
   within p lt = let k = ap (λ (w : NetworkView). length w.state.machines) is in omega (arith, k, length-map ms standing_of)
@@ -52,3 +66,16 @@ module _ {e : Endpoints} (ms : List Runner) (q : QueuesView) {sid : ℕ} {h : Li
   pub has_begun : (new : NetworkView) (c : NameId) (parts : List (NameId × ℕ)) (ns : List Machine) → new.endpoints ≡ e → new.state ≡ record { machines = ns; queues = loads_in q.lanes; sid = suc sid } → new.history ≡ h ++ record { worker = 0; event = event.Start c sid parts } ∷ [] → Joined e c sid (map standing_of ms) parts ns → HasBegun v c parts new
   has_begun new c parts ns a b d joined =
       subst (λ (w : NetworkView). HasBegun w c parts new) is (record { machines = ns; joined = joined; becomes = record { endpoints = a; state = b; history = d } })
+
+  pub grown_put : (new : NetworkView) (p : ℕ) (t : Runner) (k : QueuesView) → new.state ≡ state_of (slice_set ms p t) k sid → HasGrown v new
+  grown_put new p t k a =
+      subst (λ (w : NetworkView). HasGrown w new) is
+          (record {
+            sid = (let b : new.state.sid ≡ sid = ap (λ (n : NetworkState). n.sid) a in omega arith);
+            machines = (
+                let b : length new.state.machines ≡ length (map standing_of (slice_set ms p t)) = ap (λ (n : NetworkState). length n.machines) a in
+                let d = length-map (slice_set ms p t) standing_of in
+                let f = length-map ms standing_of in
+                let g = length-set ms p t in
+                omega arith);
+          })

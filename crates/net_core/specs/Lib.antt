@@ -6,3 +6,4 @@ pub mod Views
 pub mod Heads
 pub mod Starts
 pub mod Steps
+pub mod Picks

@@ -10,10 +10,11 @@ ghost use Rattle.endpoint_code.specs.Scheduled.{least_joiner};
 ghost use Rattle.endpoint_code.specs.Faults.{IsFaultless};
 ghost use Rattle.net_core.specs.Plain.{IsPlain};
 ghost use Rattle.net_core.specs.Views.{IsSame, IsReserved};
-ghost use Rattle.net_core.specs.Steps.{HasStepped, HasBegun};
+ghost use Rattle.net_core.specs.Steps.{HasStepped, HasBegun, HasGrown, FitsMore, Answers};
 ghost use Rattle.net_core.specs.Starts.{partner_for, IsCast, AllJoin, AreApart};
 ghost use Rattle.net_core.specs.Heads.{Stands, ended_at, why_at, steps_at, is_listed_at, joins_in, leads_at, joins_at_all};
 
+use crate::answer::Step;
 use crate::machine::Runner;
 use crate::queues::Queues;
 use crate::starts::{join_all, reserve_sessions};
@@ -100,14 +101,14 @@ impl<'a> Network<'a> {
     }
 
     // How many processes there are.
-    fn count(&self) -> u32
+    pub(crate) fn count(&self) -> u32
         ensures { result ≡ length self.now.state.machines }
     {
         self.machines.len() as u32
     }
 
     // Whether a process has ended.
-    fn ended(&self, pid: u32) -> bool
+    pub(crate) fn ended(&self, pid: u32) -> bool
         requires { pid < length self.now.state.machines }
         ensures { result ≡ ended_at self.now.endpoints self.now.state pid }
     {
@@ -207,7 +208,7 @@ impl<'a> Network<'a> {
     }
 
     // Whether the pick rule may take a process.
-    fn is_listed(&self, pid: u32) -> bool
+    pub(crate) fn is_listed(&self, pid: u32) -> bool
         requires { pid < length self.now.state.machines }
         ensures { result ≡ is_listed_at self.now.endpoints self.now.state pid }
     {
@@ -235,12 +236,57 @@ impl<'a> Network<'a> {
         requires steps { steps_at self.old.endpoints self.old.state pid ≡ true }
         requires alone { joins_at_all self.old.endpoints self.old.state pid ≡ false }
         requires room { IsReserved self.old pid }
-        ensures { HasStepped self.old pid self.new }
+        ensures stepped { HasStepped self.old pid self.new }
+        ensures grown { HasGrown self.old self.new }
     {
         let node = self.node(pid);
         let machine = &mut self.machines[pid as usize];
         let event = machine.act(pid, node, &mut self.queues);
         append(&mut self.history, event);
+    }
+
+    // Whether a process stands where it joins a session.
+    fn is_joining(&self, pid: u32) -> bool
+        requires { pid < length self.now.state.machines }
+        ensures { result ≡ joins_at_all self.now.endpoints self.now.state pid }
+    {
+        matches!(self.node(pid), CodeNode::Join(_, _, _, _))
+    }
+
+    /// One step of a process. A start takes the least process that joins in each other active role.
+    pub fn step(&mut self, pid: u32) -> Step
+        requires there { pid < length self.old.state.machines }
+        requires fits { FitsMore self.old 1 }
+        ensures { Answers self.old pid result self.new }
+    {
+        if self.ended(pid) {
+            return Step::Ended;
+        }
+        if let Some(why) = self.waiting(pid) {
+            return Step::Waits(why);
+        }
+        match self.go(pid) {
+            Ok(()) => Step::Did,
+            Err(_) => Step::Memory,
+        }
+    }
+
+    // The event of a process that can step.
+    fn go(&mut self, pid: u32) -> Result<(), Memory>
+        requires there { pid < length self.old.state.machines }
+        requires fits { FitsMore self.old 1 }
+        requires steps { steps_at self.old.endpoints self.old.state pid ≡ true }
+        ensures ok { OnOk result (HasStepped self.old pid self.new) }
+        ensures grown { OnOk result (HasGrown self.old self.new) }
+        ensures room { OnErr result (IsReserved self.old pid → joins_at_all self.old.endpoints self.old.state pid ≡ true) }
+        ensures same { OnErr result (IsSame self.old self.new) }
+    {
+        if self.is_joining(pid) {
+            return self.start(pid);
+        }
+        self.reserve(pid)?;
+        self.act(pid);
+        Ok(())
     }
 
     // The process that takes a part in a start that a process makes in its own role.
@@ -282,6 +328,7 @@ impl<'a> Network<'a> {
         requires joins { joins_at_all self.old.endpoints self.old.state pid ≡ true }
         requires fits { self.old.state.sid + 1 < 2 ^ 32 }
         ensures ok { OnOk result (HasStepped self.old pid self.new) }
+        ensures grown { OnOk result (HasGrown self.old self.new) }
         ensures err { OnErr result (IsSame self.old self.new) }
     {
         let CodeNode::Join(channel, own, _, _) = self.node(pid) else {

@@ -1,7 +1,7 @@
 use Rattle.std.proofs.Common.{sym, ap, subst, refl, ◌≡◌, true, false}
 use Rattle.net_core.specs.Heads.{steps_at, joins_at_all}
 use Rattle.net_core.specs.Views.{NetworkView}
-use Rattle.net_core.proofs.Fields.{within, stands_in, stepped}
+use Rattle.net_core.proofs.Fields.{within, stands_in, stepped, grown_put}
 use Rattle.net_core.proofs.Acts.{goes_freely, sound_after, alone_chooses, acts_by_itself}
 use Rattle.net_core.proofs.network.Network.act.Goals as goal
 
@@ -23,8 +23,8 @@ invariant_of-self c =
         (acts_by_itself c.args.self.now.endpoints c.args.self.now.state p c.node-node.result.now c.node-node.ensures c.requires.steps c.requires.alone)
         c.act-event.ensures.goes
 
-pub returns : goal.returns
-returns c =
+pub returns-clause-stepped : goal.returns-clause-stepped
+returns-clause-stepped c =
     let i = c.self.inside in
     let p = c.args.pid in
     stepped i.machines.items i.queues c.self.view_is _ p c.act-event.result _ refl refl c.append.ensures
@@ -32,3 +32,6 @@ returns c =
         (stands_in i.machines.items i.queues c.self.view_is p _ c.node-node.ensures) (within i.machines.items i.queues c.self.view_is p c.requires.there) c.index_mut-machine.ensures.value
         (acts_by_itself c.args.self.now.endpoints c.args.self.now.state p c.node-node.result.now c.node-node.ensures c.requires.steps c.requires.alone)
         c.act-event.ensures.acts)
+
+pub returns-clause-grown : goal.returns-clause-grown
+returns-clause-grown c = grown_put c.self.inside.machines.items c.self.inside.queues c.self.view_is _ c.args.pid c.act-event.new.self c.act-event.new.queues refl

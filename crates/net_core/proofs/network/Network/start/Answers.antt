@@ -12,6 +12,7 @@ use Rattle.net_core.specs.Heads.{Stands}
 use Rattle.net_core.specs.Views.{NetworkView, Becomes}
 use Rattle.net_core.specs.Steps.{HasStepped, HasBegun}
 use Rattle.net_core.proofs.Lanes.{on_ok}
+use Rattle.net_core.proofs.Fields.{grown_begun}
 use Rattle.net_core.proofs.Casts.{cast_joins, cast_apart}
 use Rattle.net_core.proofs.Begins.{stands_joining, channel_distinct, begins}
 use Rattle.net_core.proofs.network.Network.start.Goals as goal
@@ -56,3 +57,6 @@ returns-clause-ok c =
                       (subst (λ (w : NetworkView). IsPlain w.endpoints) c.self.view_is c.self.invariant.plain) found cast h.joined;
             })
         c.begin.ensures.ok
+
+pub returns-clause-grown : goal.returns-clause-grown
+returns-clause-grown c = on_ok c.begin.result (grown_begun c.args.self.now c.in-Join.channel c.in_ok-parts.parts c.begin.new.self) c.begin.ensures.ok

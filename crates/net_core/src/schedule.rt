@@ -1,0 +1,86 @@
+//! Runs by the pick rule.
+
+ghost use Rattle.std.specs.Prelude.{◌≡◌, ◌≢◌, ◌<◌, ◌≤◌, ◌+◌, ◌-◌, ◌%◌, ◌^◌, [], length, None, Some, ◌↔◌, true, slice_get};
+ghost use Rattle.endpoint_code.specs.NetworkRuns.{none_can_step};
+ghost use Rattle.endpoint_code.specs.Scheduled.{listed, picked, first_waiting};
+ghost use Rattle.net_core.specs.Steps.{FitsMore};
+ghost use Rattle.net_core.specs.Picks.{waiting_at};
+
+use crate::network::Network;
+
+// The place of what the seed picks among so many after so many events.
+fn place_of_pick(seed: u64, events: u64, count: u64) -> u64
+    requires positive { 0 < count }
+    requires small { seed < 2 ^ 32 }
+    requires few { events < 2 ^ 63 }
+    ensures place { result ≡ (seed + events) % count }
+    ensures within { result < count }
+{
+    (seed + events) % count
+}
+
+impl Network<'_> {
+    // How many events there are.
+    fn events(&self) -> u64
+        ensures events { result ≡ length self.now.history }
+        ensures few { result < 2 ^ 63 }
+    {
+        self.history().len() as u64
+    }
+
+    // How many processes the pick rule may take.
+    fn listed_count(&self) -> u64
+        ensures { result ≡ length (listed self.now.endpoints None self.now.state) }
+    {
+        let mut count = 0;
+        for pid in 0..self.count() {
+            if self.is_listed(pid) {
+                count += 1;
+            }
+        }
+        count
+    }
+
+    // The process at a place among those that the pick rule may take.
+    fn listed_at(&self, place: u64) -> Option<u32>
+        ensures { result ≡ slice_get (listed self.now.endpoints None self.now.state) place }
+    {
+        let mut left = place;
+        for pid in 0..self.count() {
+            if self.is_listed(pid) {
+                if left == 0 {
+                    return Some(pid);
+                }
+                left -= 1;
+            }
+        }
+        None
+    }
+
+    /// The process that the pick rule takes: of those that can step, in order, number
+    /// `(seed + events so far) mod count`. Of those that join, only one in its channel's first
+    /// active role is counted.
+    pub fn pick(&self, seed: u64) -> Option<u32>
+        requires { seed < 2 ^ 32 }
+        ensures pick { result ≡ picked self.now.endpoints None seed (length self.now.history) self.now.state }
+        ensures none { (result ≡ None) ↔ (none_can_step self.now.endpoints None self.now.state self.now.state.machines ≡ true) }
+    {
+        let count = self.listed_count();
+        if count == 0 {
+            return None;
+        }
+        self.listed_at(place_of_pick(seed, self.events(), count))
+    }
+
+    // The first process that hasn't ended.
+    fn first_unended(&self) -> Option<u32>
+        ensures { first_waiting self.now.endpoints None self.now.state ≡ waiting_at self.now.endpoints self.now.state result }
+    {
+        for pid in 0..self.count() {
+            if !self.ended(pid) {
+                return Some(pid);
+            }
+        }
+        None
+    }
+}
