@@ -32,7 +32,7 @@ own_join c r = ap (λ (b : Bool). b && (r.0 == r.0)) (same_test c.0) ∙ same_te
 pub stands_joining : (e : Endpoints) (n : NetworkState) (p : ℕ) (c r k : NameId) (next : CodeId) → Stands e n p (Join c r k next) → joins_there (place_at e (slice_get n.machines p)) c r ≡ true
 stands_joining e n p c r k next s = ap (λ (o : Option Machine). joins_there (place_at e o) c r) s.there ∙ ap (λ (o : Option Place). joins_there o c r) s.place ∙ own_join c r
 
-scoped_join : {e : Endpoints} {id : CodeId} {bs : List NameId} → IsScoped e id bs → (c r k : NameId) (next : CodeId) → node_at e id ≡ Some (Join c r k next) → IsActive e c r
+pub scoped_join : {e : Endpoints} {id : CodeId} {bs : List NameId} → IsScoped e id bs → (c r k : NameId) (next : CodeId) → node_at e id ≡ Some (Join c r k next) → IsActive e c r
 scoped_join {e} (joins {next} {c = d} {r = q} {k = l} h a u s) c r k m f =
     let one : d ≡ c = cc in
     let two : q ≡ r = cc in

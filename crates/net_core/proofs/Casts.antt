@@ -91,7 +91,7 @@ same_role (Some p) c r s h k = at_node p.node h k
     at_node (Call f o ss) a b' = absurd cc
     at_node End a b' = absurd cc
 
-either_false : (a b : Bool) → (a || b) ≡ false → (a ≡ false) × (b ≡ false)
+pub either_false : (a b : Bool) → (a || b) ≡ false → (a ≡ false) × (b ≡ false)
 either_false true b h = absurd cc
 either_false false b h = (refl, h)
 

@@ -8,3 +8,4 @@ pub mod Acts
 pub mod Joins
 pub mod Casts
 pub mod Begins
+pub mod Leaders

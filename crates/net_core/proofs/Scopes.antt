@@ -2,6 +2,7 @@
 use Rattle.std.proofs.Common.{◌≡◌, ℕ, zero, suc, ◌+◌, ◌<◌, ◌==◌, ◌&&◌, ◌||◌, Bool, true, false, cond, List, [], ◌∷◌, ◌++◌, length, get_or, refl, sym, ap, ◌∙◌, subst, Option, Some, None, arith, is_some, ◌^◌}
 use Rattle.std.specs.Prelude.{slice_get, All, map}
 use Rattle.std.proofs.lemmas.Option.{slice_get-get_or, get_or_from_slice_get, slice_get_within, slice_get-map}
+use Rattle.std.proofs.lemmas.List.{length-map}
 use Rattle.std.proofs.lemmas.List.Elements.{All-nil, All-cons, All-head, All-tail}
 use Rattle.chor_base.specs.declared.names.NameId.{NameId}
 use Rattle.endpoint_code.specs.declared.code.CodeId.{CodeId}
@@ -15,10 +16,10 @@ use Rattle.net_core.specs.declared.machine.Runner.{Runner}
 use Rattle.net_core.specs.Lanes.{QueuesView}
 use Rattle.net_core.specs.Plain.{is_plain, IsPlain}
 use Rattle.net_core.specs.Machines.{standing_of}
-use Rattle.net_core.specs.Heads.{Stands}
+use Rattle.net_core.specs.Heads.{Stands, EachStands}
 use Rattle.net_core.specs.Bound.{AreBound, IsBound}
 use Rattle.net_core.specs.Views.{IsSound, state_of}
-use Rattle.net_core.proofs.Turns.{all_at}
+use Rattle.net_core.proofs.Turns.{all_at, turn}
 
 -- a node stands at scoped code
 pub scoped_node : {e : Endpoints} {id : CodeId} {bs : List NameId} → IsScoped e id bs → (node : CodeNode) × (node_at e id ≡ Some node)
@@ -78,6 +79,14 @@ stands e ms q sid p r node sound lt h found = record {
   plain = all_at (λ n. is_plain n ≡ true) e.code.nodes r.at.0 node sound.plain.nodes found;
   bound = bound_at e ms p r sound lt h;
 }
+
+pub each_stands : (e : Endpoints) (ms : List Runner) (q : QueuesView) (sid : ℕ) → IsSound e (map standing_of ms) → EachStands e (state_of ms q sid)
+each_stands e ms q sid sound p lt =
+    let within : p < length ms = omega (arith, length-map ms standing_of) in
+    let t = turn ms p within in
+    let h : t.item ≡ get_or ms p t.item = sym (get_or_from_slice_get ms p t.item t.item t.there) in
+    let node = scoped_node (bound_at e ms p t.item sound within h).scoped in
+    (node.0, stands e ms q sid p t.item node.0 sound within h node.1)
 
 -- the processes at their bodies are sound
 pub first_bound : (e : Endpoints) (ps : List Process) → All (λ p. IsScoped e p.body []) ps → All (IsBound e) (standing_all ps)

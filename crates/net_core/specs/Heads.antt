@@ -1,5 +1,5 @@
 -- Where the processes of a network stand.
-use Rattle.std.specs.Prelude.{ℕ, ◌≡◌, ◌&&◌, Bool, true, false, List, Option, Some, None, slice_get, is_some}
+use Rattle.std.specs.Prelude.{ℕ, ◌≡◌, ◌<◌, length, ◌&&◌, Bool, true, false, List, Option, Some, None, slice_get, is_some}
 use Rattle.chor_base.specs.declared.names.NameId.{NameId}
 use Rattle.chor_base.specs.declared.event.Why.{Why}
 use Rattle.endpoint_code.specs.declared.code.CodeNode.{CodeNode}
@@ -19,6 +19,10 @@ pub record Stands (e : Endpoints) (n : NetworkState) (p : ℕ) (node : CodeNode)
   pub found : node_at e machine.at ≡ Some node
   pub plain : is_plain node ≡ true
   pub bound : IsBound e machine
+
+-- each process stands at a node
+abbrev pub EachStands : Endpoints → NetworkState → Type 0
+EachStands e n = (p : ℕ) → p < length n.machines → (node : CodeNode) × Stands e n p node
 
 abbrev pub ended_of : Endpoints → Option Machine → Bool
 ended_of e None = false

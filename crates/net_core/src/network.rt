@@ -12,7 +12,7 @@ ghost use Rattle.net_core.specs.Plain.{IsPlain};
 ghost use Rattle.net_core.specs.Views.{IsSame, IsReserved};
 ghost use Rattle.net_core.specs.Steps.{HasStepped, HasBegun, HasGrown, FitsMore, Answers};
 ghost use Rattle.net_core.specs.Starts.{partner_for, IsCast, AllJoin, AreApart};
-ghost use Rattle.net_core.specs.Heads.{Stands, ended_at, why_at, steps_at, is_listed_at, joins_in, leads_at, joins_at_all};
+ghost use Rattle.net_core.specs.Heads.{Stands, EachStands, ended_at, why_at, steps_at, is_listed_at, joins_in, leads_at, joins_at_all};
 
 use crate::answer::Step;
 use crate::machine::Runner;
@@ -102,7 +102,8 @@ impl<'a> Network<'a> {
 
     // How many processes there are.
     pub(crate) fn count(&self) -> u32
-        ensures { result ≡ length self.now.state.machines }
+        ensures count { result ≡ length self.now.state.machines }
+        ensures stand { EachStands self.now.endpoints self.now.state }
     {
         self.machines.len() as u32
     }

@@ -30,7 +30,8 @@ impl Network<'_> {
 
     // How many processes the pick rule may take.
     fn listed_count(&self) -> u64
-        ensures { result ≡ length (listed self.now.endpoints None self.now.state) }
+        ensures count { result ≡ length (listed self.now.endpoints None self.now.state) }
+        ensures none { result ≡ 0 → none_can_step self.now.endpoints None self.now.state self.now.state.machines ≡ true }
     {
         let mut count = 0;
         for pid in 0..self.count() {

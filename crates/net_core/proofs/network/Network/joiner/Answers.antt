@@ -7,7 +7,7 @@ pub returns-then-joins : goal.returns-then-joins
 returns-then-joins c =
     let v = c.args.self.now in
     let i = c.loop-pid.pid in
-    let within : i < length v.state.machines = omega (arith, c.count-pid-end.ensures) in
+    let within : i < length v.state.machines = omega (arith, c.count-pid-end.ensures.count) in
     sym (c.loop-pid.invariant ∙ joiner_turn v.endpoints v.state i c.args.channel c.args.role c.joins.result within c.joins.ensures
     ∙ ap (λ (b : Bool). cond b (Some i) (least_joiner v.endpoints (i + 1) (drop (i + 1) v.state.machines) c.args.channel c.args.role)) c.if-joins.true)
 
@@ -15,6 +15,6 @@ pub loop-pid-preserved : goal.loop-pid-preserved
 loop-pid-preserved c =
     let v = c.args.self.now in
     let i = c.loop-pid.pid in
-    let within : i < length v.state.machines = omega (arith, c.count-pid-end.ensures) in
+    let within : i < length v.state.machines = omega (arith, c.count-pid-end.ensures.count) in
     c.loop-pid.invariant ∙ joiner_turn v.endpoints v.state i c.args.channel c.args.role c.joins.result within c.joins.ensures
     ∙ ap (λ (b : Bool). cond b (Some i) (least_joiner v.endpoints (i + 1) (drop (i + 1) v.state.machines) c.args.channel c.args.role)) c.if-joins.false
