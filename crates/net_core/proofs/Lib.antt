@@ -9,3 +9,4 @@ pub mod Joins
 pub mod Casts
 pub mod Begins
 pub mod Leaders
+pub mod Runs

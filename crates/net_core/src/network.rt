@@ -171,7 +171,7 @@ impl<'a> Network<'a> {
     }
 
     // Why a process waits, if it does.
-    fn waiting(&self, pid: u32) -> Option<Why>
+    pub(crate) fn waiting(&self, pid: u32) -> Option<Why>
         requires { pid < length self.now.state.machines }
         ensures { result ≡ why_at self.now.endpoints self.now.state pid }
     {

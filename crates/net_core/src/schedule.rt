@@ -1,11 +1,12 @@
 //! Runs by the pick rule.
 
-ghost use Rattle.std.specs.Prelude.{◌≡◌, ◌≢◌, ◌<◌, ◌≤◌, ◌+◌, ◌-◌, ◌%◌, ◌^◌, [], length, None, Some, ◌↔◌, true, slice_get};
-ghost use Rattle.endpoint_code.specs.NetworkRuns.{none_can_step};
+ghost use Rattle.std.specs.Prelude.{◌≡◌, ◌≢◌, ◌<◌, ◌≤◌, ◌+◌, ◌-◌, ◌%◌, ◌^◌, [], length, None, Some, ◌↔◌, true, false, slice_get};
+ghost use Rattle.endpoint_code.specs.NetworkRuns.{all_ended, none_can_step};
 ghost use Rattle.endpoint_code.specs.Scheduled.{listed, picked, first_waiting};
 ghost use Rattle.net_core.specs.Steps.{FitsMore};
-ghost use Rattle.net_core.specs.Picks.{waiting_at};
+ghost use Rattle.net_core.specs.Picks.{waiting_at, Runs, Turns, IsStuck};
 
+use crate::answer::{Picked, Step};
 use crate::network::Network;
 
 // The place of what the seed picks among so many after so many events.
@@ -83,5 +84,59 @@ impl Network<'_> {
             }
         }
         None
+    }
+
+    // How a run is closed where no process can step.
+    fn stuck(&self) -> Picked
+        requires unended { all_ended self.now.endpoints self.now.state.machines ≡ false }
+        requires none { none_can_step self.now.endpoints None self.now.state self.now.state.machines ≡ true }
+        ensures { IsStuck self.now.endpoints self.now.state result }
+    {
+        let Some(pid) = self.first_unended() else {
+            unreachable!()
+        };
+        let Some(why) = self.waiting(pid) else {
+            unreachable!()
+        };
+        Picked::Stuck(pid, why)
+    }
+
+    // One event of a scheduled run, unless it is closed.
+    fn turn(&mut self, seed: u64, steps: u64) -> Option<Picked>
+        requires seed { seed < 2 ^ 32 }
+        requires fits { length self.old.history ≢ steps → FitsMore self.old 1 }
+        ensures { Turns seed steps self.old result self.new }
+    {
+        if self.finished() {
+            return Some(Picked::Ended);
+        }
+        if self.events() == steps {
+            return Some(Picked::Limit);
+        }
+        let Some(pid) = self.pick(seed) else {
+            return Some(self.stuck());
+        };
+        match self.step(pid) {
+            Step::Did => None,
+            Step::Memory => Some(Picked::Memory),
+            Step::Waits(_) => unreachable!(),
+            Step::Ended => unreachable!(),
+        }
+    }
+
+    /// Goes on by the pick rule until every process has ended, there are as many events as asked
+    /// for, or no process can step. After `Memory` the events made so far stand.
+    pub fn run_picked(&mut self, seed: u64, steps: u64) -> Picked
+        requires seed { seed < 2 ^ 32 }
+        requires few { steps ≤ 1000000 }
+        requires before { length self.old.history ≤ steps }
+        requires fits { FitsMore self.old (steps - length self.old.history) }
+        ensures { Runs seed steps self.old result self.new }
+    {
+        loop {
+            if let Some(picked) = self.turn(seed, steps) {
+                return picked;
+            }
+        }
     }
 }

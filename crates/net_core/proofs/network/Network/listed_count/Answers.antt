@@ -1,4 +1,6 @@
 use Rattle.std.proofs.Common.{◌≡◌, ◌≤◌, ◌∙◌, sym, ap, Bool, cond, None, List, drop, ◌+◌, ◌<◌, ◌∷◌, length, arith, ℕ}
+use Rattle.std.proofs.lemmas.List.{drop_all}
+use Rattle.endpoint_code.specs.Network.{Machine}
 use Rattle.endpoint_code.specs.Scheduled.{listed, listed_from}
 use Rattle.net_core.proofs.Leaders.{none_listed, empty_of_length}
 use Rattle.net_core.proofs.Turns.{listed_turn}
@@ -28,4 +30,10 @@ loop-pid-preserved c =
 pub returns-clause-none : goal.returns-clause-none
 returns-clause-none c = λ zero_count.
     let v = c.args.self.now in
-    none_listed v.endpoints v.state c.count-pid-end.ensures.stand (empty_of_length (listed v.endpoints None v.state) ?)
+    none_listed v.endpoints v.state c.count-pid-end.ensures.stand (empty_of_length (listed v.endpoints None v.state)
+        (let past : length v.state.machines ≤ c.loop-pid.pid = (let a = c.count-pid-end.ensures.count in let b = c.loop-pid-test.false in omega arith) in
+        let rest : length (listed_from v.endpoints None v.state c.loop-pid.pid (drop c.loop-pid.pid v.state.machines)) ≡ 0 =
+            ap (λ (ms : List Machine). length (listed_from v.endpoints None v.state c.loop-pid.pid ms)) (drop_all c.loop-pid.pid v.state.machines past)
+        in
+        let all : c.loop-pid.count + length (listed_from v.endpoints None v.state c.loop-pid.pid (drop c.loop-pid.pid v.state.machines)) ≡ length (listed v.endpoints None v.state) = c.loop-pid.invariant.so_far in
+        omega arith))
