@@ -1,0 +1,100 @@
+-- The start that a process makes.
+use Rattle.std.proofs.Common.{◌≡◌, ℕ, zero, suc, ◌+◌, ◌<◌, ◌≤◌, ◌==◌, ◌&&◌, ◌||◌, Bool, true, false, cond, List, [], ◌∷◌, ◌++◌, length, get_or, refl, sym, ap, ◌∙◌, subst, Option, Some, None, arith}
+use Rattle.std.specs.Prelude.{slice_get, map, All, ℤ, pos}
+use Rattle.std.proofs.lemmas.Bool.Decides.{nat_tests}
+use Rattle.std.proofs.lemmas.List.{append-nil}
+use Rattle.std.proofs.lemmas.List.Elements.{All-head, All-tail}
+use Rattle.chor_base.specs.declared.names.NameId.{NameId}
+use Rattle.chor_base.specs.declared.event.Event.{Event}
+use Rattle.chor_base.specs.declared.event.Event.TheVariants as event
+use Rattle.endpoint_code.specs.declared.code.CodeId.{CodeId}
+use Rattle.endpoint_code.specs.declared.code.CodeNode.{CodeNode}
+use Rattle.endpoint_code.specs.declared.code.CodeNode.TheVariants.{Join, Send, Recv, Pick, Branch, Throw, Catch, Set, Show, Host, If, Call, End}
+use Rattle.endpoint_code.specs.declared.endpoints.Endpoints.{Endpoints}
+use Rattle.endpoint_code.specs.declared.endpoints.Channel.{Channel}
+use Rattle.endpoint_code.specs.Network.{Machine, NetworkState, Sessions, Place, Made, Makes, node_at, place_of, place_at, channel_of, joiners, one_joiner, with_machines, served, served_parts, begun, starts, starts_with, channel_starts, PlaceAnswers, MachineAnswers}
+use Rattle.endpoint_code.specs.Network as net
+use Rattle.endpoint_code.specs.NetworkRuns.{joins_there}
+use Rattle.endpoint_code.specs.Scheduled.{Chooses, chosen_at, started, started_on}
+use Rattle.endpoint_code.specs.Faults.{IsFaultless, IsScoped, IsActive, AreDistinct, is_among, joins, sends, receives, picks, offers, gives, gains, sets, shows, asks, tests, calls, ends}
+use Rattle.net_core.specs.Plain.{IsPlain}
+use Rattle.net_core.specs.Heads.{Stands}
+use Rattle.net_core.specs.Starts.{IsCast, no_role, one_role, Joined, machines_alone}
+use Rattle.net_core.proofs.Casts.{cast_partners, cast_paired, distinct_front}
+
+same_test : (a : ℕ) → (a == a) ≡ true
+same_test a = grind (arith, nat_tests)
+
+own_join : (c r : NameId) → ((c.0 == c.0) && (r.0 == r.0)) ≡ true
+own_join c r = ap (λ (b : Bool). b && (r.0 == r.0)) (same_test c.0) ∙ same_test r.0
+
+-- a process at a join joins its channel in its role
+pub stands_joining : (e : Endpoints) (n : NetworkState) (p : ℕ) (c r k : NameId) (next : CodeId) → Stands e n p (Join c r k next) → joins_there (place_at e (slice_get n.machines p)) c r ≡ true
+stands_joining e n p c r k next s = ap (λ (o : Option Machine). joins_there (place_at e o) c r) s.there ∙ ap (λ (o : Option Place). joins_there o c r) s.place ∙ own_join c r
+
+pub scoped_join : {e : Endpoints} {id : CodeId} {bs : List NameId} → IsScoped e id bs → (c r k : NameId) (next : CodeId) → node_at e id ≡ Some (Join c r k next) → IsActive e c r
+scoped_join {e} (joins {next} {c = d} {r = q} {k = l} h a u s) c r k m f =
+    let one : d ≡ c = cc in
+    let two : q ≡ r = cc in
+    subst (λ (x : NameId). IsActive e x r) one (subst (IsActive e d) two a)
+scoped_join (sends h a s) c r k m f = absurd cc
+scoped_join (receives h a s) c r k m f = absurd cc
+scoped_join (picks h a s) c r k m f = absurd cc
+scoped_join (offers h a d s) c r k m f = absurd cc
+scoped_join (gives h a b s) c r k m f = absurd cc
+scoped_join (gains h a b s) c r k m f = absurd cc
+scoped_join (sets h s) c r k m f = absurd cc
+scoped_join (shows h s) c r k m f = absurd cc
+scoped_join (asks h s) c r k m f = absurd cc
+scoped_join (tests h s t) c r k m f = absurd cc
+scoped_join (calls h a b d s) c r k m f = absurd cc
+scoped_join (ends h) c r k m f = absurd cc
+
+-- what holds of each channel holds of the one found
+channel_has : (P : Channel → Type 0) (ks : List Channel) (c : NameId) (k : Channel) → All P ks → channel_of ks c ≡ Some k → P k
+channel_has P [] c k all h = absurd cc
+channel_has P (x ∷ ks) c k all h = go (x.name.0 == c.0) refl (λ i. channel_has P ks c k (All-tail P x ks all) i)
+  where
+    go : (b : Bool) → (x.name.0 == c.0) ≡ b → (channel_of ks c ≡ Some k → P k) → P k
+    go true e more =
+        let a : Some x ≡ Some k = sym (ap (λ (b : Bool). cond b (Some x) (channel_of ks c)) e) ∙ h in
+        let same : x ≡ k = cc in
+        subst P same (All-head P x ks all)
+    go false e more = more (sym (ap (λ (b : Bool). cond b (Some x) (channel_of ks c)) e) ∙ h)
+
+pub channel_distinct : (e : Endpoints) (c : NameId) (k : Channel) → IsFaultless e → channel_of e.channels c ≡ Some k → AreDistinct k.active
+channel_distinct e c k f h = distinct_front k.active k.serve (channel_has (λ (x : Channel). AreDistinct (x.active ++ x.serve)) e.channels c k f.names.roles h)
+
+joiners_alone : (e : Endpoints) (n : NetworkState) (c : NameId) (s : ℕ) (ps : List (NameId × ℕ)) → joiners e n c s ps ≡ joiners e (machines_alone n.machines) c s ps
+joiners_alone e n c s [] = refl
+joiners_alone e n c s (q ∷ ps) = ap (one_joiner q.1 (net.joins e (slice_get n.machines q.1) c q.0 s)) (joiners_alone e n c s ps)
+
+some_part : {e : Endpoints} {ms : List Machine} {c : NameId} {p : ℕ} {own : NameId} {rs : List NameId} {ps : List (NameId × ℕ)} → IsCast e ms c p own rs ps → (r : NameId) → is_among r rs ≡ true → (n : NetworkState) (k : Channel) → starts_with e n c k (Some ps) ≡ begun e n c k ps (joiners e n c n.sid ps)
+some_part no_role r h n k = absurd cc
+some_part (one_role a b) r h n k = refl
+
+pub begins : (e : Endpoints) (n : NetworkState) (p : ℕ) (c own l : NameId) (next : CodeId) (k : Channel) (ps : List (NameId × ℕ)) (ms : List Machine) → Stands e n p (Join c own l next) → IsPlain e → channel_of e.channels c ≡ Some k → IsCast e n.machines c p own k.active ps → Joined e c n.sid n.machines ps ms
+    → Chooses e [] None n p (event.Start c n.sid ps) (record n { machines = ms; sid = suc n.sid })
+begins e n p c own l next k ps ms s plain found cast joined =
+    let active = scoped_join s.bound.scoped c own l next s.found in
+    let same : active.0 ≡ k = (let a : Some active.0 ≡ Some k = sym active.1 ∙ found in cc) in
+    let among : is_among own k.active ≡ true = subst (λ (x : Channel). is_among own x.active ≡ true) same active.2 in
+    let serve : k.serve ≡ [] = channel_has (λ (x : Channel). x.serve ≡ []) e.channels c k plain.channels found in
+    record {
+      answer = pos 0;
+      allowed =
+          subst (λ (o : Option Machine). MachineAnswers [] e o (pos 0)) (sym s.there)
+              (subst (λ (o : Option Place). PlaceAnswers [] s.machine.vars o (pos 0)) (sym s.place) tt);
+      made =
+          ap (λ (o : Option Machine). chosen_at e None n p (pos 0) (place_at e o)) s.there
+          ∙ ap (chosen_at e None n p (pos 0)) s.place
+          ∙ ap (started_on e n p c own) found
+          ∙ ap (started e n c) (cast_partners cast)
+          ∙ ap (channel_starts e n c (map (λ q. q.1) ps)) found
+          ∙ ap (starts_with e n c k) (cast_paired cast)
+          ∙ some_part cast own among n k
+          ∙ ap (begun e n c k ps) (joiners_alone e n c n.sid ps ∙ joined.all)
+          ∙ ap (λ (rs : List NameId). Some (Makes (event.Start c n.sid (ps ++ served_parts rs (length n.machines))) (record n { machines = with_machines n.machines joined.joining ++ served e c n.sid rs; sid = suc n.sid }))) serve
+          ∙ ap (λ (qs : List (NameId × ℕ)). Some (Makes (event.Start c n.sid qs) (record n { machines = with_machines n.machines joined.joining ++ []; sid = suc n.sid }))) (append-nil ps)
+          ∙ ap (λ (ns : List Machine). Some (Makes (event.Start c n.sid ps) (record n { machines = ns; sid = suc n.sid }))) (append-nil (with_machines n.machines joined.joining) ∙ joined.placed);
+    }

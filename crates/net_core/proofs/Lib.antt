@@ -1,0 +1,12 @@
+pub mod Lanes
+pub mod Turns
+pub mod Scopes
+pub mod Heads
+pub mod Fields
+pub mod Rooms
+pub mod Acts
+pub mod Joins
+pub mod Casts
+pub mod Begins
+pub mod Leaders
+pub mod Runs

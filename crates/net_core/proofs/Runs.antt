@@ -1,0 +1,251 @@
+-- Turns and runs by the pick rule.
+use Rattle.std.proofs.Common.{◌≡◌, ℕ, zero, suc, ◌+◌, ◌-◌, ◌*◌, ◌%◌, ◌^◌, ◌<◌, ◌≤◌, ◌&&◌, Bool, true, false, cond, List, [], ◌∷◌, ◌++◌, length, refl, sym, ap, ◌∙◌, subst, Option, Some, None, arith, is_some, append_assoc, map}
+use Rattle.std.specs.Prelude.{slice_get, ◌≢◌}
+use Rattle.std.proofs.lemmas.Option.{slice_get_within, some_pair_parts}
+use Rattle.std.proofs.lemmas.List.{append-nil, length-append, length-map, map-append}
+use Rattle.std.proofs.Math.Nat.{suc-mul, one-mul}
+use Rattle.chor_base.specs.declared.event.Event.{Event}
+use Rattle.chor_base.specs.declared.event.Entry.{Entry}
+use Rattle.chor_base.specs.declared.event.Why.{Why}
+use Rattle.endpoint_code.specs.declared.endpoints.Endpoints.{Endpoints}
+use Rattle.endpoint_code.specs.Network.{Machine, NetworkState}
+use Rattle.endpoint_code.specs.NetworkRuns.{has_ended, all_ended, waits_for, can_step, none_can_step}
+use Rattle.endpoint_code.specs.Scheduled.{is_listed, listed, listed_from, listed_at, picked, picked_of, first_waiting, first_waiting_from, Chooses, Close, Closes, IsScheduled, closed}
+use Rattle.endpoint_code.specs.Scheduled as close
+use Rattle.endpoint_code.specs.Network.{place_of}
+use Rattle.net_core.specs.declared.answer.Picked.{Picked}
+use Rattle.net_core.specs.declared.answer.Picked.TheVariants.{Ended, Limit, Stuck, Memory}
+use Rattle.net_core.specs.Heads.{steps_at, steps_of, why_at, why_of, ended_at, ended_of}
+use Rattle.net_core.specs.Views.{NetworkView, IsSame}
+use Rattle.net_core.specs.Steps.{FitsMore, HasGrown, HasStepped, most_served}
+use Rattle.net_core.specs.Picks.{waiting_at, GoesOn, stays, goes, entries_of, HasRun, HasGone, Runs, HasTurned, HasClosed, Turns, IsStuck}
+use Rattle.net_core.proofs.Lanes.{both_true}
+
+-- ---- the first process that hasn't ended
+
+pub some_waiting : (e : Endpoints) (n : NetworkState) (i : ℕ) (ms : List Machine) → all_ended e ms ≡ false → first_waiting_from e None n i ms ≡ None → ⊥
+some_waiting e n i [] a h = cc
+some_waiting e n i (m ∷ ms) a h = go (has_ended e m) a h (some_waiting e n (suc i) ms)
+  where
+    go : (b : Bool) → (b && all_ended e ms) ≡ false → cond b (first_waiting_from e None n (suc i) ms) (Some (i, waits_for e None n m)) ≡ None → (all_ended e ms ≡ false → first_waiting_from e None n (suc i) ms ≡ None → ⊥) → ⊥
+    go true s k more = more s k
+    go false s k more = cc
+
+-- a machine at a place
+record Item (ms : List Machine) (i : ℕ) : Type 0 where
+  machine : Machine
+  there : slice_get ms i ≡ Some machine
+
+record FirstWaiting (e : Endpoints) (n : NetworkState) (i : ℕ) (ms : List Machine) (p : ℕ) (w : Option Why) : Type 0 where
+  place : ℕ
+  number : p ≡ i + place
+  item : Item ms place
+  unended : has_ended e item.machine ≡ false
+  why : w ≡ waits_for e None n item.machine
+
+first_found : (e : Endpoints) (n : NetworkState) (i : ℕ) (ms : List Machine) (p : ℕ) (w : Option Why) → first_waiting_from e None n i ms ≡ Some (p, w) → FirstWaiting e n i ms p w
+first_found e n i [] p w h = absurd cc
+first_found e n i (m ∷ ms) p w h = go (has_ended e m) refl h (first_found e n (suc i) ms p w)
+  where
+    go : (b : Bool) → has_ended e m ≡ b → cond b (first_waiting_from e None n (suc i) ms) (Some (i, waits_for e None n m)) ≡ Some (p, w) → (first_waiting_from e None n (suc i) ms ≡ Some (p, w) → FirstWaiting e n (suc i) ms p w) → FirstWaiting e n i (m ∷ ms) p w
+    go true s k more = let f = more k in let number : p ≡ suc i + f.place = f.number in
+        record { place = suc f.place; number = omega arith; item = record { machine = f.item.machine; there = f.item.there }; unended = f.unended; why = f.why }
+    go false s k more =
+        let parts = some_pair_parts i p (waits_for e None n m) w k in
+        let number : i ≡ p = parts.0 in
+        record { place = zero; number = omega arith; item = record { machine = m; there = refl }; unended = s; why = sym parts.1 }
+
+none_at : (e : Endpoints) (n : NetworkState) (ms : List Machine) (j : ℕ) (m : Machine) → none_can_step e None n ms ≡ true → slice_get ms j ≡ Some m → can_step e None n m ≡ false
+none_at e n [] j m h t = absurd cc
+none_at e n (x ∷ ms) j m h t = go (can_step e None n x) refl h j t (λ k i u. none_at e n ms i m k u)
+  where
+    go : (b : Bool) → can_step e None n x ≡ b → cond b false (none_can_step e None n ms) ≡ true → (i : ℕ) → slice_get (x ∷ ms) i ≡ Some m → (none_can_step e None n ms ≡ true → (i : ℕ) → slice_get ms i ≡ Some m → can_step e None n m ≡ false) → can_step e None n m ≡ false
+    go true s k i u more = absurd cc
+    go false s k zero u more = let same : x ≡ m = cc in ap (can_step e None n) (sym same) ∙ s
+    go false s k (suc i) u more = more k i u
+
+waits_some : (e : Endpoints) (n : NetworkState) (m : Machine) → has_ended e m ≡ false → can_step e None n m ≡ false → waits_for e None n m ≡ None → ⊥
+waits_some e n m u s h = let a : can_step e None n m ≡ true = ap (λ (b : Bool). cond b false (cond (is_some (waits_for e None n m)) false true)) u ∙ ap (λ (w : Option Why). cond (is_some w) false true) h in cc
+
+pub first_within : (e : Endpoints) (n : NetworkState) (p : ℕ) (w : Option Why) → first_waiting e None n ≡ Some (p, w) → p < length n.machines
+first_within e n p w h =
+    let f = first_found e n 0 n.machines p w h in
+    let within = slice_get_within n.machines f.place f.item.machine f.item.there in
+    let number : p ≡ 0 + f.place = f.number in
+    omega arith
+
+pub first_waits : (e : Endpoints) (n : NetworkState) (p : ℕ) (w : Option Why) → first_waiting e None n ≡ Some (p, w) → none_can_step e None n n.machines ≡ true → w ≡ None → ⊥
+first_waits e n p w h none absent =
+    let f = first_found e n 0 n.machines p w h in
+    waits_some e n f.item.machine f.unended (none_at e n n.machines f.place f.item.machine none f.item.there) (sym f.why ∙ absent)
+
+-- ---- the picked process
+
+picked_item : (xs : List ℕ) (k p : ℕ) → picked_of xs k ≡ Some p → (i : ℕ) × (slice_get xs i ≡ Some p)
+picked_item [] k p h = absurd cc
+picked_item (x ∷ xs) k p h = (k % length (x ∷ xs), h)
+
+record ListedItem (e : Endpoints) (n : NetworkState) (i : ℕ) (ms : List Machine) (p : ℕ) : Type 0 where
+  place : ℕ
+  number : p ≡ i + place
+  item : Item ms place
+  listed : is_listed e None n item.machine ≡ true
+
+listed_item : (e : Endpoints) (n : NetworkState) (i : ℕ) (ms : List Machine) (j p : ℕ) → slice_get (listed_from e None n i ms) j ≡ Some p → ListedItem e n i ms p
+listed_item e n i [] j p h = absurd cc
+listed_item e n i (m ∷ ms) j p h = go (is_listed e None n m) refl j h (λ k u. listed_item e n (suc i) ms k p u)
+  where
+    later : ListedItem e n (suc i) ms p → ListedItem e n i (m ∷ ms) p
+    later f = let number : p ≡ suc i + f.place = f.number in record { place = suc f.place; number = omega arith; item = record { machine = f.item.machine; there = f.item.there }; listed = f.listed }
+
+    go : (b : Bool) → is_listed e None n m ≡ b → (j : ℕ) → slice_get (cond b (i ∷ listed_from e None n (suc i) ms) (listed_from e None n (suc i) ms)) j ≡ Some p → ((k : ℕ) → slice_get (listed_from e None n (suc i) ms) k ≡ Some p → ListedItem e n (suc i) ms p) → ListedItem e n i (m ∷ ms) p
+    go true s zero u more = let same : i ≡ p = cc in record { place = zero; number = omega arith; item = record { machine = m; there = refl }; listed = s }
+    go true s (suc j) u more = later (more j u)
+    go false s j u more = later (more j u)
+
+pub picked_steps : (e : Endpoints) (n : NetworkState) (seed events p : ℕ) → picked e None seed events n ≡ Some p → (p < length n.machines) × (steps_at e n p ≡ true)
+picked_steps e n seed events p h =
+    let i = picked_item (listed e None n) (seed + events) p h in
+    let f = listed_item e n 0 n.machines i.0 p i.1 in
+    let same : f.place ≡ p = let number : p ≡ 0 + f.place = f.number in omega arith in
+    let steps : can_step e None n f.item.machine ≡ true = (both_true (can_step e None n f.item.machine) (listed_at e (place_of e f.item.machine)) f.listed).0 in
+    (subst (λ (k : ℕ). k < length n.machines) same (slice_get_within n.machines f.place f.item.machine f.item.there),
+    subst (λ (k : ℕ). steps_at e n k ≡ true) same (ap (steps_of e n) f.item.there ∙ steps))
+
+-- a process that can step neither waits nor has ended
+pub steps_no_wait : (e : Endpoints) (n : NetworkState) (p : ℕ) (w : Why) → steps_at e n p ≡ true → why_at e n p ≡ Some w → ⊥
+steps_no_wait e n p w s h = go (slice_get n.machines p) s h
+  where
+    step : (m : Machine) (a : Bool) (o : Option Why) → cond a false (cond (is_some o) false true) ≡ true → o ≡ Some w → ⊥
+    step m true o s h = cc
+    step m false None s h = cc
+    step m false (Some x) s h = cc
+
+    go : (o : Option Machine) → steps_of e n o ≡ true → why_of e n o ≡ Some w → ⊥
+    go None s h = cc
+    go (Some m) s h = step m (has_ended e m) (waits_for e None n m) s h
+
+pub steps_no_end : (e : Endpoints) (n : NetworkState) (p : ℕ) → steps_at e n p ≡ true → ended_at e n p ≡ true → ⊥
+steps_no_end e n p s h = go (slice_get n.machines p) s h
+  where
+    step : (a : Bool) (o : Option Why) → cond a false (cond (is_some o) false true) ≡ true → a ≡ true → ⊥
+    step true o s h = cc
+    step false o s h = cc
+
+    go : (o : Option Machine) → steps_of e n o ≡ true → ended_of e o ≡ true → ⊥
+    go None s h = cc
+    go (Some m) s h = step (has_ended e m) (waits_for e None n m) s h
+
+-- ---- a closed run
+
+pub stuck_closes : (seed steps : ℕ) (v : NetworkView) (r : Picked) → IsStuck v.endpoints v.state r → length v.history ≢ steps → none_can_step v.endpoints None v.state v.state.machines ≡ true → Turns seed steps v (Some r) v
+stuck_closes seed steps v Ended s k none = absurd s
+stuck_closes seed steps v Limit s k none = absurd s
+stuck_closes seed steps v (Stuck p why) s k none = record { same = record { endpoints = refl; state = refl; history = refl }; closes = close.stuck k none s }
+stuck_closes seed steps v Memory s k none = absurd s
+
+goes_more : {e : Endpoints} {seed steps : ℕ} {n m : NetworkState} {k : ℕ} {xs : List Event} → GoesOn e seed steps n k xs m → (last : NetworkState) (j p : ℕ) (x : Event) → j ≡ k + length xs → all_ended e m.machines ≡ false → j ≢ steps → picked e None seed j m ≡ Some p → Chooses e [] None m p x last → GoesOn e seed steps n k (xs ++ x ∷ []) last
+goes_more {e} {seed} {steps} {n} {m} {k} stays last j p x h a b c d =
+    let same : j ≡ k = omega arith in
+    goes a (subst (λ (i : ℕ). i ≢ steps) same b) (subst (λ (i : ℕ). picked e None seed i m ≡ Some p) same c) d stays
+goes_more {k = k} (goes {events} {x = y} {xs} s t u w rest) last j p x h a b c d = goes s t u w (goes_more rest last j p x (omega arith) a b c d)
+
+closed_by : {e : Endpoints} {seed steps : ℕ} {n m : NetworkState} {k : ℕ} {xs : List Event} → GoesOn e seed steps n k xs m → (j : ℕ) (c : Close) → j ≡ k + length xs → Closes e None steps m j c → IsScheduled e [] None seed steps n k xs m c
+closed_by {e} {steps = steps} {m = m} {k = k} stays j c h closes =
+    let same : j ≡ k = omega arith in
+    closed (subst (λ (i : ℕ). Closes e None steps m i c) same closes)
+closed_by (goes s t u w rest) j c h closes = close.goes s t u w (closed_by rest j c (omega arith) closes)
+
+-- ---- a run under way
+
+length-entries_of : (xs : List Event) → length (entries_of xs) ≡ length xs
+length-entries_of xs = length-map xs _
+
+-- what holds before each turn
+pub record Underway (seed steps : ℕ) (first now : NetworkView) : Type 0 where
+  pub gone : HasGone seed steps first now
+  pub before : length now.history ≤ steps
+  pub fits : FitsMore now (steps - length now.history)
+
+pub begun_run : (seed steps : ℕ) (v : NetworkView) → length v.history ≤ steps → FitsMore v (steps - length v.history) → Underway seed steps v v
+begun_run seed steps v le fits = record { gone = record { events = []; endpoints = refl; history = sym (append-nil v.history); run = stays }; before = le; fits = fits }
+
+events_so_far : (seed steps : ℕ) (first now : NetworkView) (g : HasGone seed steps first now) → length now.history ≡ length first.history + length g.events
+events_so_far seed steps first now g = ap length g.history ∙ length-append first.history (entries_of g.events) ∙ ap (λ (k : ℕ). length first.history + k) (length-entries_of g.events)
+
+-- so many events fit where more fit
+pub fits_fewer : (v : NetworkView) (k : ℕ) → 1 ≤ k → FitsMore v k → FitsMore v 1
+fits_fewer v zero le f = absurd (omega arith)
+fits_fewer v (suc k) le f =
+    let s : v.state.sid + suc k < 2 ^ 32 = f.sid in
+    let m : length v.state.machines + suc k * most_served v.endpoints.channels < 2 ^ 32 = f.machines in
+    record { sid = omega arith; machines = omega (arith, suc-mul k (most_served v.endpoints.channels), one-mul (most_served v.endpoints.channels)) }
+
+fits_after : (old new : NetworkView) (k : ℕ) → new.endpoints ≡ old.endpoints → HasGrown old new → FitsMore old (suc k) → FitsMore new k
+fits_after old new k same g f =
+    let s : old.state.sid + suc k < 2 ^ 32 = f.sid in
+    let t : new.state.sid ≤ old.state.sid + 1 = g.sid in
+    let m : length old.state.machines + suc k * most_served old.endpoints.channels < 2 ^ 32 = f.machines in
+    let n : length new.state.machines ≤ length old.state.machines + most_served old.endpoints.channels = g.machines in
+    let old_fits : length new.state.machines + k * most_served old.endpoints.channels < 2 ^ 32 = omega (arith, suc-mul k (most_served old.endpoints.channels)) in
+    record {
+      sid = omega arith;
+      machines = subst (λ (e : Endpoints). length new.state.machines + k * most_served e.channels < 2 ^ 32) (sym same) old_fits;
+    }
+
+pub turn_longer : (seed steps : ℕ) (old new : NetworkView) → HasTurned seed steps old new → length new.history ≡ length old.history + 1
+turn_longer seed steps old new t = ap length t.step.becomes.history ∙ length-append old.history (record { worker = 0; event = t.step.event } ∷ [])
+
+pub underway_more : (seed steps : ℕ) (first old new : NetworkView) → Underway seed steps first old → HasTurned seed steps old new → Underway seed steps first new
+underway_more seed steps first old new u t =
+    let g = u.gone in
+    let x = t.step.event in
+    let longer = turn_longer seed steps old new t in
+    let before : length old.history ≤ steps = u.before in
+    let other : length old.history ≢ steps = t.before in
+    let left : steps - length old.history ≡ suc (steps - length new.history) = omega arith in
+    let e = g.endpoints in
+    record {
+      gone = record {
+        events = g.events ++ x ∷ [];
+        endpoints = t.step.becomes.endpoints ∙ g.endpoints;
+        history =
+            t.step.becomes.history ∙ ap (λ (h : List Entry). h ++ record { worker = 0; event = x } ∷ []) g.history
+            ∙ append_assoc first.history (entries_of g.events) (record { worker = 0; event = x } ∷ [])
+            ∙ ap (λ (r : List Entry). first.history ++ r) (sym (map-append _ g.events (x ∷ [])));
+        run =
+            subst (λ (n : NetworkState). GoesOn first.endpoints seed steps first.state (length first.history) (g.events ++ x ∷ []) n) (sym t.step.becomes.state)
+                (goes_more g.run t.step.state (length old.history) t.process x (events_so_far seed steps first old g)
+                (subst (λ (p : Endpoints). all_ended p old.state.machines ≡ false) e t.open_still)
+                other
+                (subst (λ (p : Endpoints). picked p None seed (length old.history) old.state ≡ Some t.process) e t.pick)
+                (subst (λ (p : Endpoints). Chooses p [] None old.state t.process x t.step.state) e t.step.chooses));
+      };
+      before = omega arith;
+      fits = fits_after old new (steps - length new.history) t.step.becomes.endpoints t.grown (subst (FitsMore old) left u.fits);
+    }
+
+pub closed_run : (seed steps : ℕ) (first old new : NetworkView) (c : Close) → Underway seed steps first old → HasClosed steps old new c → HasRun seed steps first new c
+closed_run seed steps first old new c u h =
+    let g = u.gone in
+    record {
+      events = g.events;
+      endpoints = h.same.endpoints ∙ g.endpoints;
+      history = h.same.history ∙ g.history;
+      run =
+          subst (λ (n : NetworkState). IsScheduled first.endpoints [] None seed steps first.state (length first.history) g.events n c) (sym h.same.state)
+              (closed_by g.run (length old.history) c (events_so_far seed steps first old g) (subst (λ (e : Endpoints). Closes e None steps old.state (length old.history) c) g.endpoints h.closes));
+    }
+
+pub closes_run : (seed steps : ℕ) (first old new : NetworkView) (r : Picked) → Underway seed steps first old → Turns seed steps old (Some r) new → Runs seed steps first r new
+closes_run seed steps first old new Ended u h = closed_run seed steps first old new close.Ended u h
+closes_run seed steps first old new Limit u h = closed_run seed steps first old new close.Limit u h
+closes_run seed steps first old new (Stuck p why) u h = closed_run seed steps first old new (close.Stuck p why) u h
+closes_run seed steps first old new Memory u h =
+    let g = u.gone in
+    record {
+      events = g.events;
+      endpoints = h.endpoints ∙ g.endpoints;
+      history = h.history ∙ g.history;
+      run = subst (λ (n : NetworkState). GoesOn first.endpoints seed steps first.state (length first.history) g.events n) (sym h.state) g.run;
+    }

@@ -1,0 +1,9 @@
+pub mod Lanes
+pub mod Plain
+pub mod Bound
+pub mod Machines
+pub mod Views
+pub mod Heads
+pub mod Starts
+pub mod Steps
+pub mod Picks

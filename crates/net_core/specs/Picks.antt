@@ -1,0 +1,85 @@
+-- Runs by the pick rule.
+use Rattle.std.specs.Prelude.{ℕ, suc, ◌≡◌, ◌≢◌, ◌++◌, false, List, [], ◌∷◌, length, map, Option, Some, None}
+use Rattle.chor_base.specs.declared.event.Event.{Event}
+use Rattle.chor_base.specs.declared.event.Entry.{Entry}
+use Rattle.chor_base.specs.declared.event.Why.{Why}
+use Rattle.endpoint_code.specs.declared.endpoints.Endpoints.{Endpoints}
+use Rattle.endpoint_code.specs.Network.{NetworkState}
+use Rattle.endpoint_code.specs.NetworkRuns.{all_ended}
+use Rattle.endpoint_code.specs.Scheduled.{picked, first_waiting, Chooses, Close, Closes, IsScheduled}
+use Rattle.endpoint_code.specs.Scheduled as close
+use Rattle.net_core.specs.declared.answer.Picked.{Picked}
+use Rattle.net_core.specs.declared.answer.Picked.TheVariants.{Ended, Limit, Stuck, Memory}
+use Rattle.net_core.specs.Heads.{why_at}
+use Rattle.net_core.specs.Views.{NetworkView, IsSame}
+use Rattle.net_core.specs.Steps.{HasStepped, HasGrown}
+
+-- a process with the cause by which it waits
+abbrev pub waiting_at : Endpoints → NetworkState → Option ℕ → Option (ℕ × Option Why)
+waiting_at e n None = None
+waiting_at e n (Some p) = Some (p, why_at e n p)
+
+-- events as entries of a history without workers
+abbrev pub entries_of : List Event → List Entry
+entries_of xs = map (λ x. record { worker = 0; event = x }) xs
+
+-- From a state after so many events, these events follow by the pick rule and lead to a state, whether or not the run is closed there
+pub data GoesOn (e : Endpoints) (seed steps : ℕ) : NetworkState → ℕ → List Event → NetworkState → Type 0 where
+  stays : {n : NetworkState} {events : ℕ} → GoesOn e seed steps n events [] n
+  goes : {n m last : NetworkState} {events p : ℕ} {x : Event} {xs : List Event}
+      → all_ended e n.machines ≡ false
+      → events ≢ steps
+      → picked e None seed events n ≡ Some p
+      → Chooses e [] None n p x m
+      → GoesOn e seed steps m (suc events) xs last
+      → GoesOn e seed steps n events (x ∷ xs) last
+
+-- the history has grown by the scheduled run that is closed like this
+pub record HasRun (seed steps : ℕ) (old new : NetworkView) (c : Close) : Type 0 where
+  pub events : List Event
+  pub endpoints : new.endpoints ≡ old.endpoints
+  pub history : new.history ≡ old.history ++ entries_of events
+  pub run : IsScheduled old.endpoints [] None seed steps old.state (length old.history) events new.state c
+
+-- the history has grown by events of the scheduled run
+pub record HasGone (seed steps : ℕ) (old new : NetworkView) : Type 0 where
+  pub events : List Event
+  pub endpoints : new.endpoints ≡ old.endpoints
+  pub history : new.history ≡ old.history ++ entries_of events
+  pub run : GoesOn old.endpoints seed steps old.state (length old.history) events new.state
+
+-- What a scheduled run answers. Where there was no memory the events made so far stand
+abbrev pub Runs : ℕ → ℕ → NetworkView → Picked → NetworkView → Type 0
+Runs seed steps old Ended new = HasRun seed steps old new close.Ended
+Runs seed steps old Limit new = HasRun seed steps old new close.Limit
+Runs seed steps old (Stuck p why) new = HasRun seed steps old new (close.Stuck p why)
+Runs seed steps old Memory new = HasGone seed steps old new
+
+-- ---- one turn
+
+-- one more event by the pick rule
+pub record HasTurned (seed steps : ℕ) (old new : NetworkView) : Type 0 where
+  pub process : ℕ
+  pub open_still : all_ended old.endpoints old.state.machines ≡ false
+  pub before : length old.history ≢ steps
+  pub pick : picked old.endpoints None seed (length old.history) old.state ≡ Some process
+  pub step : HasStepped old process new
+  pub grown : HasGrown old new
+
+-- the run is closed, and nothing has changed but room
+pub record HasClosed (steps : ℕ) (old new : NetworkView) (c : Close) : Type 0 where
+  pub same : IsSame old new
+  pub closes : Closes old.endpoints None steps old.state (length old.history) c
+
+-- what one turn of a scheduled run answers
+abbrev pub Turns : ℕ → ℕ → NetworkView → Option Picked → NetworkView → Type 0
+Turns seed steps old None new = HasTurned seed steps old new
+Turns seed steps old (Some Ended) new = HasClosed steps old new close.Ended
+Turns seed steps old (Some Limit) new = HasClosed steps old new close.Limit
+Turns seed steps old (Some (Stuck p why)) new = HasClosed steps old new (close.Stuck p why)
+Turns seed steps old (Some Memory) new = IsSame old new
+
+-- the first process that hasn't ended waits for this cause
+abbrev pub IsStuck : Endpoints → NetworkState → Picked → Type 0
+IsStuck e n (Stuck p why) = first_waiting e None n ≡ Some (p, Some why)
+IsStuck e n _ = ⊥

@@ -1,0 +1,17 @@
+-- The endpoint programs that a network here runs.
+use Rattle.std.specs.Prelude.{◌≡◌, Bool, true, false, List, [], All}
+use Rattle.endpoint_code.specs.declared.code.CodeNode.{CodeNode}
+use Rattle.endpoint_code.specs.declared.code.CodeNode.TheVariants.{Join, Send, Recv, Pick, Branch, Throw, Catch, Set, Show, Host, If, Call, End}
+use Rattle.endpoint_code.specs.declared.endpoints.Endpoints.{Endpoints}
+
+abbrev pub is_plain : CodeNode → Bool
+is_plain (Join c r k next) = true
+is_plain (Send k b e next) = true
+is_plain (Recv k a x next) = true
+is_plain End = true
+is_plain _ = false
+
+-- Programs that join, send and receive values and end, without service roles
+pub record IsPlain (e : Endpoints) : Type 0 where
+  pub nodes : All (λ n. is_plain n ≡ true) e.code.nodes
+  pub channels : All (λ k. k.serve ≡ []) e.channels

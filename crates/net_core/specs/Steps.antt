@@ -1,0 +1,52 @@
+-- What a step of a network answers.
+use Rattle.std.specs.Prelude.{ℕ, suc, ◌≡◌, ◌+◌, ◌*◌, ◌^◌, ◌<◌, ◌≤◌, max, true, List, [], ◌∷◌, length, Some, None}
+use Rattle.chor_base.specs.declared.names.NameId.{NameId}
+use Rattle.chor_base.specs.declared.event.Event.{Event}
+use Rattle.chor_base.specs.declared.event.Event.TheVariants as event
+use Rattle.endpoint_code.specs.Network.{Machine, NetworkState}
+use Rattle.endpoint_code.specs.Scheduled.{Chooses}
+use Rattle.endpoint_code.specs.declared.endpoints.Channel.{Channel}
+use Rattle.net_core.specs.declared.answer.Step.{Step}
+use Rattle.net_core.specs.declared.answer.Step.TheVariants.{Did, Waits, Ended, Memory}
+use Rattle.net_core.specs.Heads.{steps_at, why_at, ended_at, joins_at_all}
+use Rattle.net_core.specs.Views.{NetworkView, Becomes, IsSame, IsReserved}
+use Rattle.net_core.specs.Starts.{Joined}
+
+-- a process has made one event, with the least partners where it starts a session
+pub record HasStepped (old : NetworkView) (p : ℕ) (new : NetworkView) : Type 0 where
+  pub event : Event
+  pub state : NetworkState
+  pub becomes : Becomes old new event state
+  pub chooses : Chooses old.endpoints [] None old.state p event state
+
+-- a session has started on channel c with these parts
+pub record HasBegun (old : NetworkView) (c : NameId) (parts : List (NameId × ℕ)) (new : NetworkView) : Type 0 where
+  pub machines : List Machine
+  pub joined : Joined old.endpoints c old.state.sid old.state.machines parts machines
+  pub becomes : Becomes old new (event.Start c old.state.sid parts) (record old.state { machines = machines; sid = suc old.state.sid })
+
+-- ---- numbers
+
+abbrev pub most_served : List Channel → ℕ
+most_served [] = 0
+most_served (k ∷ ks) = max (length k.serve) (most_served ks)
+
+-- by one event a network draws at most one session number, and at most as many process numbers as a channel has service roles
+pub record HasGrown (old new : NetworkView) : Type 0 where
+  pub sid : new.state.sid ≤ old.state.sid + 1
+  pub machines : length new.state.machines ≤ length old.state.machines + most_served old.endpoints.channels
+
+-- so many events more leave the numbers of sessions and processes below 2^32
+pub record FitsMore (v : NetworkView) (events : ℕ) : Type 0 where
+  pub sid : v.state.sid + events < 2 ^ 32
+  pub machines : length v.state.machines + events * most_served v.endpoints.channels < 2 ^ 32
+
+-- ---- a step
+
+-- What a step of a process answers: it did one event; or it waits for this cause; or it has ended; or there was no memory,
+-- which never comes where there is room for its event and it doesn't join. Other answers than Did change no more than room
+abbrev pub Answers : NetworkView → ℕ → Step → NetworkView → Type 0
+Answers old p Did new = (steps_at old.endpoints old.state p ≡ true) × HasStepped old p new × HasGrown old new
+Answers old p (Waits why) new = (why_at old.endpoints old.state p ≡ Some why) × IsSame old new
+Answers old p Ended new = (ended_at old.endpoints old.state p ≡ true) × IsSame old new
+Answers old p Memory new = (steps_at old.endpoints old.state p ≡ true) × (IsReserved old p → joins_at_all old.endpoints old.state p ≡ true) × IsSame old new

@@ -1,0 +1,58 @@
+-- What contracts see of a network.
+use Rattle.std.specs.Prelude.{ℕ, ◌≡◌, ◌<◌, ◌^◌, Bool, true, false, ◌&&◌, List, [], ◌∷◌, ◌++◌, length, map, Option, Some, None, slice_get, nat_lt, is_some, All}
+use Rattle.std.specs.FinMap as fin
+use Rattle.chor_base.specs.declared.names.NameId.{NameId}
+use Rattle.chor_base.specs.declared.event.Event.{Event}
+use Rattle.chor_base.specs.declared.event.Entry.{Entry}
+use Rattle.endpoint_code.specs.declared.code.CodeNode.{CodeNode}
+use Rattle.endpoint_code.specs.declared.endpoints.Endpoints.{Endpoints}
+use Rattle.endpoint_code.specs.Network.{Machine, NetworkState, Sessions, Place, place_of}
+use Rattle.endpoint_code.specs.Faults.{IsFaultless, IsScoped, is_among}
+use Rattle.net_core.specs.declared.machine.Runner.{Runner}
+use Rattle.net_core.specs.Lanes.{QueuesView, loads_in}
+use Rattle.net_core.specs.Plain.{IsPlain}
+use Rattle.net_core.specs.Machines.{standing_of, has_room_at}
+use Rattle.net_core.specs.Bound.{IsBound}
+
+-- the programs, the state, the events so far, and for each process whether there is room for its next event
+pub record NetworkView : Type 0 where
+  pub endpoints : Endpoints
+  pub state : NetworkState
+  pub history : List Entry
+  pub reserved : List Bool
+
+-- there is room for the next event of a process
+abbrev pub IsReserved : NetworkView → ℕ → Type 0
+IsReserved v p = slice_get v.reserved p ≡ Some true
+
+-- nothing has changed but the reserved room
+pub record IsSame (old new : NetworkView) : Type 0 where
+  pub endpoints : new.endpoints ≡ old.endpoints
+  pub state : new.state ≡ old.state
+  pub history : new.history ≡ old.history
+
+-- the network has come to a state by one event, which is now the last
+pub record Becomes (old new : NetworkView) (x : Event) (n : NetworkState) : Type 0 where
+  pub endpoints : new.endpoints ≡ old.endpoints
+  pub state : new.state ≡ n
+  pub history : new.history ≡ old.history ++ record { worker = 0; event = x } ∷ []
+
+-- ---- from the fields
+
+abbrev pub state_of : List Runner → QueuesView → ℕ → NetworkState
+state_of ms q sid = record { machines = map standing_of ms; queues = loads_in q.lanes; sid = sid }
+
+abbrev pub place_has_room : QueuesView → Runner → Option Place → Bool
+place_has_room q m None = true
+place_has_room q m (Some p) = has_room_at q m p.node
+
+-- a process has room for its next event, where so many entries more fit the history
+abbrev pub has_room : Endpoints → ℕ → QueuesView → Runner → Bool
+has_room e entries q m = nat_lt 0 entries && place_has_room q m (place_of e (standing_of m))
+
+-- the programs are without fault, there are fewer than 2^32 processes, and each knows its sessions
+pub record IsSound (e : Endpoints) (machines : List Machine) : Type 0 where
+  pub faultless : IsFaultless e
+  pub plain : IsPlain e
+  pub few : length machines < 2 ^ 32
+  pub bound : All (IsBound e) machines

@@ -1,0 +1,396 @@
+//! The network.
+
+ghost use Rattle.std.specs.Prelude.{◌≡◌, ◌<◌, ◌^◌, [], length, All, IfOk, OnOk, OnErr, IsTrue, ◌↔◌, Some, None, slice_get, IfSome, vec_len, vec_capacity, ◌++◌, ◌∷◌, true, false, ℕ, IsOk, not, ◌||◌, ◌==◌, ◌+◌};
+ghost use Rattle.std.specs.Prelude.{map};
+ghost use Rattle.std.specs.Option.{option_copied};
+ghost use Rattle.endpoint_code.specs.Network.{first_state, channel_of, standing_all};
+ghost use Rattle.net_core.specs.Machines.{standing_of};
+ghost use Rattle.endpoint_code.specs.NetworkRuns.{all_ended, absent_among, absent_on, is_joined};
+ghost use Rattle.endpoint_code.specs.Scheduled.{least_joiner};
+ghost use Rattle.endpoint_code.specs.Faults.{IsFaultless};
+ghost use Rattle.net_core.specs.Plain.{IsPlain};
+ghost use Rattle.net_core.specs.Views.{IsSame, IsReserved};
+ghost use Rattle.net_core.specs.Steps.{HasStepped, HasBegun, HasGrown, FitsMore, Answers};
+ghost use Rattle.net_core.specs.Starts.{partner_for, IsCast, AllJoin, AreApart};
+ghost use Rattle.net_core.specs.Heads.{Stands, EachStands, ended_at, why_at, steps_at, is_listed_at, joins_in, leads_at, joins_at_all};
+
+use crate::answer::Step;
+use crate::machine::Runner;
+use crate::queues::Queues;
+use crate::starts::{join_all, reserve_sessions};
+use chor_base::{Entry, Event, List, Memory, NameId, Why};
+use endpoint_code::{Channel, CodeNode, Endpoints, Process};
+use std::alloc::Global;
+use std::marker::Model;
+
+/// The processes of endpoint programs, the queues between them, and the events so far.
+#[derive(Drop)]
+pub struct Network<'a> {
+    alloc: Global,
+    endpoints: &'a Endpoints,
+    machines: Vec<Runner>,
+    queues: Queues,
+    sid: u32,
+    history: Vec<Entry>,
+}
+
+impl<'a> Model for Network<'a> {
+    ghost use Rattle.std.specs.Prelude.{map, vec_capacity, vec_len, ◌-◌};
+    ghost use Rattle.net_core.specs.Machines.{standing_of};
+    ghost use Rattle.net_core.specs.Views.{NetworkView, IsSound, state_of, has_room};
+
+    ghost Value = { NetworkView };
+
+    ghost use Rattle.endpoint_code.specs.contracts.endpoints.Endpoints as whole;
+    ghost use Rattle.std.specs.Coded.{codes};
+    ghost use Rattle.std.specs.FinMap as fin;
+
+    ghost coded = { Prim.hlevel (codes, whole.the_row.coded, fin.code) };
+
+    ghost view = { λ a. record { endpoints = a.endpoints.now; state = state_of a.machines.items a.queues a.sid; history = a.history.items; reserved = map (has_room a.endpoints.now (vec_capacity a.history - vec_len a.history) a.queues) a.machines.items } };
+
+    ghost invariant = { λ a. IsSound a.endpoints.now (map standing_of a.machines.items) };
+}
+// The processes at their bodies.
+fn standing_all(alloc: Global, processes: &[Process]) -> Result<Vec<Runner>, Memory>
+    ensures { IfOk result (λ machines. map standing_of machines.items ≡ standing_all processes.now) }
+{
+    let mut machines = Vec::new(alloc);
+    for process in processes {
+        machines.push(Runner::new(alloc, process.body))?;
+    }
+    Ok(machines)
+}
+
+impl<'a> Network<'a> {
+    /// The first state: each process at its body, and no event yet.
+    pub fn new(alloc: Global, endpoints: &'a Endpoints) -> Result<Network<'a>, Memory>
+        requires faultless { IsFaultless endpoints.now }
+        requires plain { IsPlain endpoints.now }
+        requires few { length endpoints.now.processes < 2 ^ 32 }
+        ensures endpoints { IfOk result (λ network. network.endpoints ≡ endpoints.now) }
+        ensures state { IfOk result (λ network. network.state ≡ first_state endpoints.now) }
+        ensures history { IfOk result (λ network. network.history ≡ []) }
+    {
+        let machines = standing_all(alloc, endpoints.processes.as_slice())?;
+        Ok(Network {
+            alloc,
+            endpoints,
+            machines,
+            queues: Queues::new(alloc),
+            sid: 0,
+            history: Vec::new(alloc),
+        })
+    }
+
+    /// The events so far.
+    pub fn history(&self) -> &[Entry]
+        ensures { result.now ≡ self.now.history }
+    {
+        self.history.as_slice()
+    }
+
+    // The node at which a process stands.
+    fn node(&self, pid: u32) -> &'a CodeNode
+        requires { pid < length self.now.state.machines }
+        ensures { Stands self.now.endpoints self.now.state pid result.now }
+    {
+        let endpoints = self.endpoints;
+        let machine = &self.machines[pid as usize];
+        endpoints.code.nodes.at(machine.at.0 as usize)
+    }
+
+    // How many processes there are.
+    pub(crate) fn count(&self) -> u32
+        ensures count { result ≡ length self.now.state.machines }
+        ensures stand { EachStands self.now.endpoints self.now.state }
+    {
+        self.machines.len() as u32
+    }
+
+    // Whether a process has ended.
+    pub(crate) fn ended(&self, pid: u32) -> bool
+        requires { pid < length self.now.state.machines }
+        ensures { result ≡ ended_at self.now.endpoints self.now.state pid }
+    {
+        matches!(self.node(pid), CodeNode::End)
+    }
+    /// Whether every process has ended.
+    pub fn finished(&self) -> bool
+        ensures { result ≡ all_ended self.now.endpoints self.now.state.machines }
+    {
+        for pid in 0..self.count() {
+            if !self.ended(pid) {
+                return false;
+            }
+        }
+        true
+    }
+
+    // Whether a process stands where it joins a channel in a role.
+    fn joins(&self, pid: u32, channel: NameId, role: NameId) -> bool
+        requires { pid < length self.now.state.machines }
+        ensures { result ≡ joins_in self.now.endpoints self.now.state pid channel role }
+    {
+        match self.node(pid) {
+            CodeNode::Join(joined, own, _, _) => *joined == channel && *own == role,
+            _ => false,
+        }
+    }
+    // The least process that joins a channel in a role.
+    fn joiner(&self, channel: NameId, role: NameId) -> Option<u32>
+        ensures { result ≡ least_joiner self.now.endpoints 0 self.now.state.machines channel role }
+    {
+        for pid in 0..self.count() {
+            if self.joins(pid, channel, role) {
+                return Some(pid);
+            }
+        }
+        None
+    }
+
+    // Whether nobody joins in a role other than a process's own.
+    #[tactic(auto, using(crate::proofs::Heads::joined_least))]
+    fn is_missing(&self, channel: NameId, own: NameId, role: NameId) -> bool
+        ensures { result ≡ not ((role.0 == own.0) || is_joined self.now.endpoints self.now.state.machines channel role) }
+    {
+        role != own && self.joiner(channel, role).is_none()
+    }
+
+    // The first active role of a channel, other than a process's own, that nobody joins.
+    fn absent(&self, channel: NameId, own: NameId) -> Option<Why>
+        ensures { result ≡ absent_on self.now.endpoints self.now.state.machines channel own (channel_of self.now.endpoints.channels channel) }
+    {
+        let roles = channel_named(self.endpoints.channels.as_slice(), channel)?.active.as_slice();
+        for role in roles {
+            if self.is_missing(channel, own, *role) {
+                return Some(Why::Absent(channel, *role));
+            }
+        }
+        None
+    }
+
+    // Why a process waits, if it does.
+    pub(crate) fn waiting(&self, pid: u32) -> Option<Why>
+        requires { pid < length self.now.state.machines }
+        ensures { result ≡ why_at self.now.endpoints self.now.state pid }
+    {
+        match self.node(pid) {
+            CodeNode::Join(channel, role, _, _) => self.absent(*channel, *role),
+            node => {
+                let machine = &self.machines[pid as usize];
+                machine.waiting(node, &self.queues)
+            }
+        }
+    }
+
+    // Whether a process can step.
+    fn can_step(&self, pid: u32) -> bool
+        requires { pid < length self.now.state.machines }
+        ensures { result ≡ steps_at self.now.endpoints self.now.state pid }
+    {
+        !self.ended(pid) && self.waiting(pid).is_none()
+    }
+
+    // Whether a process that joins does so in its channel's first active role.
+    fn leads(&self, pid: u32) -> bool
+        requires { pid < length self.now.state.machines }
+        ensures { result ≡ leads_at self.now.endpoints self.now.state pid }
+    {
+        match self.node(pid) {
+            CodeNode::Join(channel, role, _, _) => {
+                match channel_named(self.endpoints.channels.as_slice(), *channel) {
+                    Some(channel) => channel.active.as_slice().first() == Some(role),
+                    None => false,
+                }
+            }
+            _ => true,
+        }
+    }
+
+    // Whether the pick rule may take a process.
+    pub(crate) fn is_listed(&self, pid: u32) -> bool
+        requires { pid < length self.now.state.machines }
+        ensures { result ≡ is_listed_at self.now.endpoints self.now.state pid }
+    {
+        self.can_step(pid) && self.leads(pid)
+    }
+
+    /// Takes memory for the next event of a process, if that event isn't the start of a session.
+    /// The room lasts until a call changes the network.
+    pub fn reserve(&mut self, pid: u32) -> Result<(), Memory>
+        requires { pid < length self.old.state.machines }
+        ensures same { IsSame self.old self.new }
+        ensures ok { OnOk result (IsReserved self.new pid) }
+        ensures kept { (p : ℕ) → IsReserved self.old p → IsReserved self.new p }
+        ensures succeeds { IsReserved self.old pid → IsOk result }
+    {
+        let node = self.node(pid);
+        self.history.reserve(1)?;
+        let machine = &mut self.machines[pid as usize];
+        machine.reserve(node, &mut self.queues)
+    }
+
+    // Makes the event of a process that can step and doesn't join.
+    fn act(&mut self, pid: u32)
+        requires there { pid < length self.old.state.machines }
+        requires steps { steps_at self.old.endpoints self.old.state pid ≡ true }
+        requires alone { joins_at_all self.old.endpoints self.old.state pid ≡ false }
+        requires room { IsReserved self.old pid }
+        ensures stepped { HasStepped self.old pid self.new }
+        ensures grown { HasGrown self.old self.new }
+    {
+        let node = self.node(pid);
+        let machine = &mut self.machines[pid as usize];
+        let event = machine.act(pid, node, &mut self.queues);
+        append(&mut self.history, event);
+    }
+
+    // Whether a process stands where it joins a session.
+    fn is_joining(&self, pid: u32) -> bool
+        requires { pid < length self.now.state.machines }
+        ensures { result ≡ joins_at_all self.now.endpoints self.now.state pid }
+    {
+        matches!(self.node(pid), CodeNode::Join(_, _, _, _))
+    }
+
+    /// One step of a process. A start takes the least process that joins in each other active role.
+    pub fn step(&mut self, pid: u32) -> Step
+        requires there { pid < length self.old.state.machines }
+        requires fits { FitsMore self.old 1 }
+        ensures { Answers self.old pid result self.new }
+    {
+        if self.ended(pid) {
+            return Step::Ended;
+        }
+        if let Some(why) = self.waiting(pid) {
+            return Step::Waits(why);
+        }
+        match self.go(pid) {
+            Ok(()) => Step::Did,
+            Err(_) => Step::Memory,
+        }
+    }
+
+    // The event of a process that can step.
+    fn go(&mut self, pid: u32) -> Result<(), Memory>
+        requires there { pid < length self.old.state.machines }
+        requires fits { FitsMore self.old 1 }
+        requires steps { steps_at self.old.endpoints self.old.state pid ≡ true }
+        ensures ok { OnOk result (HasStepped self.old pid self.new) }
+        ensures grown { OnOk result (HasGrown self.old self.new) }
+        ensures room { OnErr result (IsReserved self.old pid → joins_at_all self.old.endpoints self.old.state pid ≡ true) }
+        ensures same { OnErr result (IsSame self.old self.new) }
+    {
+        if self.is_joining(pid) {
+            return self.start(pid);
+        }
+        self.reserve(pid)?;
+        self.act(pid);
+        Ok(())
+    }
+
+    // The process that takes a part in a start that a process makes in its own role.
+    fn partner(&self, pid: u32, channel: NameId, own: NameId, role: NameId) -> Option<u32>
+        ensures { result ≡ partner_for self.now.endpoints self.now.state.machines channel pid own role }
+    {
+        if role == own {
+            Some(pid)
+        } else {
+            self.joiner(channel, role)
+        }
+    }
+
+    // Each role with its process, where a process joins in each.
+    fn cast(
+        &self,
+        pid: u32,
+        channel: NameId,
+        own: NameId,
+        roles: &[NameId],
+    ) -> Result<List<(NameId, u32)>, Memory>
+        requires { absent_among self.now.endpoints self.now.state.machines channel own roles.now ≡ None }
+        ensures { IfOk result (λ parts. IsCast self.now.endpoints self.now.state.machines channel pid own roles.now parts) }
+    {
+        let mut parts = List::new(self.alloc);
+        for role in roles {
+            let Some(partner) = self.partner(pid, channel, own, *role) else {
+                unreachable!()
+            };
+            parts.push((*role, partner))?;
+        }
+        Ok(parts)
+    }
+
+    // Starts a session on the channel that a process joins, with the least partners.
+    fn start(&mut self, pid: u32) -> Result<(), Memory>
+        requires there { pid < length self.old.state.machines }
+        requires steps { steps_at self.old.endpoints self.old.state pid ≡ true }
+        requires joins { joins_at_all self.old.endpoints self.old.state pid ≡ true }
+        requires fits { self.old.state.sid + 1 < 2 ^ 32 }
+        ensures ok { OnOk result (HasStepped self.old pid self.new) }
+        ensures grown { OnOk result (HasGrown self.old self.new) }
+        ensures err { OnErr result (IsSame self.old self.new) }
+    {
+        let CodeNode::Join(channel, own, _, _) = self.node(pid) else {
+            unreachable!()
+        };
+        let endpoints = self.endpoints;
+        let Some(found) = channel_named(endpoints.channels.as_slice(), *channel) else {
+            unreachable!()
+        };
+        let parts = self.cast(pid, *channel, *own, found.active.as_slice())?;
+        self.begin(*channel, parts)
+    }
+
+    // Starts a session on a channel with these processes.
+    fn begin(&mut self, channel: NameId, parts: List<(NameId, u32)>) -> Result<(), Memory>
+        requires joins { AllJoin self.old.endpoints self.old.state.machines channel parts }
+        requires apart { AreApart parts }
+        requires fits { self.old.state.sid + 1 < 2 ^ 32 }
+        ensures ok { OnOk result (HasBegun self.old channel parts self.new) }
+        ensures err { OnErr result (IsSame self.old self.new) }
+    {
+        self.history.reserve(1)?;
+        reserve_sessions(self.machines.as_mut_slice(), parts.as_slice())?;
+        let sid = self.sid;
+        join_all(
+            self.endpoints,
+            self.machines.as_mut_slice(),
+            channel,
+            sid,
+            parts.as_slice(),
+        );
+        self.sid = sid + 1;
+        let event = Event::Start {
+            channel,
+            sid,
+            parts,
+        };
+        append(&mut self.history, event);
+        Ok(())
+    }
+}
+
+// One event more, for which there is room.
+fn append(history: &mut Vec<Entry>, event: Event)
+    requires { vec_len history.old < vec_capacity history.old }
+    ensures { history.new.items ≡ history.old.items ++ record { worker = 0; event = event } ∷ [] }
+{
+    match history.push(Entry { worker: 0, event }) {
+        Ok(()) => {}
+        Err(_) => unreachable!(),
+    }
+}
+
+// The channel of a name.
+fn channel_named(channels: &[Channel], name: NameId) -> Option<&Channel>
+    ensures { option_copied result ≡ channel_of channels.now name }
+{
+    for channel in channels {
+        if channel.name == name {
+            return Some(channel);
+        }
+    }
+    None
+}

@@ -1,0 +1,202 @@
+//! The queues of a network.
+
+ghost use Rattle.std.specs.Prelude.{◌≡◌, ◌≤◌, ◌<◌, ◌∷◌, ◌++◌, [], length, drop, OnOk, OnErr, IsOk, IfSome, IfNone, slice_get, IsTrue, ◌↔◌, true, None, ◌≢◌};
+ghost use Rattle.chor_base.specs.Events.{Triple, triple_eq};
+ghost use Rattle.endpoint_code.specs.Network.{loads_for, with_loads};
+ghost use Rattle.net_core.specs.Lanes.{loads_in, room_on, lane_from};
+
+use chor_base::{Load, Memory, NameId};
+use std::alloc::Global;
+use std::collections::VecDeque;
+use std::marker::Model;
+use std::mem::replace;
+
+/// The loads in transit from one role of a session to another.
+#[derive(Drop)]
+pub struct Lane {
+    sid: u32,
+    from: NameId,
+    to: NameId,
+    loads: VecDeque<Load>,
+}
+
+impl Model for Lane {
+    ghost use Rattle.std.specs.Prelude.{◌-◌};
+    ghost use Rattle.std.specs.VecDeque.{deque_capacity, deque_len};
+    ghost use Rattle.net_core.specs.Lanes.{LaneView};
+
+    ghost Value = { LaneView };
+
+    ghost view = { λ a. record { triple = (a.sid, a.from, a.to); loads = a.loads.items; room = deque_capacity a.loads - deque_len a.loads } };
+}
+
+impl Lane {
+    // Whether the lane is that of a triple.
+    fn is_for(&self, sid: u32, from: NameId, to: NameId) -> bool
+        ensures { result ≡ triple_eq self.now.triple (sid, from, to) }
+    {
+        self.sid == sid && self.from == from && self.to == to
+    }
+
+    fn first(&self) -> Option<Load>
+        ensures { result ≡ slice_get self.now.loads 0 }
+    {
+        self.loads.front().copied()
+    }
+
+    fn reserve(&mut self) -> Result<(), Memory>
+        ensures triple { self.new.triple ≡ self.old.triple }
+        ensures loads { self.new.loads ≡ self.old.loads }
+        ensures ok { OnOk result (1 ≤ self.new.room) }
+        ensures kept { self.old.room ≤ self.new.room }
+        ensures succeeds { 1 ≤ self.old.room → IsOk result }
+    {
+        self.loads.reserve(1)?;
+        Ok(())
+    }
+
+    fn push(&mut self, load: Load)
+        requires { 1 ≤ self.old.room }
+        ensures triple { self.new.triple ≡ self.old.triple }
+        ensures loads { self.new.loads ≡ self.old.loads ++ load ∷ [] }
+    {
+        match self.loads.push_back(load) {
+            Ok(()) => {}
+            Err(_) => unreachable!(),
+        }
+    }
+
+    fn pop(&mut self)
+        ensures triple { self.new.triple ≡ self.old.triple }
+        ensures loads { self.new.loads ≡ drop 1 self.old.loads }
+    {
+        let _ = self.loads.pop_front();
+    }
+}
+
+/// The queues of a network, one for each triple of a session, a sender's role and a receiver's
+/// role on which something was sent.
+#[derive(Drop)]
+pub struct Queues {
+    lanes: Vec<Lane>,
+    // Room for the first load of a new queue.
+    spare: VecDeque<Load>,
+}
+
+impl Model for Queues {
+    ghost use Rattle.std.specs.Prelude.{◌-◌, ◌≡◌, [], min, vec_capacity, vec_len};
+    ghost use Rattle.std.specs.VecDeque.{deque_capacity};
+    ghost use Rattle.net_core.specs.Lanes.{QueuesView};
+
+    ghost Value = { QueuesView };
+
+    ghost view = { λ a. record { lanes = a.lanes.items; fresh = min (vec_capacity a.lanes - vec_len a.lanes) (deque_capacity a.spare) } };
+
+    ghost invariant = { λ a. a.spare.items ≡ [] };
+}
+
+// The place of a triple's queue.
+fn place_of(lanes: &[Lane], sid: u32, from: NameId, to: NameId) -> Option<usize>
+    ensures place { result ≡ lane_from 0 lanes.now (sid, from, to) }
+    ensures within { IfSome result (λ i. i < length lanes.now) }
+{
+    for (place, lane) in lanes.iter().enumerate() {
+        if lane.is_for(sid, from, to) {
+            return Some(place);
+        }
+    }
+    None
+}
+
+impl Queues {
+    /// No queues. It takes no memory.
+    pub fn new(alloc: Global) -> Queues
+        ensures { result.lanes ≡ [] }
+    {
+        Queues {
+            lanes: Vec::new(alloc),
+            spare: VecDeque::new(alloc),
+        }
+    }
+
+    /// The first load of a queue.
+    pub fn first(&self, sid: u32, from: NameId, to: NameId) -> Option<Load>
+        ensures { result ≡ slice_get (loads_for (loads_in self.now.lanes) (sid, from, to)) 0 }
+    {
+        let place = place_of(self.lanes.as_slice(), sid, from, to)?;
+        self.lanes[place].first()
+    }
+
+    /// Takes memory for one load more on a triple.
+    pub fn reserve(&mut self, sid: u32, from: NameId, to: NameId) -> Result<(), Memory>
+        ensures loads { loads_in self.new.lanes ≡ loads_in self.old.lanes }
+        ensures ok { OnOk result (1 ≤ room_on self.new (sid, from, to)) }
+        ensures kept { (t : Triple) → room_on self.old t ≤ room_on self.new t }
+        ensures succeeds { 1 ≤ room_on self.old (sid, from, to) → IsOk result }
+    {
+        match place_of(self.lanes.as_slice(), sid, from, to) {
+            Some(place) => {
+                let lane = &mut self.lanes[place];
+                lane.reserve()
+            }
+            None => self.reserve_lane(),
+        }
+    }
+
+    // Takes memory for a new queue with its first load.
+    fn reserve_lane(&mut self) -> Result<(), Memory>
+        ensures lanes { self.new.lanes ≡ self.old.lanes }
+        ensures ok { OnOk result (1 ≤ self.new.fresh) }
+        ensures kept { self.old.fresh ≤ self.new.fresh }
+        ensures succeeds { 1 ≤ self.old.fresh → IsOk result }
+    {
+        self.lanes.reserve(1)?;
+        self.spare.reserve(1)?;
+        Ok(())
+    }
+
+    /// Puts a load into its queue, after all others.
+    pub fn put(&mut self, sid: u32, from: NameId, to: NameId, load: Load)
+        requires { 1 ≤ room_on self.old (sid, from, to) }
+        ensures { loads_in self.new.lanes ≡ with_loads (loads_in self.old.lanes) (sid, from, to) (loads_for (loads_in self.old.lanes) (sid, from, to) ++ load ∷ []) }
+    {
+        match place_of(self.lanes.as_slice(), sid, from, to) {
+            Some(place) => {
+                let lane = &mut self.lanes[place];
+                lane.push(load);
+            }
+            None => self.open(sid, from, to, load),
+        }
+    }
+
+    // Makes a queue with its first load.
+    fn open(&mut self, sid: u32, from: NameId, to: NameId, load: Load)
+        requires { 1 ≤ self.old.fresh }
+        ensures { loads_in self.new.lanes ≡ loads_in self.old.lanes ++ ((sid, from, to), load ∷ []) ∷ [] }
+    {
+        let alloc = *self.lanes.allocator();
+        let mut loads = replace(&mut self.spare, VecDeque::new(alloc));
+        loads.push_back_reserved(load);
+        let lane = Lane {
+            sid,
+            from,
+            to,
+            loads,
+        };
+        match self.lanes.push(lane) {
+            Ok(()) => {}
+            Err(_) => unreachable!(),
+        }
+    }
+
+    /// Takes the first load out of its queue.
+    pub fn take(&mut self, sid: u32, from: NameId, to: NameId)
+        requires { slice_get (loads_for (loads_in self.old.lanes) (sid, from, to)) 0 ≢ None }
+        ensures { loads_in self.new.lanes ≡ with_loads (loads_in self.old.lanes) (sid, from, to) (drop 1 (loads_for (loads_in self.old.lanes) (sid, from, to))) }
+    {
+        if let Some(place) = place_of(self.lanes.as_slice(), sid, from, to) {
+            let lane = &mut self.lanes[place];
+            lane.pop();
+        }
+    }
+}

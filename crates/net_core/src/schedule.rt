@@ -1,0 +1,142 @@
+//! Runs by the pick rule.
+
+ghost use Rattle.std.specs.Prelude.{◌≡◌, ◌≢◌, ◌<◌, ◌≤◌, ◌+◌, ◌-◌, ◌%◌, ◌^◌, [], length, None, Some, ◌↔◌, true, false, slice_get};
+ghost use Rattle.endpoint_code.specs.NetworkRuns.{all_ended, none_can_step};
+ghost use Rattle.endpoint_code.specs.Scheduled.{listed, picked, first_waiting};
+ghost use Rattle.net_core.specs.Steps.{FitsMore};
+ghost use Rattle.net_core.specs.Picks.{waiting_at, Runs, Turns, IsStuck};
+
+use crate::answer::{Picked, Step};
+use crate::network::Network;
+
+// The place of what the seed picks among so many after so many events.
+fn place_of_pick(seed: u64, events: u64, count: u64) -> u64
+    requires positive { 0 < count }
+    requires small { seed < 2 ^ 32 }
+    requires few { events < 2 ^ 63 }
+    ensures place { result ≡ (seed + events) % count }
+    ensures within { result < count }
+{
+    (seed + events) % count
+}
+
+impl Network<'_> {
+    // How many events there are.
+    fn events(&self) -> u64
+        ensures events { result ≡ length self.now.history }
+        ensures few { result < 2 ^ 63 }
+    {
+        self.history().len() as u64
+    }
+
+    // How many processes the pick rule may take.
+    fn listed_count(&self) -> u64
+        ensures count { result ≡ length (listed self.now.endpoints None self.now.state) }
+        ensures none { result ≡ 0 → none_can_step self.now.endpoints None self.now.state self.now.state.machines ≡ true }
+    {
+        let mut count = 0;
+        for pid in 0..self.count() {
+            if self.is_listed(pid) {
+                count += 1;
+            }
+        }
+        count
+    }
+
+    // The process at a place among those that the pick rule may take.
+    fn listed_at(&self, place: u64) -> Option<u32>
+        ensures { result ≡ slice_get (listed self.now.endpoints None self.now.state) place }
+    {
+        let mut left = place;
+        for pid in 0..self.count() {
+            if self.is_listed(pid) {
+                if left == 0 {
+                    return Some(pid);
+                }
+                left -= 1;
+            }
+        }
+        None
+    }
+
+    /// The process that the pick rule takes: of those that can step, in order, number
+    /// `(seed + events so far) mod count`. Of those that join, only one in its channel's first
+    /// active role is counted.
+    pub fn pick(&self, seed: u64) -> Option<u32>
+        requires { seed < 2 ^ 32 }
+        ensures pick { result ≡ picked self.now.endpoints None seed (length self.now.history) self.now.state }
+        ensures none { (result ≡ None) ↔ (none_can_step self.now.endpoints None self.now.state self.now.state.machines ≡ true) }
+    {
+        let count = self.listed_count();
+        if count == 0 {
+            return None;
+        }
+        self.listed_at(place_of_pick(seed, self.events(), count))
+    }
+
+    // The first process that hasn't ended.
+    fn first_unended(&self) -> Option<u32>
+        ensures { first_waiting self.now.endpoints None self.now.state ≡ waiting_at self.now.endpoints self.now.state result }
+    {
+        for pid in 0..self.count() {
+            if !self.ended(pid) {
+                return Some(pid);
+            }
+        }
+        None
+    }
+
+    // How a run is closed where no process can step.
+    fn stuck(&self) -> Picked
+        requires unended { all_ended self.now.endpoints self.now.state.machines ≡ false }
+        requires none { none_can_step self.now.endpoints None self.now.state self.now.state.machines ≡ true }
+        ensures { IsStuck self.now.endpoints self.now.state result }
+    {
+        let Some(pid) = self.first_unended() else {
+            unreachable!()
+        };
+        let Some(why) = self.waiting(pid) else {
+            unreachable!()
+        };
+        Picked::Stuck(pid, why)
+    }
+
+    // One event of a scheduled run, unless it is closed.
+    fn turn(&mut self, seed: u64, steps: u64) -> Option<Picked>
+        requires seed { seed < 2 ^ 32 }
+        requires fits { length self.old.history ≢ steps → FitsMore self.old 1 }
+        ensures { Turns seed steps self.old result self.new }
+    {
+        if self.finished() {
+            return Some(Picked::Ended);
+        }
+        if self.events() == steps {
+            return Some(Picked::Limit);
+        }
+        let Some(pid) = self.pick(seed) else {
+            return Some(self.stuck());
+        };
+        match self.step(pid) {
+            Step::Did => None,
+            Step::Memory => Some(Picked::Memory),
+            Step::Waits(_) => unreachable!(),
+            Step::Ended => unreachable!(),
+        }
+    }
+
+    /// Goes on by the pick rule until every process has ended, there are as many events as asked
+    /// for, or no process can step. After `Memory` the events made so far stand.
+    pub fn run_picked(&mut self, seed: u64, steps: u64) -> Picked
+        requires seed { seed < 2 ^ 32 }
+        requires few { steps ≤ 1000000 }
+        requires before { length self.old.history ≤ steps }
+        requires fits { FitsMore self.old (steps - length self.old.history) }
+        ensures { Runs seed steps self.old result self.new }
+    {
+        loop {
+            if let Some(picked) = self.turn(seed, steps) {
+                return picked;
+            }
+        }
+    }
+}
