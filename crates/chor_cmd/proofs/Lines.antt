@@ -7,28 +7,30 @@ use Rattle.chor_base.specs.declared.names.NameId.{NameId}
 use Rattle.endpoint_code.specs.declared.code.CodeId.{CodeId}
 use Rattle.endpoint_code.specs.declared.code.CodeNode.{CodeNode}
 use Rattle.endpoint_code.specs.declared.code.CodeNode.TheVariants.{Join, End}
+use Rattle.endpoint_code.specs.declared.endpoints.Channel.{Channel}
 use Rattle.endpoint_code.specs.declared.endpoints.Endpoints.{Endpoints}
 use Rattle.endpoint_code.specs.declared.endpoints.Procedure.{Procedure}
 use Rattle.endpoint_code.specs.declared.endpoints.ServiceCode.{ServiceCode}
 use Rattle.endpoint_code.specs.declared.endpoints.Process.{Process}
 use Rattle.endpoint_code.specs.Bodies.{AreInside}
+use Rattle.net_core.specs.Plain.{is_plain, IsPlain}
 use Rattle.chor_cmd.specs.Thin.{Thin, role}
 use Rattle.chor_cmd.specs.Shapes.{exchange_of}
 use Rattle.chor_cmd.specs.declared.shape.Exchange.{Exchange as Held}
-use Rattle.chor_cmd.specs.ThinCode.{Act, Out, In, act_of, IsStep, IsLine, IsBody, is_simple, Grows, acts_in, AreEndpointsOf}
+use Rattle.chor_cmd.specs.ThinCode.{Act, Out, In, act_of, IsStep, IsLine, IsBody, Grows, acts_in, AreEndpointsOf}
 
 pub grows_trans : (a b c : List CodeNode) → Grows a b → Grows b c → Grows a c
 grows_trans a b c g h = record {
   more = g.more ++ h.more;
   is = h.is ∙ ap (λ l. l ++ h.more) g.is ∙ append_assoc a g.more h.more;
-  simple = All-append (λ n. is_simple n ≡ true) g.more h.more g.simple h.simple;
+  plain = All-append (λ n. is_plain n ≡ true) g.more h.more g.plain h.plain;
 }
 
--- one simple node more
-pub grows_one : (old new : List CodeNode) (n : CodeNode) → new ≡ old ++ n ∷ [] → is_simple n ≡ true → Grows old new
-grows_one old new n h s = record { more = n ∷ []; is = h; simple = one }
+-- one node more
+pub grows_one : (old new : List CodeNode) (n : CodeNode) → new ≡ old ++ n ∷ [] → is_plain n ≡ true → Grows old new
+grows_one old new n h s = record { more = n ∷ []; is = h; plain = one }
   where
-    one : All (λ m. is_simple m ≡ true) (n ∷ [])
+    one : All (λ m. is_plain m ≡ true) (n ∷ [])
     one zero d k = s
     one (suc i) d k = absurd (omega arith)
 
@@ -111,3 +113,14 @@ endpoints_inside before nodes first second procedures services processes p q non
     each zero d h = grows_within before nodes first.0 grows one
     each (suc zero) d h = two
     each (suc (suc k)) d h = absurd (omega arith)
+
+-- the network runs these programs
+pub endpoints_plain : (start : List CodeNode) (e : Endpoints) (t : Thin NameId) → start ≡ [] → Grows start e.code.nodes → e.channels ≡ record { name = t.channel; active = t.first_role ∷ t.second_role ∷ []; serve = [] } ∷ [] → IsPlain e
+endpoints_plain start e t i g h = record {
+  nodes = subst (λ (ns : List CodeNode). All (λ n. is_plain n ≡ true) ns) (sym (g.is ∙ ap (λ l. l ++ g.more) i)) g.plain;
+  channels = subst (λ (ks : List Channel). All (λ k. k.serve ≡ []) ks) (sym h) only;
+}
+  where
+    only : All (λ (k : Channel). k.serve ≡ []) (record { name = t.channel; active = t.first_role ∷ t.second_role ∷ []; serve = [] } ∷ [])
+    only zero d k = refl
+    only (suc i) d k = absurd (omega arith)

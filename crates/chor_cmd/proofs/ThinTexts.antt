@@ -1,10 +1,11 @@
 -- The transcript of the scheduled run of a thin file.
-use Rattle.std.proofs.Common.{◌≡◌, ◌≢◌, ℕ, zero, suc, ◌+◌, ◌*◌, ◌<◌, ◌≤◌, Bool, true, false, ◌==◌, List, [], ◌∷◌, ◌++◌, length, refl, sym, ap, ◌∙◌, subst, Option, None, arith, if◌then◌else◌}
+use Rattle.std.proofs.Common.{◌≡◌, ◌≢◌, ℕ, zero, suc, ◌+◌, ◌-◌, ◌*◌, ◌^◌, ◌<◌, ◌≤◌, Bool, true, false, ◌==◌, List, [], ◌∷◌, ◌++◌, length, refl, sym, ap, ◌∙◌, subst, Option, None, arith, if◌then◌else◌}
 use Rattle.std.specs.Prelude.{map}
 use Rattle.std.specs.FinMap as fin
 use Rattle.std.proofs.lemmas.Bool.Decides.{nat_tests}
 use Rattle.chor_base.specs.declared.names.NameId.{NameId}
 use Rattle.chor_base.specs.declared.event.Event.{Event}
+use Rattle.chor_base.specs.declared.event.Entry.{Entry}
 use Rattle.chor_base.specs.NameMap.{Variables}
 use Rattle.chor_tree.specs.declared.file.File.{File}
 use Rattle.chor_tree.specs.declared.file.Named.{Named}
@@ -12,15 +13,18 @@ use Rattle.chor_semantics.specs.Choreography.{Ref, Live, Named as Unbound, insta
 use Rattle.chor_semantics.specs.Sources.{Configuration, first_configuration, numbered, procedures_of, tree_in, trees_of}
 use Rattle.chor_semantics.specs.Runs.{Leads, IsRunTo, IsEndedRun, IsTerminated, IsQuiet, quiet, ended}
 use Rattle.endpoint_code.specs.declared.endpoints.Endpoints.{Endpoints}
-use Rattle.endpoint_code.specs.Network.{NetworkState, first_state}
+use Rattle.endpoint_code.specs.Network.{NetworkState, first_state, standing_all}
 use Rattle.endpoint_code.specs.Scheduled.{IsScheduled, Close, Ended}
+use Rattle.net_core.specs.Views.{NetworkView}
+use Rattle.net_core.specs.Steps.{FitsMore, most_served}
+use Rattle.net_core.specs.Picks.{HasRun, entries_of}
 use Rattle.endpoint_code.proofs.Fifo.{network_fifo}
 use Rattle.endpoint_code.proofs.Chosen.{scheduled_leads}
 use Rattle.transcript.specs.Text.{transcript}
 use Rattle.chor_cmd.specs.Thin.{Thin, thin_tree}
 use Rattle.chor_cmd.specs.ThinCode.{AreEndpointsOf}
-use Rattle.chor_cmd.specs.ThinFile.{plain, HasShape, IsRunnable}
-use Rattle.chor_cmd.specs.Endings.{book_of, end_line, IsRunText, RunsShape}
+use Rattle.chor_cmd.specs.ThinFile.{plain, HasShape, IsSourceOf, IsRunnable}
+use Rattle.chor_cmd.specs.Endings.{book_of, events_of, end_line, IsRunText, RunsShape, RunsThin}
 use Rattle.chor_cmd.proofs.ThinRuns.{Runs}
 use Rattle.chor_cmd.proofs.ThinBegins.{whole, distinct}
 
@@ -87,3 +91,53 @@ module _ (f : File) (t : Thin NameId) (r : IsRunnable f t) (e : Endpoints) (are 
         };
         count = omega arith;
       }
+
+-- a network that is at its beginning has numbers enough
+pub thin_fits : (v : NetworkView) (e : Endpoints) (t : Thin NameId) → AreEndpointsOf e t → v.endpoints ≡ e → v.state ≡ first_state e → v.history ≡ [] → FitsMore v (100000 - length v.history)
+thin_fits v e t are i j k = record {
+  sid = subst (λ (n : ℕ). n + (100000 - length v.history) < 2 ^ 32) (sym (ap (λ n. n.sid) j)) (omega arith);
+  machines =
+      let count : length v.state.machines ≡ 2 = ap (λ n. length n.machines) j ∙ ap (λ ps. length (standing_all ps)) are.processes in
+      let none : most_served v.endpoints.channels ≡ 0 = ap (λ w. most_served w.channels) i ∙ ap most_served are.channels in
+      subst (λ (m : ℕ). length v.state.machines + (100000 - length v.history) * m < 2 ^ 32) (sym none) (omega arith);
+}
+
+-- the entries of a history without workers have these events
+events-entries : (xs : List Event) → events_of (entries_of xs) ≡ xs
+events-entries [] = refl
+events-entries (x ∷ xs) = ap (λ l. x ∷ l) (events-entries xs)
+
+length-events : (es : List Entry) → length (events_of es) ≡ length es
+length-events [] = refl
+length-events (x ∷ es) = ap suc (length-events es)
+
+-- a network at its beginning
+pub record Begins (v : NetworkView) (e : Endpoints) : Type 0 where
+  pub endpoints : v.endpoints ≡ e
+  pub state : v.state ≡ first_state e
+  pub history : v.history ≡ []
+
+scheduled_from : (v : NetworkView) (e : Endpoints) → Begins v e → (h : List Event) (last : NetworkState) (close : Close)
+    → IsScheduled v.endpoints [] None 0 100000 v.state (length v.history) h last close → IsScheduled e [] None 0 100000 (first_state e) 0 h last close
+scheduled_from v e b h last close s =
+    subst (λ (n : ℕ). IsScheduled e [] None 0 100000 (first_state e) n h last close) (ap length b.history)
+      (subst (λ (n : NetworkState). IsScheduled e [] None 0 100000 n (length v.history) h last close) b.state
+        (subst (λ (w : Endpoints). IsScheduled w [] None 0 100000 v.state (length v.history) h last close) b.endpoints s))
+
+module _ (f : File) (t : Thin NameId) (r : IsRunnable f t) (e : Endpoints) (are : AreEndpointsOf e t) (old new : NetworkView) (b : Begins old e) where
+  -- the run comes to its end
+  pub ends_so : (close : Close) → HasRun 0 100000 old new close → close ≡ Ended
+  ends_so close run = closes_ended f t r e are run.events new.state close (scheduled_from old e b run.events new.state close run.run)
+
+  -- and what is printed is its transcript
+  pub prints_so : (text : List ℕ) → HasRun 0 100000 old new Ended → text ≡ transcript (book_of f) (events_of new.history) (end_line (length new.history)) → RunsShape f t text
+  prints_so text run h =
+      let history : new.history ≡ entries_of run.events = run.history ∙ ap (λ l. l ++ entries_of run.events) b.history in
+      let events : events_of new.history ≡ run.events = ap events_of history ∙ events-entries run.events in
+      let count : length new.history ≡ length run.events = sym (length-events new.history) ∙ ap length events in
+      runs_shape f t r e are run.events new.state Ended text (scheduled_from old e b run.events new.state Ended run.run)
+        (h ∙ (λ i. transcript (book_of f) (events i) (end_line (count i))))
+
+-- a source that is run
+pub runs_thin : (bytes text : List ℕ) (f : File) (t : Thin NameId) → IsSourceOf bytes f t → RunsShape f t text → RunsThin bytes text
+runs_thin bytes text f t s r = record { file = f; thin = t; source = s; runs = r }

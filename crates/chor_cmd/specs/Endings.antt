@@ -2,6 +2,7 @@
 use Rattle.std.specs.Prelude.{ℕ, suc, ◌≡◌, ◌≢◌, ◌<◌, ◌≤◌, ◌+◌, ◌*◌, ◌^◌, List, [], ◌∷◌, ◌++◌, length, map, Option, Some, None, codes}
 use Rattle.std.specs.Fmt.{decimal}
 use Rattle.chor_base.specs.declared.event.Event.{Event}
+use Rattle.chor_base.specs.declared.event.Entry.{Entry}
 use Rattle.chor_base.specs.Events.{IsFifo}
 use Rattle.chor_tree.specs.declared.file.File.{File}
 use Rattle.chor_semantics.specs.Runs.{IsEndedRun}
@@ -13,7 +14,7 @@ use Rattle.chor_cmd.specs.declared.status.Status.TheVariants.{Done, Usage, ReadF
 use Rattle.chor_cmd.specs.Words.{IsRunForm, HasNoForm}
 use Rattle.chor_base.specs.declared.names.NameId.{NameId}
 use Rattle.chor_cmd.specs.Thin.{Thin}
-use Rattle.chor_cmd.specs.ThinFile.{plain, IsSourceOf, IsThinSource}
+use Rattle.chor_cmd.specs.ThinFile.{plain, IsSourceOf, IsNoSource}
 
 -- the files by name, where they are told
 abbrev pub Told : Type 0
@@ -31,6 +32,9 @@ source_limit = 1048576
 -- what the transcripts of a file are written with
 abbrev pub book_of : File → Book
 book_of f = record { names = f.names; texts = f.texts; processes = plain f.processes }
+
+abbrev pub events_of : List Entry → List Event
+events_of entries = map (λ entry. entry.event) entries
 
 abbrev pub end_line : ℕ → List ℕ
 end_line n = codes "end " ++ decimal n
@@ -66,7 +70,7 @@ pub data Ends (words : Words) (files : Told) (before after : List ℕ → ℕ) :
       → Ends words files before after ReadFault (line_naming (codes "read fault ") name)
   too_large : (name : List ℕ) → IsRunForm words name → ((bytes : List ℕ) → Tells files name bytes → source_limit < length bytes)
       → Ends words files before after TooLarge (line_naming (codes "too large ") name)
-  unbuilt : (name : List ℕ) → IsRunForm words name → ((bytes : List ℕ) → Tells files name bytes → (length bytes ≤ source_limit) × ((f : File) → IsThinSource bytes f → ⊥))
+  unbuilt : (name : List ℕ) → IsRunForm words name → ((bytes : List ℕ) → Tells files name bytes → (length bytes ≤ source_limit) × IsNoSource bytes)
       → Ends words files before after Unbuilt (codes "not built\n")
   done : (name text : List ℕ) → IsRunForm words name → ((bytes : List ℕ) → Tells files name bytes → (length bytes ≤ source_limit) × RunsThin bytes text)
       → Ends words files before after Done text

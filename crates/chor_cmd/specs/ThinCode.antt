@@ -7,6 +7,7 @@ use Rattle.endpoint_code.specs.declared.code.CodeId.{CodeId}
 use Rattle.endpoint_code.specs.declared.code.CodeNode.{CodeNode}
 use Rattle.endpoint_code.specs.declared.code.CodeNode.TheVariants.{Join, Send, Recv, End}
 use Rattle.endpoint_code.specs.declared.endpoints.Endpoints.{Endpoints}
+use Rattle.net_core.specs.Plain.{is_plain}
 use Rattle.chor_cmd.specs.Thin.{Exchange, Thin, role, process}
 
 -- what a process does in an exchange: it sends a number, or receives into a variable
@@ -55,16 +56,8 @@ pub record AreEndpointsOf (e : Endpoints) (t : Thin NameId) : Type 0 where
   pub processes : e.processes ≡ record { name = t.first_process; body = body true } ∷ record { name = t.second_process; body = body false } ∷ []
   pub bodies : (d : Bool) → IsBody e.code.nodes t d (body d)
 
--- a node that joins, sends, receives or ends
-abbrev pub is_simple : CodeNode → Bool
-is_simple (Join c r k next) = true
-is_simple (Send k b e next) = true
-is_simple (Recv k a x next) = true
-is_simple End = true
-is_simple _ = false
-
--- a table with more nodes after the old ones, all of which are simple
+-- a table with more nodes after the old ones, all of which the network runs
 pub record Grows (old new : List CodeNode) : Type 0 where
   pub more : List CodeNode
   pub is : new ≡ old ++ more
-  pub simple : All (λ n. is_simple n ≡ true) more
+  pub plain : All (λ n. is_plain n ≡ true) more

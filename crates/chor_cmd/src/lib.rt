@@ -4,6 +4,7 @@
 mod output;
 mod piece;
 mod reader;
+mod run;
 mod shape;
 mod source;
 mod status;

@@ -1,6 +1,7 @@
 //! The two endpoint programs of a thin file.
 
 ghost use Rattle.std.specs.Prelude.{◌≡◌, ◌<◌, ◌∷◌, [], not, IfOk, length, map};
+ghost use Rattle.net_core.specs.Plain.{IsPlain};
 ghost use Rattle.chor_cmd.specs.Shapes.{thin_of, exchange_of};
 ghost use Rattle.chor_cmd.specs.Thin.{role};
 ghost use Rattle.chor_cmd.specs.ThinCode.{act_of, acts_in, IsStep, IsLine, IsBody, AreEndpointsOf, Grows};
@@ -20,6 +21,7 @@ pub fn endpoints(
     texts: &Texts,
 ) -> Result<Endpoints, Memory>
     ensures are { IfOk result (λ e. AreEndpointsOf e (thin_of shape.now)) }
+    ensures plain { IfOk result IsPlain }
     ensures names { IfOk result (λ e. e.names ≡ names.now) }
     ensures texts { IfOk result (λ e. e.texts ≡ texts.now) }
 {

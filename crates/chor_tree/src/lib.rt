@@ -5,6 +5,9 @@ mod file;
 mod protocol;
 mod tree;
 
+#[cfg(test)]
+mod tests;
+
 pub use file::{File, Named, Proc, ProcParam, Service, SessionParam};
 pub use protocol::{Payload, ProtoArm, ProtoStep, Protocol, State};
 pub use tree::{Form, Node, NodeId, Part, Tree};

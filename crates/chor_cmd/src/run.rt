@@ -1,0 +1,81 @@
+//! Running a thin file.
+
+ghost use Rattle.std.specs.Prelude.{◌≡◌, ◌≤◌, ◌^◌, IfOk, IfSome, IfNone, length};
+ghost use Rattle.chor_cmd.specs.Shapes.{thin_of};
+ghost use Rattle.chor_cmd.specs.ThinFile.{IsNoSource, IsRunnable, plain};
+ghost use Rattle.chor_cmd.specs.Endings.{RunsThin, RunsShape, events_of, end_line};
+ghost use Rattle.transcript.specs.Text.{transcript};
+ghost use Rattle.transcript.specs.Books.{words};
+
+use crate::source::{Source, read};
+use crate::thin_endpoints::endpoints;
+use chor_base::{Entry, List, Memory, NameId};
+use chor_tree::Named;
+use net_core::{Network, Picked};
+use std::alloc::Global;
+use transcript::{Book, print_events};
+
+// How many events a run has at most where nothing else is asked.
+const STEPS: u64 = 100_000;
+
+/// The transcript of the scheduled run of a source; `None` where the source isn't thin.
+#[tactic(auto, using(crate::proofs::ThinTexts::runs_thin))]
+pub fn run_text(alloc: Global, bytes: &[u8]) -> Result<Option<Vec<u8>>, Memory>
+    requires { length bytes.now ≤ 2 ^ 20 }
+    ensures none { IfOk result (λ text. IfNone text (IsNoSource bytes.now)) }
+    ensures text { IfOk result (λ text. IfSome text (λ written. RunsThin bytes.now written.items)) }
+{
+    match read(alloc, bytes)? {
+        None => Ok(None),
+        Some(source) => {
+            let text = transcript_of(alloc, &source)?;
+            Ok(Some(text))
+        }
+    }
+}
+
+// The transcript of the scheduled run, whose last line says how many events it has.
+fn transcript_of(alloc: Global, source: &Source) -> Result<Vec<u8>, Memory>
+    requires { IsRunnable source.now.file (thin_of source.now.shape) }
+    ensures { IfOk result (λ text. RunsShape source.now.file (thin_of source.now.shape) text.items) }
+{
+    let file = &source.file;
+    let endpoints = endpoints(alloc, &source.shape, &file.names, &file.texts)?;
+    let mut network = Network::new(alloc, &endpoints)?;
+    match network.run_picked(0, STEPS) {
+        Picked::Ended => {}
+        Picked::Memory => return Err(Memory),
+        Picked::Limit => unreachable!(),
+        Picked::Stuck(_, _) => unreachable!(),
+    }
+    let processes = names_of(alloc, file.processes.as_slice())?;
+    let book = Book {
+        names: &file.names,
+        texts: &file.texts,
+        processes: &processes,
+    };
+    let text = print_run(alloc, network.history(), &book)?;
+    Ok(text)
+}
+
+// The lines of the events, and the last line with their number.
+fn print_run(alloc: Global, history: &[Entry], book: &Book) -> Result<Vec<u8>, Memory>
+    ensures { IfOk result (λ text. text.items ≡ transcript (words book.now) (events_of history.now) (end_line (length history.now))) }
+{
+    let mut text = Vec::new(alloc);
+    print_events(alloc, history, book, &mut text)?;
+    let count = history.len();
+    let last = format!(in alloc; "end {count}\n")?;
+    text.extend_from_slice(last.as_bytes())?;
+    Ok(text)
+}
+
+fn names_of(alloc: Global, written: &[Named]) -> Result<List<NameId>, Memory>
+    ensures { IfOk result (λ list. list ≡ plain written.now) }
+{
+    let mut list = List::new(alloc);
+    for name in written {
+        list.push(name.name)?;
+    }
+    Ok(list)
+}
