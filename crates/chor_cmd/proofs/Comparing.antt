@@ -1,6 +1,6 @@
 -- Tokens against the pieces of a thin file.
-use Rattle.std.proofs.Common.{◌≡◌, ◌≢◌, ℕ, suc, ◌+◌, ◌<◌, ◌≤◌, ◌==◌, Bool, true, false, not, List, [], ◌∷◌, ◌++◌, length, refl, sym, ap, ◌∙◌, Some, subst, arith, drop, get_or}
-use Rattle.std.specs.Prelude.{slice_get, map, ℤ, pos, unsigned_abs, ◌↔◌, IsTrue}
+use Rattle.std.proofs.Common.{◌≡◌, ℕ, suc, ◌+◌, ◌<◌, ◌≤◌, ◌==◌, Bool, true, false, not, List, [], ◌∷◌, ◌++◌, length, refl, sym, ap, ◌∙◌, Some, subst, arith, drop, get_or}
+use Rattle.std.specs.Prelude.{map, ℤ, unsigned_abs, ◌↔◌, IsTrue}
 use Rattle.std.specs.List.{AllZip}
 use Rattle.std.proofs.lemmas.List.{map-append, drop_more, drop_all, length-drop}
 use Rattle.std.proofs.lemmas.Bool.Decides.{nat_tests}

@@ -1,6 +1,6 @@
 //! Reads the tokens of thin files.
 
-ghost use Rattle.std.specs.Prelude.{ℕ, ◌≡◌, ◌∷◌, [], ◌+◌, ◌*◌, ◌≢◌, ◌↔◌, ◌≤◌, ◌≤ℤ◌, pos, IfOk, OnOk, IfSome, IfNone, IsTrue, All, map, drop, length, bytes_eq, slice_get};
+ghost use Rattle.std.specs.Prelude.{ℕ, ◌≡◌, ◌∷◌, [], ◌+◌, ◌*◌, ◌↔◌, ◌≤◌, ◌≤ℤ◌, pos, IfOk, OnOk, IfSome, IfNone, IsTrue, All, drop, length, bytes_eq, slice_get};
 ghost use Rattle.std.specs.List.{list_any};
 ghost use Rattle.chor_base.specs.Words.{AllDistinct};
 ghost use Rattle.chor_cmd.specs.Shapes.{thin_of, exchange_of};

@@ -1,5 +1,5 @@
-use Rattle.std.proofs.Common.{rules, arith, sym, ◌∙◌}
-use Rattle.chor_cmd.proofs.Comparing.{fit_next, fit_wrong, fit_more, fit_end}
+use Rattle.std.proofs.Common.{rules, arith}
+use Rattle.chor_cmd.proofs.Comparing.{fit_next, fit_more, fit_end}
 use Rattle.chor_cmd.proofs.written.all_fit.Goals as goal
 
 pub loop-token-preserved : goal.loop-token-preserved
