@@ -1,8 +1,9 @@
 -- Tokens against the pieces of a thin file.
-use Rattle.std.proofs.Common.{◌≡◌, ℕ, Bool, true, false, not, List, [], ◌∷◌, ◌++◌, refl, sym, ap, ◌∙◌, Some, subst}
-use Rattle.std.specs.Prelude.{map, ℤ, unsigned_abs}
+use Rattle.std.proofs.Common.{◌≡◌, ℕ, suc, ◌+◌, ◌<◌, ◌≤◌, ◌==◌, Bool, true, false, not, List, [], ◌∷◌, ◌++◌, length, refl, sym, ap, ◌∙◌, Some, subst, arith, drop, get_or}
+use Rattle.std.specs.Prelude.{map, ℤ, unsigned_abs, ◌↔◌, IsTrue}
 use Rattle.std.specs.List.{AllZip}
-use Rattle.std.proofs.lemmas.List.{map-append}
+use Rattle.std.proofs.lemmas.List.{map-append, drop_more, drop_all, length-drop}
+use Rattle.std.proofs.lemmas.Bool.Decides.{nat_tests}
 use Rattle.std.proofs.lemmas.Option.{get_or_from_slice_get}
 use Rattle.chor_base.specs.declared.names.NameId.{NameId}
 use Rattle.chor_base.specs.Words.{AllDistinct}
@@ -202,6 +203,51 @@ said_fit names texts [] (p ∷ ps) (v ∷ vs) d h e = absurd e
 said_fit names texts (t ∷ ts) ps [] d h e = absurd e
 said_fit names texts (t ∷ ts) [] (v ∷ vs) d h e = absurd cc
 said_fit names texts (t ∷ ts) (p ∷ ps) (v ∷ vs) d h e = (said_fits names texts t.kind (written_of p) v d (cc) e.0, said_fit names texts ts ps vs d (cc) e.1)
+
+-- ---- what is left of the tokens and of the pieces
+
+first_left : (names : List (List ℕ)) (ts : List Token) (i : ℕ) (d : Token) (p : Piece) (after rest : List Piece) → i < length ts → rest ≡ p ∷ after
+    → AllFit names (drop i ts) rest ↔ (Fits names (get_or ts i d).kind (written_of p) × AllFit names (drop (i + 1) ts) after)
+first_left names ts i d p after rest h e = (to, from)
+  where
+    Both : List Token → List Piece → Type 0
+    Both us ps = AllZip (λ (t : Token) (q : Piece). Fits names t.kind (written_of q)) us ps
+
+    to : AllFit names (drop i ts) rest → Fits names (get_or ts i d).kind (written_of p) × AllFit names (drop (i + 1) ts) after
+    to a = let f : Both (get_or ts i d ∷ drop (i + 1) ts) (p ∷ after) = subst (λ (us : List Token). Both us (p ∷ after)) (drop_more ts i d h) (subst (Both (drop i ts)) e a.fit) in (f.0, record { fit = f.1 })
+
+    from : Fits names (get_or ts i d).kind (written_of p) × AllFit names (drop (i + 1) ts) after → AllFit names (drop i ts) rest
+    from b = record { fit = subst (Both (drop i ts)) (sym e) (subst (λ (us : List Token). Both us (p ∷ after)) (sym (drop_more ts i d h)) (b.0, b.1.fit)) }
+
+pub fit_next : (names : List (List ℕ)) (ts : List Token) (i : ℕ) (d : Token) (p : Piece) (ps after rest : List Piece) → i < length ts → rest ≡ p ∷ after → Fits names (get_or ts i d).kind (written_of p)
+    → AllFit names ts ps ↔ AllFit names (drop i ts) rest → AllFit names ts ps ↔ AllFit names (drop (i + 1) ts) after
+fit_next names ts i d p ps after rest h e f w = let q = first_left names ts i d p after rest h e in (λ a. (q.0 (w.0 a)).1, λ a. w.1 (q.1 (f, a)))
+
+pub fit_wrong : (names : List (List ℕ)) (ts : List Token) (i : ℕ) (d : Token) (p : Piece) (ps after rest : List Piece) → i < length ts → rest ≡ p ∷ after → (Fits names (get_or ts i d).kind (written_of p) → ⊥)
+    → AllFit names ts ps ↔ AllFit names (drop i ts) rest → AllFit names ts ps → ⊥
+fit_wrong names ts i d p ps after rest h e f w a = f ((first_left names ts i d p after rest h e).0 (w.0 a)).0
+
+fit_lengths : (names : List (List ℕ)) (ts : List Token) (ps : List Piece) → AllZip (λ t p. Fits names t.kind (written_of p)) ts ps → length ts ≡ length ps
+fit_lengths names [] [] h = refl
+fit_lengths names [] (p ∷ ps) h = absurd h
+fit_lengths names (t ∷ ts) [] h = absurd h
+fit_lengths names (t ∷ ts) (p ∷ ps) h = ap suc (fit_lengths names ts ps h.1)
+
+pub fit_more : (names : List (List ℕ)) (ts : List Token) (i : ℕ) (ps rest : List Piece) → i < length ts → length rest ≡ 0 → AllFit names ts ps ↔ AllFit names (drop i ts) rest → AllFit names ts ps → ⊥
+fit_more names ts i ps rest h e w a = let l : length (drop i ts) ≡ length rest = fit_lengths names (drop i ts) rest (w.0 a).fit in omega (arith, length-drop i ts)
+
+pub fit_end : (names : List (List ℕ)) (ts : List Token) (i : ℕ) (ps rest : List Piece) (b : Bool) → length ts ≤ i → b ≡ (length rest == 0) → AllFit names ts ps ↔ AllFit names (drop i ts) rest → IsTrue b ↔ AllFit names ts ps
+fit_end names ts i ps rest b h e w = (λ q. w.1 (none rest (grind (arith, nat_tests))), λ a. all (w.0 a))
+  where
+    none : (rest : List Piece) → length rest ≡ 0 → AllFit names (drop i ts) rest
+    none [] n = record { fit = subst (λ (us : List Token). AllZip (λ (t : Token) (p : Piece). Fits names t.kind (written_of p)) us []) (sym (drop_all i ts h)) tt }
+    none (p ∷ ps) n = absurd (omega arith)
+
+    all : AllFit names (drop i ts) rest → b ≡ true
+    all a =
+        let l : length (drop i ts) ≡ length rest = fit_lengths names (drop i ts) rest a.fit in
+        let n : length rest ≡ 0 = omega (arith, length-drop i ts) in
+        e ∙ grind (arith, nat_tests)
 
 -- ---- what the reader answers
 

@@ -42,7 +42,7 @@ abbrev pub kind_in : Option Token → Kind
 kind_in (Some t) = t.kind
 kind_in None = kind.Last
 
--- the name and the number that a token is, or any
+-- the name and the number that a token is, or 0 where it is none
 abbrev pub name_in : Kind → NameId
 name_in (kind.Word x) = x
 name_in _ = record { 0 = 0 }

@@ -1,6 +1,6 @@
 //! Reads the tokens of thin files.
 
-ghost use Rattle.std.specs.Prelude.{ℕ, ◌≡◌, ◌∷◌, [], ◌+◌, ◌*◌, ◌≢◌, ◌↔◌, ◌≤◌, ◌≤ℤ◌, pos, IfOk, OnOk, IfSome, IfNone, IsTrue, All, map, drop, length, bytes_eq, slice_get};
+ghost use Rattle.std.specs.Prelude.{ℕ, ◌≡◌, ◌∷◌, [], ◌+◌, ◌*◌, ◌↔◌, ◌≤◌, ◌≤ℤ◌, pos, IfOk, OnOk, IfSome, IfNone, IsTrue, All, drop, length, bytes_eq, slice_get};
 ghost use Rattle.std.specs.List.{list_any};
 ghost use Rattle.chor_base.specs.Words.{AllDistinct};
 ghost use Rattle.chor_cmd.specs.Shapes.{thin_of, exchange_of};
@@ -19,7 +19,7 @@ pub fn shape_of(alloc: Global, tokens: &[Token], names: &Names) -> Result<Option
     requires { AllDistinct names.now }
     ensures found { IfOk result (λ found. IfSome found (λ shape. IsRead names.now tokens.now (thin_of shape))) }
     ensures none { IfOk result (λ found. IfNone found (IsNoThin names.now tokens.now)) }
-    ensures names { IfOk result (λ found. IfSome found (λ shape. IsFine names.now (thin_of shape))) }
+    ensures fine { IfOk result (λ found. IfSome found (λ shape. IsFine names.now (thin_of shape))) }
 {
     let shape = guess(alloc, tokens)?;
     if !is_fine(alloc, &shape, names)? {
@@ -81,7 +81,7 @@ fn kind_at(tokens: &[Token], place: usize) -> Kind
     }
 }
 
-// The name at a place, or any where no word stands there.
+// The name at a place, or name 0 where no word stands there.
 #[tactic(auto, using(crate::proofs::Places::word_said))]
 fn word_at(tokens: &[Token], place: usize) -> NameId
     ensures { IsWordAt tokens.now place result }
@@ -98,7 +98,7 @@ fn name_in(kind: Kind) -> NameId
     }
 }
 
-// The number at a place, or any where none stands there.
+// The number at a place, or 0 where none stands there.
 fn number_at(tokens: &[Token], place: usize) -> i64
     ensures { IsNumberAt tokens.now place result }
 {
@@ -290,3 +290,6 @@ fn is_any(word: &[u8], a: &[u8], b: &[u8], c: &[u8], d: &[u8], e: &[u8]) -> bool
 {
     word == a || word == b || word == c || word == d || word == e
 }
+
+#[cfg(test)]
+mod tests;

@@ -178,13 +178,17 @@ fn line(shape: &Shape, exchange: Exchange) -> [Piece; 16]
 pub fn all_fit(tokens: &[Token], pieces: &[Piece], names: &Names) -> bool
     ensures { IsTrue result ↔ AllFit names.now tokens.now pieces.now }
 {
-    match (tokens.split_first(), pieces.split_first()) {
-        (Some((token, tokens)), Some((piece, pieces))) => {
-            fits(token.kind, *piece, names) && all_fit(tokens, pieces, names)
+    let mut rest = pieces;
+    for token in tokens {
+        let Some((piece, after)) = rest.split_first() else {
+            return false;
+        };
+        if !fits(token.kind, *piece, names) {
+            return false;
         }
-        (None, None) => true,
-        _ => false,
+        rest = after;
     }
+    rest.is_empty()
 }
 
 // Whether a token is written so.
