@@ -11,3 +11,4 @@ pub mod Faultless
 pub mod Outputs
 pub mod ThinTexts
 pub mod Sources
+pub mod Calls

@@ -29,6 +29,10 @@ Tells (Some files) name bytes = files name ≡ Some bytes
 abbrev pub source_limit : ℕ
 source_limit = 1048576
 
+-- the shelf tells no other bytes of this file than these, which keep to the limit
+abbrev pub TellsOnly : Told → List ℕ → List ℕ → Type 0
+TellsOnly files name bytes = (told : List ℕ) → Tells files name told → (told ≡ bytes) × (length bytes ≤ source_limit)
+
 -- what the transcripts of a file are written with
 abbrev pub book_of : File → Book
 book_of f = record { names = f.names; texts = f.texts; processes = plain f.processes }

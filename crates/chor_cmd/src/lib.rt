@@ -1,6 +1,7 @@
 //! The commands.
 #![tactic(auto)]
 
+mod command;
 mod output;
 mod piece;
 mod reader;
@@ -13,5 +14,6 @@ mod thin_file;
 mod words;
 mod written;
 
+pub use command::chor;
 pub use status::Status;
 pub use words::{Command, Words, read_words};
