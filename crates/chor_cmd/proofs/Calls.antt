@@ -1,6 +1,7 @@
 -- How a call ends, by what was fetched.
 use Rattle.std.proofs.Common.{◌≡◌, ◌<◌, ◌≤◌, ◌+◌, ◌++◌, ℕ, List, [], Option, Some, None, length, refl, sym, ap, ◌∙◌, subst, arith}
 use Rattle.std.specs.Prelude.{codes}
+use Rattle.std.specs.Option.{IfSome, IfNone}
 use Rattle.chor_io.specs.Outside.{FetchTells, FetchFrom, Risen}
 use Rattle.chor_io.specs.declared.outside.Fetched.{Fetched}
 use Rattle.chor_io.specs.declared.outside.Fetched.TheVariants as fetched
@@ -34,5 +35,14 @@ done_ends words files before after name bytes text form only runs =
     done name text form (λ told t. let s = only told t in (subst (λ (l : List ℕ). length l ≤ source_limit) (sym s.0) s.1, subst (λ (l : List ℕ). RunsThin l text) (sym s.0) runs))
 
 pub unbuilt_ends : (words : Words) (files : Told) (before after : List ℕ → ℕ) (name bytes : List ℕ) → IsRunForm words name → TellsOnly files name bytes → IsNoSource bytes → Ends words files before after Unbuilt (codes "not built\n")
-unbuilt_ends words files before after name bytes form only no =
-    unbuilt name form (λ told t. let s = only told t in (subst (λ (l : List ℕ). length l ≤ source_limit) (sym s.0) s.1, subst IsNoSource (sym s.0) no))
+unbuilt_ends words files before after name bytes form only none =
+    unbuilt name form (λ told t. let s = only told t in (subst (λ (l : List ℕ). length l ≤ source_limit) (sym s.0) s.1, subst IsNoSource (sym s.0) none))
+
+-- what is said of the value in an option that is this one, and of an option that is empty
+pub of_some : {A : Type 0} (o : Option A) (a : A) (P : A → Type 0) → o ≡ Some a → IfSome o P → P a
+of_some None a P e h = absurd cc
+of_some (Some b) a P e h = let same : b ≡ a = cc in subst P same h
+
+pub of_none : {A : Type 0} (o : Option A) (P : Type 0) → o ≡ None → IfNone o P → P
+of_none None P e h = h
+of_none (Some b) P e h = absurd cc
