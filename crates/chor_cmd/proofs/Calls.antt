@@ -1,15 +1,14 @@
 -- How a call ends, by what was fetched.
-use Rattle.std.proofs.Common.{◌≡◌, ◌<◌, ◌≤◌, ◌+◌, ◌++◌, ℕ, List, [], Option, Some, None, length, refl, sym, ap, ◌∙◌, subst, arith}
+use Rattle.std.proofs.Common.{◌≡◌, ◌<◌, ◌≤◌, ℕ, List, [], Option, Some, None, length, sym, ◌∙◌, subst}
 use Rattle.std.specs.Prelude.{codes}
 use Rattle.std.specs.Option.{IfSome, IfNone}
-use Rattle.chor_io.specs.Outside.{FetchTells, FetchFrom, Risen}
-use Rattle.chor_io.specs.declared.outside.Fetched.{Fetched}
+use Rattle.chor_io.specs.Outside.{FetchTells, FetchFrom}
 use Rattle.chor_io.specs.declared.outside.Fetched.TheVariants as fetched
 use Rattle.chor_cmd.specs.declared.words.Words.{Words}
-use Rattle.chor_cmd.specs.declared.status.Status.TheVariants.{Done, Usage, ReadFault, TooLarge, Unbuilt}
-use Rattle.chor_cmd.specs.Words.{IsRunForm, HasNoForm}
+use Rattle.chor_cmd.specs.declared.status.Status.TheVariants.{Done, Unbuilt}
+use Rattle.chor_cmd.specs.Words.{IsRunForm}
 use Rattle.chor_cmd.specs.ThinFile.{IsNoSource}
-use Rattle.chor_cmd.specs.Endings.{Told, Tells, TellsOnly, source_limit, RunsThin, Ends, usage, read_fault, too_large, unbuilt, done, line_naming}
+use Rattle.chor_cmd.specs.Endings.{Told, Tells, TellsOnly, source_limit, RunsThin, Ends, unbuilt, done}
 
 -- the bytes that were fetched are those that are told
 told_from : (o : Option (List ℕ)) (new told : List ℕ) (limit : ℕ) → o ≡ Some told → FetchFrom o limit [] new fetched.All → (told ≡ new) × (length new ≤ limit)

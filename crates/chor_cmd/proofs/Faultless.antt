@@ -1,17 +1,15 @@
 -- The endpoint programs of a thin file have no fault.
-use Rattle.std.proofs.Common.{◌≡◌, ◌≢◌, ℕ, zero, suc, ◌<◌, Bool, true, false, not, ◌==◌, ◌||◌, List, [], ◌∷◌, ◌++◌, length, refl, sym, ap, ◌∙◌, subst, Some, arith}
-use Rattle.std.specs.Prelude.{map, All, slice_get}
+use Rattle.std.proofs.Common.{◌≡◌, ◌≢◌, ℕ, zero, suc, Bool, true, false, not, ◌==◌, ◌||◌, List, [], ◌∷◌, ◌++◌, refl, sym, ap, ◌∙◌, subst, Some, arith}
+use Rattle.std.specs.Prelude.{map, All}
 use Rattle.std.proofs.lemmas.Bool.Decides.{nat_tests}
 use Rattle.chor_base.specs.declared.names.NameId.{NameId}
 use Rattle.endpoint_code.specs.declared.code.CodeId.{CodeId}
 use Rattle.endpoint_code.specs.declared.endpoints.Channel.{Channel}
 use Rattle.endpoint_code.specs.declared.endpoints.Process.{Process}
-use Rattle.endpoint_code.specs.declared.endpoints.Procedure.{Procedure}
-use Rattle.endpoint_code.specs.declared.endpoints.ServiceCode.{ServiceCode}
 use Rattle.endpoint_code.specs.declared.endpoints.Endpoints.{Endpoints}
 use Rattle.endpoint_code.specs.Network.{node_at, channel_of}
-use Rattle.endpoint_code.specs.Faults.{is_among, AreDistinct, no_name, one_more, IsActive, IsScoped, joins, sends, receives, ends, AreApart, no_unit, AreSingle, no_service, IsServed, has_service, HasNoNameFault, HasNoCallFault, IsFaultless, begins_with_call}
-use Rattle.chor_cmd.specs.Thin.{Thin, role, process}
+use Rattle.endpoint_code.specs.Faults.{AreDistinct, no_name, one_more, IsActive, IsScoped, joins, sends, receives, ends, AreApart, no_unit, AreSingle, no_service, IsServed, has_service, IsFaultless, begins_with_call}
+use Rattle.chor_cmd.specs.Thin.{Thin, role}
 use Rattle.chor_cmd.specs.ThinCode.{Act, Out, In, acts_in, IsLine, AreEndpointsOf}
 
 true_eq : (n : ℕ) → (n == n) ≡ true

@@ -1,5 +1,5 @@
 -- How the file of a thin source grows.
-use Rattle.std.proofs.Common.{◌≡◌, ℕ, List, [], ◌∷◌, ◌++◌, length, refl, sym, ap, ◌∙◌, subst, append_assoc}
+use Rattle.std.proofs.Common.{◌≡◌, List, [], ◌∷◌, ◌++◌, length, refl, sym, ap, ◌∙◌, subst, append_assoc}
 use Rattle.std.specs.Prelude.{map}
 use Rattle.chor_base.specs.declared.rule.Place.{Place}
 use Rattle.chor_tree.specs.declared.file.Named.{Named}
@@ -11,11 +11,11 @@ use Rattle.chor_tree.specs.declared.tree.Part.{Part}
 use Rattle.chor_tree.specs.declared.tree.Form.TheVariants.{Start, End}
 use Rattle.chor_base.specs.declared.names.NameId.{NameId}
 use Rattle.chor_semantics.specs.Choreography.{Named as Unbound, Then, Starts}
-use Rattle.chor_semantics.specs.Sources.{tree_in, trees_of, form_tree, parts_of, served_of}
+use Rattle.chor_semantics.specs.Sources.{tree_in, trees_of, parts_of, served_of}
 use Rattle.chor_semantics.proofs.Grown.{tree_at-push}
 use Rattle.chor_cmd.specs.declared.shape.Exchange.{Exchange as Held}
 use Rattle.chor_cmd.specs.Shapes.{exchange_of}
-use Rattle.chor_cmd.specs.Thin.{Exchange, Thin, exchange_node, exchanges_tree, start_tree}
+use Rattle.chor_cmd.specs.Thin.{Thin, exchange_node, exchanges_tree, start_tree}
 use Rattle.chor_cmd.specs.Pieces.{state_before}
 use Rattle.chor_cmd.specs.ThinFile.{IsExchange, AreStates, AddsStates, IsExchangeForm}
 

@@ -1,5 +1,5 @@
 -- A table with more nodes keeps what it has.
-use Rattle.std.proofs.Common.{◌≡◌, ℕ, zero, suc, ◌+◌, ◌<◌, Bool, true, false, if◌then◌else◌, not, List, [], ◌∷◌, ◌++◌, length, refl, sym, ap, ◌∙◌, Some, Option, subst, arith, append_assoc, length-append}
+use Rattle.std.proofs.Common.{◌≡◌, ℕ, zero, suc, ◌+◌, ◌<◌, Bool, true, false, if◌then◌else◌, not, List, [], ◌∷◌, ◌++◌, length, refl, sym, ap, ◌∙◌, Some, subst, arith, append_assoc, length-append}
 use Rattle.std.specs.Prelude.{slice_get, map, All}
 use Rattle.std.proofs.lemmas.List.Elements.{All-append}
 use Rattle.chor_base.proofs.Lists.{slice_get_last}

@@ -1,11 +1,11 @@
 -- What a call has written when it ends.
-use Rattle.std.proofs.Common.{◌≡◌, ℕ, List, ◌++◌, Option, Some, None, refl, sym, ap, ◌∙◌, subst}
-use Rattle.chor_io.specs.Outside.{PutTells, Risen, GrowsByFront}
+use Rattle.std.proofs.Common.{ℕ, List, Option, Some, None, sym, ap, ◌∙◌, subst}
+use Rattle.chor_io.specs.Outside.{PutTells, Risen}
 use Rattle.chor_io.specs.declared.outside.Put.TheVariants as put
 use Rattle.chor_cmd.specs.declared.words.Words.{Words}
 use Rattle.chor_cmd.specs.declared.status.Status.{Status}
 use Rattle.chor_cmd.specs.declared.status.Status.TheVariants.{Done, Usage, ReadFault, WriteFault, Memory, TooLarge, Unbuilt}
-use Rattle.chor_cmd.specs.Endings.{Told, Ends, usage, read_fault, too_large, unbuilt, done, Wrote, WroteFront, HasEnded}
+use Rattle.chor_cmd.specs.Endings.{Told, Ends, Wrote, WroteFront, HasEnded}
 
 wrote : (old new : Option (List ℕ)) (text : List ℕ) → PutTells old new text put.All → Wrote old new text
 wrote None new text h = tt

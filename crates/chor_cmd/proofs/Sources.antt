@@ -1,19 +1,18 @@
 -- Bytes that are the text of a thin file, and bytes that are of none.
-use Rattle.std.proofs.Common.{◌≡◌, ◌≢◌, ◌<◌, ◌≤◌, ℕ, Bool, true, false, List, length, refl, sym, ap, ◌∙◌, subst}
+use Rattle.std.proofs.Common.{◌≡◌, ◌<◌, ℕ, Bool, false, List, sym, subst}
 use Rattle.std.specs.Prelude.{All, IsTrue, ◌↔◌}
 use Rattle.chor_base.specs.declared.names.NameId.{NameId}
 use Rattle.chor_base.specs.declared.rule.Rule.{Rule}
 use Rattle.chor_base.specs.declared.rule.Place.{Place}
 use Rattle.chor_tree.specs.declared.file.File.{File}
 use Rattle.chor_lexer.specs.declared.token.Token.{Token}
-use Rattle.chor_lexer.specs.Lexeme.{Lexeme}
-use Rattle.chor_lexer.specs.Tokens.{IsTokens, AreTokensOf, AreSpelled}
+use Rattle.chor_lexer.specs.Tokens.{AreSpelled}
 use Rattle.chor_lexer.specs.Refusal.{Refuses}
 use Rattle.chor_lexer.proofs.Cuts.{not_both, one_reading}
 use Rattle.chor_cmd.specs.Thin.{Thin}
 use Rattle.chor_cmd.specs.Pieces.{in_words, AreThin}
 use Rattle.chor_cmd.specs.Reading.{IsRead, IsNoThin, IsFine}
-use Rattle.chor_cmd.specs.ThinFile.{HasShape, IsSourceOf, IsThinSource, IsNoSource, AreNoSource, AreSourceOf, IsRunnable}
+use Rattle.chor_cmd.specs.ThinFile.{HasShape, IsNoSource, AreNoSource, AreSourceOf, IsRunnable}
 
 pub no_ascii : (bytes : List ℕ) (b : Bool) → (IsTrue b ↔ All (λ c. c < 128) bytes) → b ≡ false → IsNoSource bytes
 no_ascii bytes b h e = record { never = λ f s. let yes : IsTrue b = h.1 s.1.ascii in let no : IsTrue false = subst IsTrue e yes in absurd (clash no) }

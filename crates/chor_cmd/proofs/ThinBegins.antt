@@ -1,31 +1,26 @@
 -- The start of the one session of a thin file, and the whole run.
-use Rattle.std.proofs.Common.{◌≡◌, ◌≢◌, ℕ, zero, suc, ◌+◌, ◌*◌, ◌<◌, Bool, true, false, not, ◌&&◌, ◌||◌, ◌==◌, List, [], ◌∷◌, ◌++◌, length, refl, sym, ap, ◌∙◌, Option, Some, None, ℤ, pos, subst, arith, if◌then◌else◌}
-use Rattle.std.specs.Prelude.{slice_get}
+use Rattle.std.proofs.Common.{◌≡◌, ◌≢◌, ℕ, zero, suc, ◌+◌, ◌*◌, ◌<◌, Bool, true, false, not, ◌&&◌, ◌==◌, List, [], ◌∷◌, length, refl, sym, ap, ◌∙◌, Some, None, ℤ, pos, subst, arith}
 use Rattle.std.specs.FinMap as fin
 use Rattle.std.proofs.lemmas.Cmp.{nat_cmp_total}
 use Rattle.std.proofs.lemmas.Bool.Decides.{nat_tests}
 use Rattle.chor_base.proofs.NameMaps.{ties}
 use Rattle.chor_base.specs.declared.names.NameId.{NameId}
-use Rattle.chor_base.specs.declared.value.Value.TheVariants.{Int}
 use Rattle.chor_base.specs.declared.event.Event.{Event}
 use Rattle.chor_base.specs.declared.event.Event.TheVariants.{Start}
 use Rattle.chor_base.specs.Meaning.{Hosts}
 use Rattle.chor_base.specs.Events.{triple_eq}
-use Rattle.chor_semantics.specs.Choreography.{Ref, Live, Named, Starts, Choreography, Then, Ends, put, number_for, numbers_for, bound, named_by, instance_of}
+use Rattle.chor_semantics.specs.Choreography.{Ref, Live, Named, Starts, Choreography, put, number_for, numbers_for, bound, instance_of}
 use Rattle.chor_semantics.specs.Sources.{Procedure, Configuration}
 use Rattle.chor_semantics.specs.Steps.{Keeps, Makes as Made, head, head_makes, Steps}
-use Rattle.chor_semantics.specs.Runs.{Leads}
-use Rattle.endpoint_code.specs.declared.code.CodeId.{CodeId}
-use Rattle.endpoint_code.specs.declared.code.CodeNode.{CodeNode}
 use Rattle.endpoint_code.specs.declared.code.CodeNode.TheVariants.{Join}
 use Rattle.endpoint_code.specs.declared.endpoints.Channel.{Channel}
 use Rattle.endpoint_code.specs.declared.endpoints.Endpoints.{Endpoints}
-use Rattle.endpoint_code.specs.Network.{Machine, NetworkState, Place, Makes, first_state, standing, standing_all, place_of, place_in, place_at, queue_of, joins, place_joins, one_joiner, joiners, starts, channel_starts, channel_of, starts_with, begun, NetworkSteps}
-use Rattle.endpoint_code.specs.NetworkRuns.{has_ended, all_ended, ends_there, joins_there, is_joined, absent_among, absent_on, waits_for, place_waits, can_step, none_can_step}
-use Rattle.endpoint_code.specs.Scheduled.{least_joiner, partner, partners, started, started_on, chosen_at, chosen, Chooses, IsScheduled, closed, goes, Close, ended, limit, stuck, Ended}
-use Rattle.chor_cmd.specs.Thin.{Exchange, Thin, role, process, exchange_node, exchanges_tree, thin_tree}
-use Rattle.chor_cmd.specs.ThinCode.{Act, Out, In, act_if, acts_in, IsLine, IsBody, AreEndpointsOf}
-use Rattle.chor_cmd.proofs.ThinItems.{Item, Unsent, Flying, number_of, acts_of, loads_of, left_of, IsOrdered, role_of, tree_of}
+use Rattle.endpoint_code.specs.Network.{Machine, NetworkState, Makes, first_state, standing, standing_all, place_of, place_in, joins, place_joins, one_joiner, starts, channel_starts, channel_of, begun}
+use Rattle.endpoint_code.specs.NetworkRuns.{has_ended, all_ended, ends_there, joins_there, is_joined, absent_on, waits_for, place_waits, can_step, none_can_step}
+use Rattle.endpoint_code.specs.Scheduled.{least_joiner, partner, partners, started, started_on, chosen_at, chosen, Chooses, IsScheduled, closed, goes, Close, ended, limit, stuck}
+use Rattle.chor_cmd.specs.Thin.{Exchange, Thin, role, process, exchanges_tree, thin_tree}
+use Rattle.chor_cmd.specs.ThinCode.{Out, In, act_if, acts_in, IsLine, AreEndpointsOf}
+use Rattle.chor_cmd.proofs.ThinItems.{Item, Unsent, number_of, acts_of, loads_of, left_of, IsOrdered, role_of, tree_of}
 use Rattle.chor_cmd.proofs.ThinSteps.{Matches}
 use Rattle.chor_cmd.proofs.ThinRuns.{Runs, runs}
 

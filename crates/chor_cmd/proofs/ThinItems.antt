@@ -1,17 +1,16 @@
 -- Exchanges of one session between two processes while they run: the choreography, what each process does, and the loads.
-use Rattle.std.proofs.Common.{◌≡◌, ℕ, suc, ◌+◌, Bool, true, false, not, List, [], ◌∷◌, ◌++◌, refl, sym, ap, ◌∙◌, Some, ℤ, pos}
+use Rattle.std.proofs.Common.{◌≡◌, ℕ, suc, Bool, true, false, not, List, [], ◌∷◌, ◌++◌, refl, sym, ap, ◌∙◌, ℤ, pos}
 use Rattle.chor_base.specs.declared.names.NameId.{NameId}
 use Rattle.chor_base.specs.declared.value.Value.TheVariants.{Int}
 use Rattle.chor_base.specs.declared.value.Load.{Load}
 use Rattle.chor_base.specs.declared.value.Load.TheVariants.{Value as Carries}
-use Rattle.chor_base.specs.declared.event.Event.{Event}
 use Rattle.chor_base.specs.declared.event.Event.TheVariants.{Send, Recv}
 use Rattle.chor_base.specs.Expr.{Constant}
 use Rattle.chor_base.specs.NameMap.{Variables}
 use Rattle.chor_base.specs.Meaning.{Hosts}
-use Rattle.chor_semantics.specs.Choreography.{Ref, Live, OfValue, ValueSent, Node, Communicates, InTransit, Choreography, Then, Ends}
+use Rattle.chor_semantics.specs.Choreography.{Live, OfValue, ValueSent, Node, Communicates, InTransit, Choreography, Then, Ends}
 use Rattle.chor_semantics.specs.Sources.{Procedure}
-use Rattle.chor_semantics.specs.Steps.{Effect, Keeps, Assigns, Moves, Makes, head, delay, head_makes}
+use Rattle.chor_semantics.specs.Steps.{Keeps, Assigns, Moves, head, delay, head_makes}
 use Rattle.chor_cmd.specs.ThinCode.{Act, Out, In}
 
 -- an exchange that is unsent, or that is in transit: whether the first process sends it, its number, and its variable

@@ -1,5 +1,5 @@
 -- Each scheduled run of the network of two processes is a run of the choreography, and it ends.
-use Rattle.std.proofs.Common.{◌≡◌, ◌≢◌, ℕ, zero, suc, ◌+◌, ◌<◌, Bool, true, false, not, ◌&&◌, ◌||◌, List, [], ◌∷◌, ◌++◌, length, refl, sym, ap, ◌∙◌, Option, Some, None, ℤ, subst, arith, if◌then◌else◌, is_some}
+use Rattle.std.proofs.Common.{◌≡◌, ℕ, zero, suc, ◌+◌, ◌<◌, Bool, true, false, not, ◌&&◌, List, [], ◌∷◌, length, refl, sym, ap, ◌∙◌, Option, Some, None, ℤ, subst, arith, if◌then◌else◌}
 use Rattle.std.specs.Prelude.{slice_get}
 use Rattle.std.specs.FinMap as fin
 use Rattle.chor_base.specs.declared.names.NameId.{NameId}
@@ -9,19 +9,18 @@ use Rattle.chor_base.specs.declared.value.Load.TheVariants.{Value as Carries}
 use Rattle.chor_base.specs.declared.event.Event.{Event}
 use Rattle.chor_base.specs.Meaning.{Hosts}
 use Rattle.chor_base.specs.Events.{triple_eq}
-use Rattle.chor_semantics.specs.Choreography.{Choreography, Ends}
+use Rattle.chor_semantics.specs.Choreography.{Ends}
 use Rattle.chor_semantics.specs.Sources.{Procedure, Configuration}
-use Rattle.chor_semantics.specs.Steps.{Steps}
 use Rattle.chor_semantics.specs.Runs.{Leads}
 use Rattle.endpoint_code.specs.declared.endpoints.Channel.{Channel}
 use Rattle.endpoint_code.specs.declared.endpoints.Endpoints.{Endpoints}
-use Rattle.endpoint_code.specs.Network.{Machine, NetworkState, Makes, makes, machine_makes, place_of, place_in, queue_of, joins, place_joins, one_joiner, joiners, starts, starts_with, channel_starts, channel_of, begun, paired, one_pair, takes_value, NetworkSteps, acts, begins}
+use Rattle.endpoint_code.specs.Network.{Machine, NetworkState, Makes, makes, machine_makes, place_in, queue_of, joins, place_joins, one_joiner, joiners, starts, starts_with, channel_starts, channel_of, begun, paired, takes_value, NetworkSteps, acts, begins}
 use Rattle.endpoint_code.specs.NetworkRuns.{has_ended, all_ended, ends_there, waits_for, place_waits, waits_to_send, waits_to_receive, waits_for_first, can_step, none_can_step}
-use Rattle.endpoint_code.specs.Scheduled.{IsScheduled, closed, goes, Close, Closes, ended, limit, stuck, Ended, Limit, Stuck, first_waiting, first_waiting_from, Chooses}
+use Rattle.endpoint_code.specs.Scheduled.{IsScheduled, closed, goes, Close, ended, limit, stuck, Ended, first_waiting, first_waiting_from}
 use Rattle.endpoint_code.proofs.Chosen.{chooses_steps}
 use Rattle.chor_cmd.specs.ThinCode.{Act, Out, In, IsLine}
 use Rattle.chor_cmd.proofs.ThinItems.{Item, Unsent, Flying, number_of, acts_of, loads_of, left_of, role_of, tree_of}
-use Rattle.chor_cmd.proofs.ThinSteps.{Matches, Follows, step_of, machine_at, not_not}
+use Rattle.chor_cmd.proofs.ThinSteps.{Matches, Follows, step_of}
 
 abbrev no_act : List Act → Bool
 no_act [] = true

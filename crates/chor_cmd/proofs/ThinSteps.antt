@@ -1,5 +1,5 @@
 -- Each step of the network of two processes is a step of the choreography.
-use Rattle.std.proofs.Common.{◌≡◌, ℕ, zero, suc, ◌+◌, Bool, true, false, not, List, [], ◌∷◌, ◌++◌, length, refl, sym, ap, ◌∙◌, Option, Some, None, ℤ, pos, subst, arith}
+use Rattle.std.proofs.Common.{◌≡◌, ℕ, suc, Bool, true, false, not, List, [], ◌∷◌, ◌++◌, refl, sym, ap, ◌∙◌, Some, None, ℤ, subst}
 use Rattle.std.specs.Prelude.{slice_get, slice_set}
 use Rattle.std.specs.FinMap as fin
 use Rattle.chor_base.specs.declared.names.NameId.{NameId}
@@ -11,18 +11,16 @@ use Rattle.chor_base.specs.declared.event.Event.TheVariants as event
 use Rattle.chor_base.specs.declared.expr.Expr.TheVariants.{Lit}
 use Rattle.chor_base.specs.NameMap.{Variables}
 use Rattle.chor_base.specs.Meaning.{Hosts}
-use Rattle.chor_base.specs.Events.{Triple, triple_eq}
-use Rattle.chor_semantics.specs.Choreography.{Choreography}
+use Rattle.chor_base.specs.Events.{triple_eq}
 use Rattle.chor_semantics.specs.Sources.{Procedure, Configuration}
-use Rattle.chor_semantics.specs.Steps.{Effect, Keeps, Assigns, Moves, Steps, vars_of, vars_after, sid_after, assigned}
+use Rattle.chor_semantics.specs.Steps.{Effect, Keeps, Assigns, Moves, Steps, vars_after, sid_after, assigned}
 use Rattle.endpoint_code.specs.declared.code.CodeId.{CodeId}
-use Rattle.endpoint_code.specs.declared.code.CodeNode.{CodeNode}
 use Rattle.endpoint_code.specs.declared.code.CodeNode.TheVariants.{Send, Recv, End}
 use Rattle.endpoint_code.specs.declared.endpoints.Endpoints.{Endpoints}
-use Rattle.endpoint_code.specs.Network.{Machine, NetworkState, Makes, queue_of, with_queue, moved, makes, machine_makes, place_makes, place_in, puts, takes_from, takes, takes_value, node_at, NetworkSteps, acts, begins}
+use Rattle.endpoint_code.specs.Network.{Machine, NetworkState, Makes, queue_of, with_queue, moved, makes, machine_makes, place_makes, place_in, puts, takes_from, takes, takes_value, node_at}
 use Rattle.endpoint_code.proofs.Queues.{loads-same, loads-other}
 use Rattle.chor_cmd.specs.ThinCode.{Act, Out, In, IsLine}
-use Rattle.chor_cmd.proofs.ThinItems.{Item, number_of, acts_of, loads_of, left_of, IsOrdered, role_of, tree_of, Sends, Takes, sends, takes as takes_item}
+use Rattle.chor_cmd.proofs.ThinItems.{Item, number_of, acts_of, loads_of, left_of, IsOrdered, role_of, tree_of, sends, takes as takes_item}
 
 module _ (e : Endpoints) (n : NetworkState) (p s : ℕ) (k r o : NameId) (m : Machine) (here : slice_get n.machines p ≡ Some m) (on : fin.get m.sessions k.0 ≡ Some (s, r)) where
   -- the state after it has sent a number

@@ -1,5 +1,5 @@
 -- The transcript of the scheduled run of a thin file.
-use Rattle.std.proofs.Common.{◌≡◌, ◌≢◌, ℕ, zero, suc, ◌+◌, ◌-◌, ◌*◌, ◌^◌, ◌<◌, ◌≤◌, Bool, true, false, ◌==◌, List, [], ◌∷◌, ◌++◌, length, refl, sym, ap, ◌∙◌, subst, Option, None, arith, if◌then◌else◌}
+use Rattle.std.proofs.Common.{◌≡◌, ◌≢◌, ℕ, suc, ◌+◌, ◌-◌, ◌*◌, ◌^◌, ◌<◌, true, false, ◌==◌, List, [], ◌∷◌, ◌++◌, length, refl, sym, ap, ◌∙◌, subst, None, arith}
 use Rattle.std.specs.Prelude.{map}
 use Rattle.std.specs.FinMap as fin
 use Rattle.std.proofs.lemmas.Bool.Decides.{nat_tests}
@@ -9,9 +9,9 @@ use Rattle.chor_base.specs.declared.event.Entry.{Entry}
 use Rattle.chor_base.specs.NameMap.{Variables}
 use Rattle.chor_tree.specs.declared.file.File.{File}
 use Rattle.chor_tree.specs.declared.file.Named.{Named}
-use Rattle.chor_semantics.specs.Choreography.{Ref, Live, Named as Unbound, instance_of}
-use Rattle.chor_semantics.specs.Sources.{Configuration, first_configuration, numbered, procedures_of, tree_in, trees_of}
-use Rattle.chor_semantics.specs.Runs.{Leads, IsRunTo, IsEndedRun, IsTerminated, IsQuiet, quiet, ended}
+use Rattle.chor_semantics.specs.Choreography.{Live, Named as Unbound, instance_of}
+use Rattle.chor_semantics.specs.Sources.{Configuration, first_configuration, numbered, procedures_of}
+use Rattle.chor_semantics.specs.Runs.{Leads, IsTerminated, quiet, ended}
 use Rattle.endpoint_code.specs.declared.endpoints.Endpoints.{Endpoints}
 use Rattle.endpoint_code.specs.Network.{NetworkState, first_state, standing_all}
 use Rattle.endpoint_code.specs.Scheduled.{IsScheduled, Close, Ended}
@@ -23,8 +23,8 @@ use Rattle.endpoint_code.proofs.Chosen.{scheduled_leads}
 use Rattle.transcript.specs.Text.{transcript}
 use Rattle.chor_cmd.specs.Thin.{Thin, thin_tree}
 use Rattle.chor_cmd.specs.ThinCode.{AreEndpointsOf}
-use Rattle.chor_cmd.specs.ThinFile.{plain, HasShape, IsSourceOf, IsRunnable}
-use Rattle.chor_cmd.specs.Endings.{book_of, events_of, end_line, IsRunText, RunsShape, RunsThin}
+use Rattle.chor_cmd.specs.ThinFile.{plain, IsSourceOf, IsRunnable}
+use Rattle.chor_cmd.specs.Endings.{book_of, events_of, end_line, RunsShape, RunsThin}
 use Rattle.chor_cmd.proofs.ThinRuns.{Runs}
 use Rattle.chor_cmd.proofs.ThinBegins.{whole, distinct}
 

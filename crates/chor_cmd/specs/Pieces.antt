@@ -1,12 +1,11 @@
 -- How a thin file is written, token by token.
-use Rattle.std.specs.Prelude.{ℕ, ℤ, pos, ◌≡◌, ◌≢◌, ◌≤◌, ◌≤ℤ◌, Bool, true, false, not, List, [], ◌∷◌, ◌++◌, length, map, All, codes, unsigned_abs, bytes_eq, slice_index_or, slice_get, Some}
+use Rattle.std.specs.Prelude.{ℕ, ℤ, pos, ◌≡◌, ◌≢◌, ◌≤◌, ◌≤ℤ◌, false, not, List, [], ◌∷◌, ◌++◌, length, map, All, codes, unsigned_abs, bytes_eq, slice_index_or}
 use Rattle.std.specs.List.{list_any}
 use Rattle.chor_base.specs.declared.names.NameId.{NameId}
 use Rattle.chor_base.specs.Words.{AllDistinct}
 use Rattle.chor_lexer.specs.declared.mark.Mark.{Mark}
 use Rattle.chor_lexer.specs.declared.mark.Mark.TheVariants.{OpenBrace, CloseBrace, OpenParen, CloseParen, OpenBracket, CloseBracket, Comma, Semicolon, Colon, Dot, Assign, Arrow}
 use Rattle.chor_lexer.specs.Lexeme.{Symbol, word, number, mark, last, Lexeme}
-use Rattle.chor_lexer.specs.Tokens.{IsTokens}
 use Rattle.chor_cmd.specs.declared.piece.Keyword.{Keyword}
 use Rattle.chor_cmd.specs.declared.piece.Keyword.TheVariants.{Protocol, Int, Then, End, Service, Main, Start}
 use Rattle.chor_cmd.specs.Thin.{Exchange, Thin, role, process}

@@ -1,5 +1,5 @@
 -- What contracts see of a thin file as the program holds it.
-use Rattle.std.specs.Prelude.{List, map}
+use Rattle.std.specs.Prelude.{map}
 use Rattle.chor_base.specs.declared.names.NameId.{NameId}
 use Rattle.chor_cmd.specs.declared.shape.Exchange.{Exchange as Held}
 use Rattle.chor_cmd.specs.declared.shape.Shape.{Shape}

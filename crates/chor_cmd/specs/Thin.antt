@@ -1,9 +1,9 @@
 -- Thin files: one protocol, one channel and two processes that exchange numbers in one session (this project's own).
-use Rattle.std.specs.Prelude.{ℕ, ◌≡◌, Bool, true, false, not, List, [], ◌∷◌, ℤ}
+use Rattle.std.specs.Prelude.{Bool, true, false, not, List, [], ◌∷◌, ℤ}
 use Rattle.chor_base.specs.declared.names.NameId.{NameId}
 use Rattle.chor_base.specs.declared.value.Value.TheVariants.{Int}
-use Rattle.chor_base.specs.Expr.{Term, Constant}
-use Rattle.chor_semantics.specs.Choreography.{Ref, Named, OfValue, Node, Starts, Communicates, Choreography, Then, Ends}
+use Rattle.chor_base.specs.Expr.{Constant}
+use Rattle.chor_semantics.specs.Choreography.{Named, OfValue, Node, Starts, Communicates, Choreography, Then, Ends}
 
 -- an exchange: whether the first role sends, the protocol's state, the number that is sent and the variable that gets it
 pub record Exchange (N : Type 0) : Type 0 where

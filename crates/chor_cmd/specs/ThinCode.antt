@@ -1,5 +1,5 @@
 -- The two endpoint programs of a thin file.
-use Rattle.std.specs.Prelude.{ℕ, ◌≡◌, Bool, true, false, not, List, [], ◌∷◌, ◌++◌, Some, slice_get, All, ℤ}
+use Rattle.std.specs.Prelude.{◌≡◌, Bool, true, false, not, List, [], ◌∷◌, ◌++◌, Some, slice_get, All, ℤ}
 use Rattle.chor_base.specs.declared.names.NameId.{NameId}
 use Rattle.chor_base.specs.declared.value.Value.TheVariants.{Int}
 use Rattle.chor_base.specs.declared.expr.Expr.TheVariants.{Lit}
@@ -8,7 +8,7 @@ use Rattle.endpoint_code.specs.declared.code.CodeNode.{CodeNode}
 use Rattle.endpoint_code.specs.declared.code.CodeNode.TheVariants.{Join, Send, Recv, End}
 use Rattle.endpoint_code.specs.declared.endpoints.Endpoints.{Endpoints}
 use Rattle.net_core.specs.Plain.{is_plain}
-use Rattle.chor_cmd.specs.Thin.{Exchange, Thin, role, process}
+use Rattle.chor_cmd.specs.Thin.{Exchange, Thin, role}
 
 -- what a process does in an exchange: it sends a number, or receives into a variable
 pub data Act : Type 0 where

@@ -1,5 +1,5 @@
 -- The file of a thin source.
-use Rattle.std.specs.Prelude.{ℕ, suc, ◌≡◌, ◌≢◌, ◌≤◌, Bool, true, false, not, List, [], ◌∷◌, ◌++◌, length, map, Some, slice_get, slice_index_or, All, ◌<◌}
+use Rattle.std.specs.Prelude.{ℕ, ◌≡◌, ◌≢◌, ◌≤◌, not, List, [], ◌∷◌, ◌++◌, length, map, All, ◌<◌}
 use Rattle.chor_base.specs.declared.names.NameId.{NameId}
 use Rattle.chor_base.specs.declared.value.Sort.TheVariants.{Int}
 use Rattle.chor_tree.specs.declared.file.File.{File}
@@ -8,7 +8,7 @@ use Rattle.chor_tree.specs.declared.file.Service.{Service}
 use Rattle.chor_tree.specs.declared.protocol.Protocol.{Protocol}
 use Rattle.chor_tree.specs.declared.protocol.State.{State}
 use Rattle.chor_tree.specs.declared.protocol.ProtoStep.{ProtoStep}
-use Rattle.chor_tree.specs.declared.protocol.ProtoStep.TheVariants.{End, Value, Choice}
+use Rattle.chor_tree.specs.declared.protocol.ProtoStep.TheVariants.{End, Value}
 use Rattle.chor_tree.specs.declared.protocol.Payload.TheVariants.{Plain}
 use Rattle.chor_tree.specs.declared.tree.NodeId.{NodeId}
 use Rattle.chor_tree.specs.declared.tree.Form.{Form}

@@ -1,4 +1,4 @@
-use Rattle.std.proofs.Common.{◌≡◌, sym, subst, ℕ, List}
+use Rattle.std.proofs.Common.{sym, subst, ℕ, List}
 use Rattle.chor_cmd.specs.declared.status.Status.TheVariants.{Usage}
 use Rattle.chor_cmd.specs.Endings.{Ends, usage}
 use Rattle.chor_cmd.proofs.command.chor.Goals as goal

@@ -1,6 +1,5 @@
-use Rattle.std.proofs.Common.{◌≡◌, sym, ap, subst, ◌∙◌, ℕ, List, []}
+use Rattle.std.proofs.Common.{sym, subst, ℕ, List, []}
 use Rattle.chor_io.specs.Outside.{Risen, FetchTells}
-use Rattle.chor_io.specs.declared.outside.Fetched.TheVariants as fetched
 use Rattle.chor_cmd.specs.declared.status.Status.TheVariants.{ReadFault, TooLarge}
 use Rattle.chor_cmd.specs.Endings.{Ends, TellsOnly, line_naming, read_fault, too_large}
 use Rattle.chor_cmd.proofs.Calls.{told_all, told_long}

@@ -1,5 +1,5 @@
-use Rattle.std.proofs.Common.{rules, ◌≡◌, sym, ap, subst, ◌∙◌, ℕ, List}
-use Rattle.chor_cmd.specs.declared.status.Status.TheVariants.{Done, Unbuilt}
+use Rattle.std.proofs.Common.{sym, subst, ℕ, List}
+use Rattle.chor_cmd.specs.declared.status.Status.TheVariants.{Unbuilt}
 use Rattle.chor_cmd.specs.ThinFile.{IsNoSource}
 use Rattle.chor_cmd.specs.Endings.{RunsThin, Ends}
 use Rattle.chor_cmd.proofs.Calls.{done_ends, unbuilt_ends, of_some, of_none}

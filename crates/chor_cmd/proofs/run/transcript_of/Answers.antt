@@ -1,6 +1,4 @@
-use Rattle.std.proofs.Common.{◌≡◌, ◌∙◌, ap, List, length}
-use Rattle.chor_base.specs.declared.names.NameId.{NameId}
-use Rattle.chor_base.specs.declared.event.Entry.{Entry}
+use Rattle.std.proofs.Common.{◌≡◌, ◌∙◌, ap, length}
 use Rattle.transcript.specs.Text.{transcript}
 use Rattle.chor_cmd.specs.Shapes.{thin_of}
 use Rattle.chor_cmd.specs.ThinFile.{plain}
