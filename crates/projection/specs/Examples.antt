@@ -1,0 +1,2 @@
+pub mod BranchesByLabels
+pub mod ServiceTwice
