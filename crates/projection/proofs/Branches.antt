@@ -1,12 +1,12 @@
 -- The least branch of two labels.
-use Rattle.std.proofs.Common.{◌≡◌, ℕ, ◌==◌, ◌||◌, Bool, true, false, List, [], ◌∷◌, refl, sym, ap, ◌∙◌, subst, ◌⊎◌, inl, inr, arith}
+use Rattle.std.proofs.Common.{◌≡◌, ℕ, ◌==◌, ◌||◌, Bool, true, false, [], ◌∷◌, refl, sym, ap, ◌∙◌, ◌⊎◌, inl, inr, arith}
 use Rattle.std.specs.Prelude.{All}
 use Rattle.std.proofs.lemmas.List.Elements.{All-nil, All-cons, All-head, All-tail}
 use Rattle.std.proofs.lemmas.Bool.Decides.{nat_tests}
 use Rattle.chor_base.specs.declared.names.NameId.{NameId}
-use Rattle.endpoint_code.specs.Trees.{Action, CodeTree, Does, Offers, Tests, Calls, Ends, Arms, NoArms, Arm}
-use Rattle.endpoint_code.specs.Above.{IsAbove, does, offers, tests, calls, ends, AreAbove, no_arm, one_arm, HasAbove, first, later}
-use Rattle.endpoint_code.specs.Labels.{HasDistinctLabels, AreDistinctArms, has_label}
+use Rattle.endpoint_code.specs.Trees.{Action, CodeTree, Does, Offers, Arms, NoArms, Arm}
+use Rattle.endpoint_code.specs.Above.{IsAbove, does, offers, AreAbove, no_arm, one_arm, HasAbove, first, later}
+use Rattle.endpoint_code.specs.Labels.{HasDistinctLabels}
 use Rattle.endpoint_code.specs.LeastAbove.{IsLeastAbove}
 use Rattle.endpoint_code.proofs.AboveOrder.{above_self}
 

@@ -1,12 +1,12 @@
 -- What the code of a process is, form by form.
-use Rattle.std.proofs.Common.{◌≡◌, Bool, true, false, List, [], ◌∷◌, refl, sym, ap, ◌∙◌, subst}
+use Rattle.std.proofs.Common.{◌≡◌, false, List, [], ◌∷◌, refl, sym, ap, ◌∙◌}
 use Rattle.chor_base.specs.declared.names.NameId.{NameId}
 use Rattle.chor_base.specs.Expr.{Term}
 use Rattle.chor_tree.specs.declared.file.Proc.{Proc}
-use Rattle.chor_semantics.specs.Choreography.{Ref, Node, Choreography, Then, Either, Calls, Ends as Stops}
+use Rattle.chor_semantics.specs.Choreography.{Ref, Node, Choreography, Then, Either, Ends as Stops}
 use Rattle.endpoint_code.specs.Trees.{Action, CodeTree, Does, Offers, Ends, NoArms, Arm}
 use Rattle.endpoint_code.specs.LeastAbove.{IsLeastAbove}
-use Rattle.projection.specs.Codes.{Part, Absent, Acts, Learns, part_in, is_named, IsCodeOf, acts, learns, absent, decides, merges, calls, ends}
+use Rattle.projection.specs.Codes.{Absent, Acts, Learns, part_in, is_named, IsCodeOf, acts, learns, absent, decides, merges, ends}
 
 module _ (procs : List Proc) (r : NameId) where
   -- a code of what follows, of which this is made

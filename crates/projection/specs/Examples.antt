@@ -1,2 +1,3 @@
 pub mod BranchesByLabels
 pub mod ServiceTwice
+pub mod EndlessExchange

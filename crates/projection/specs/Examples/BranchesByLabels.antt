@@ -17,7 +17,6 @@ use Rattle.chor_semantics.specs.Sources.{tree_in, trees_of}
 use Rattle.chor_semantics.specs.Examples.Source.{Source, nodes_of, written, at, node, number}
 use Rattle.chor_semantics.specs.Examples.Names.{p, r, c, h}
 use Rattle.endpoint_code.specs.declared.code.CodeId.{CodeId}
-use Rattle.endpoint_code.specs.declared.code.CodeNode.{CodeNode}
 use Rattle.endpoint_code.specs.declared.code.CodeNode.TheVariants.{Join, Pick, Branch, If as Decide, End}
 use Rattle.endpoint_code.specs.Trees.{CodeTree, code_at}
 

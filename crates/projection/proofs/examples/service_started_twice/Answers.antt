@@ -1,16 +1,15 @@
-use Rattle.std.proofs.Common.{◌≡◌, ℕ, pos, List, [], ◌∷◌, refl, sym, ap, ◌∙◌, subst, Some}
+use Rattle.std.proofs.Common.{◌≡◌, ℕ, pos, List, [], ◌∷◌, refl, sym, ◌∙◌, subst, Some}
 use Rattle.std.specs.List.{AllZip}
 use Rattle.chor_base.specs.declared.names.NameId.{NameId}
 use Rattle.chor_base.specs.declared.value.Value.TheVariants.{Int}
 use Rattle.chor_base.specs.Expr.{Constant}
-use Rattle.chor_semantics.specs.Choreography.{Choreography, put}
-use Rattle.chor_semantics.specs.Examples.Names.{s, z, k, h, d, A, S, up, down}
-use Rattle.endpoint_code.specs.declared.code.CodeId.{CodeId}
-use Rattle.endpoint_code.specs.Trees.{CodeTree, Does, Offers, Ends, Arms, NoArms, Arm, Sends, code_at}
+use Rattle.chor_semantics.specs.Choreography.{put}
+use Rattle.chor_semantics.specs.Examples.Names.{s, z, d, A, S, up, down}
+use Rattle.endpoint_code.specs.Trees.{CodeTree, Does, Offers, Ends, NoArms, Arm, Sends}
 use Rattle.endpoint_code.specs.LeastAbove.{IsLeastAbove}
 use Rattle.projection.specs.Codes.{IsCodeOf, acts, learns, absent, ends}
 use Rattle.projection.specs.Projects.{serving, Started, session_as, IsStartCode, IsServiceCode}
-use Rattle.projection.specs.Examples.ServiceTwice.{starts, offers}
+use Rattle.projection.specs.Examples.ServiceTwice.{starts, offers, sends_one, sends_two}
 use Rattle.projection.proofs.Inversions.{after_action, after_label, after_others, at_end}
 use Rattle.projection.proofs.Branches.{least_two, not_one, not_three}
 use Rattle.projection.proofs.examples.service_started_twice.Goals as goal
@@ -23,13 +22,30 @@ sends n = Does (Sends d A (Constant (Int (pos n)))) Ends
 abbrev after : NameId → ℕ → CodeTree
 after l n = Offers d A (Arm l (sends n) NoArms)
 
-pub returns-clause-service : goal.returns-clause-service
-returns-clause-service c = record {
+the_service : IsServiceCode [] d S starts (offers ((down, sends_two) ∷ (up, sends_one) ∷ []))
+the_service = record {
   codes = after up 1 ∷ after down 2 ∷ [];
   each = (
     record { process = s; serves = refl; code = learns refl (acts refl (absent refl (absent refl (absent refl ends)))) },
-    (record { process = z; serves = refl; code = learns refl (acts refl ends) }, tt));
+    (record { process = z; serves = refl; code = learns refl (acts refl ends) }, tt),
+  );
   merged = least_two d A down up (sends 2) (sends 1) refl tt tt;
+}
+
+pub returns-clause-service : goal.returns-clause-service
+returns-clause-service c = the_service
+
+pub returns-clause-whole : goal.returns-clause-whole
+returns-clause-whole c tree code inside = record {
+  names = refl;
+  texts = refl;
+  channels = refl;
+  procedures = tt;
+  services = (record { channel = refl; role = refl; body = the_service }, tt);
+  processes = (
+    record { name = refl; body = acts refl (acts refl (acts refl (absent refl (absent refl (absent refl ends))))) },
+    (record { name = refl; body = absent refl (absent refl (absent refl (acts refl (acts refl (acts refl ends))))) }, tt),
+  );
 }
 
 -- the code of the new process that this is
