@@ -1,0 +1,3 @@
+pub mod BranchesByLabels
+pub mod ServiceTwice
+pub mod EndlessExchange
