@@ -24,18 +24,24 @@ pub no_tokens : (bytes : List ℕ) (rule : Rule) (place : Place) → Refuses byt
 no_tokens bytes rule place r = record { never = λ f s. not_both bytes s.1.lexemes rule place s.1.tokens r }
 
 pub unread : (names texts : List (List ℕ)) (ts : List Token) → IsNoThin names ts → AreNoSource names texts ts
-unread names texts ts n = record { none = λ bytes are. record { never = λ f s.
-    let same : are.lexemes ≡ s.1.lexemes = one_reading bytes are.lexemes s.1.lexemes are.tokens s.1.tokens in
-    n.never texts s.1.lexemes (in_words f.names s.0) (subst (AreSpelled names texts ts) same are.spelled) s.1.written } }
+unread names texts ts n = record {
+  none = λ bytes are. record {
+    never = λ f s.
+        let same : are.lexemes ≡ s.1.lexemes = one_reading bytes are.lexemes s.1.lexemes are.tokens s.1.tokens in
+        n.never texts s.1.lexemes (in_words f.names s.0) (subst (AreSpelled names texts ts) same are.spelled) s.1.written;
+  };
+}
 
 pub read_so : (names texts : List (List ℕ)) (ts : List Token) (f : File) (t : Thin NameId) → IsRead names ts t → f.names ≡ names → HasShape f t → AreSourceOf names texts ts f t
-read_so names texts ts f t r e h = record { source = λ bytes ascii are. record {
-  ascii = ascii;
-  lexemes = are.lexemes;
-  tokens = are.tokens;
-  written = subst (λ (ns : List (List ℕ)). AreThin are.lexemes (in_words ns t)) (sym e) (r.reads texts are.lexemes are.spelled);
-  shape = h;
-} }
+read_so names texts ts f t r e h = record {
+  source = λ bytes ascii are. record {
+    ascii = ascii;
+    lexemes = are.lexemes;
+    tokens = are.tokens;
+    written = subst (λ (ns : List (List ℕ)). AreThin are.lexemes (in_words ns t)) (sym e) (r.reads texts are.lexemes are.spelled);
+    shape = h;
+  };
+}
 
 same_name : (x y : NameId) → x.0 ≡ y.0 → x ≡ y
 same_name x y e = λ i. record { 0 = e i }

@@ -121,8 +121,8 @@ scheduled_from : (v : NetworkView) (e : Endpoints) → Begins v e → (h : List 
     → IsScheduled v.endpoints [] None 0 100000 v.state (length v.history) h last close → IsScheduled e [] None 0 100000 (first_state e) 0 h last close
 scheduled_from v e b h last close s =
     subst (λ (n : ℕ). IsScheduled e [] None 0 100000 (first_state e) n h last close) (ap length b.history)
-      (subst (λ (n : NetworkState). IsScheduled e [] None 0 100000 n (length v.history) h last close) b.state
-        (subst (λ (w : Endpoints). IsScheduled w [] None 0 100000 v.state (length v.history) h last close) b.endpoints s))
+    (subst (λ (n : NetworkState). IsScheduled e [] None 0 100000 n (length v.history) h last close) b.state
+    (subst (λ (w : Endpoints). IsScheduled w [] None 0 100000 v.state (length v.history) h last close) b.endpoints s))
 
 module _ (f : File) (t : Thin NameId) (r : IsRunnable f t) (e : Endpoints) (are : AreEndpointsOf e t) (old new : NetworkView) (b : Begins old e) where
   -- the run comes to its end
@@ -136,7 +136,7 @@ module _ (f : File) (t : Thin NameId) (r : IsRunnable f t) (e : Endpoints) (are 
       let events : events_of new.history ≡ run.events = ap events_of history ∙ events-entries run.events in
       let count : length new.history ≡ length run.events = sym (length-events new.history) ∙ ap length events in
       runs_shape f t r e are run.events new.state Ended text (scheduled_from old e b run.events new.state Ended run.run)
-        (h ∙ (λ i. transcript (book_of f) (events i) (end_line (count i))))
+      (h ∙ (λ i. transcript (book_of f) (events i) (end_line (count i))))
 
 -- a source that is run
 pub runs_thin : (bytes text : List ℕ) (f : File) (t : Thin NameId) → IsSourceOf bytes f t → RunsShape f t text → RunsThin bytes text

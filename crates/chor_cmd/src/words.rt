@@ -35,8 +35,7 @@ pub fn run_file(words: &Words) -> Option<&Word>
 {
     match words.items.as_slice() {
         [command, file]
-            if command.as_slice() == b"run".as_slice() && is_file_word(file.as_slice()) =>
-        {
+            if command.as_slice() == b"run".as_slice() && is_file_word(file.as_slice()) => {
             Some(file)
         }
         _ => None,

@@ -9,4 +9,4 @@ returns-in-None-clause-ended g c =
     let files = g.F.Shelf.files c.args.shelf.now in
     let faults = g.F.Shelf.faults c.args.shelf.now in
     c.finish.ensures words files faults faults
-        (subst (λ (text : List ℕ). Ends words files faults faults Usage text) (sym c.as_slice.ensures) (usage c.in-None.ensures))
+    (subst (λ (text : List ℕ). Ends words files faults faults Usage text) (sym c.as_slice.ensures) (usage c.in-None.ensures))

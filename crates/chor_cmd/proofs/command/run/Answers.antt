@@ -12,8 +12,8 @@ returns-in-Failed-clause-ended g c = λ words form.
     let files = g.F.Shelf.files c.args.shelf.now in
     let risen = subst (λ (name : List ℕ). Risen (before name) (after name)) c.as_slice.ensures (c.fetch.ensures.cause c.in-Failed.is) in
     c.finish_naming.ensures words files before after form
-        (subst (λ (what : List ℕ). Ends words files before after ReadFault (line_naming what c.args.name.now)) (sym c.as_slice-in-Failed.ensures)
-            (read_fault c.args.name.now form risen))
+    (subst (λ (what : List ℕ). Ends words files before after ReadFault (line_naming what c.args.name.now)) (sym c.as_slice-in-Failed.ensures)
+    (read_fault c.args.name.now form risen))
 
 pub returns-in-TooLong-clause-ended : goal.returns-in-TooLong-clause-ended
 returns-in-TooLong-clause-ended g c = λ words form.
@@ -24,8 +24,8 @@ returns-in-TooLong-clause-ended g c = λ words form.
     let tells' = subst (λ (old : List ℕ). FetchTells files c.args.name.now 1048576 old c.fetch.new.into.items c.fetch.result) c.new-bytes.ensures.items tells in
     let tells'' = subst (λ (answer : _). FetchTells files c.args.name.now 1048576 [] c.fetch.new.into.items answer) c.in-TooLong.is tells' in
     c.finish_naming-in-TooLong.ensures words files before after form
-        (subst (λ (what : List ℕ). Ends words files before after TooLarge (line_naming what c.args.name.now)) (sym c.as_slice-in-TooLong.ensures)
-            (too_large c.args.name.now form (told_long files c.args.name.now c.fetch.new.into.items tells'')))
+    (subst (λ (what : List ℕ). Ends words files before after TooLarge (line_naming what c.args.name.now)) (sym c.as_slice-in-TooLong.ensures)
+    (too_large c.args.name.now form (told_long files c.args.name.now c.fetch.new.into.items tells'')))
 
 pub returns-clause-ended : goal.returns-clause-ended
 returns-clause-ended g c = λ words form.
@@ -36,5 +36,5 @@ returns-clause-ended g c = λ words form.
     let tells' = subst (λ (old : List ℕ). FetchTells files c.args.name.now 1048576 old c.fetch.new.into.items c.fetch.result) c.new-bytes.ensures.items tells in
     let tells'' = subst (λ (answer : _). FetchTells files c.args.name.now 1048576 [] c.fetch.new.into.items answer) c.in-All.is tells' in
     c.run_bytes.ensures words files before after c.args.name.now form
-        (subst (λ (bytes : List ℕ). TellsOnly files c.args.name.now bytes) (sym c.as_slice-in-All.ensures.value)
-            (told_all files c.args.name.now c.fetch.new.into.items tells''))
+    (subst (λ (bytes : List ℕ). TellsOnly files c.args.name.now bytes) (sym c.as_slice-in-All.ensures.value)
+    (told_all files c.args.name.now c.fetch.new.into.items tells''))

@@ -29,4 +29,4 @@ returns c =
     let ps : c.in_ok-processes.processes ≡ plain f.processes = c.in_ok-processes.ensures ∙ ap plain c.as_slice.ensures in
     let h : c.history.result.now ≡ c.run_picked.new.self.history = c.history.ensures in
     prints_so f (thin_of c.args.source.now.shape) c.requires c.in_ok-endpoints.endpoints c.in_ok-endpoints.ensures.are c.in_ok-network.network c.run_picked.new.self b c.in_ok-text.text.items c.in-Ended.ensures
-      (c.in_ok-text.ensures ∙ (λ i. transcript (record { names = f.names; texts = f.texts; processes = ps i }) (events_of (h i)) (end_line (length (h i)))))
+    (c.in_ok-text.ensures ∙ (λ i. transcript (record { names = f.names; texts = f.texts; processes = ps i }) (events_of (h i)) (end_line (length (h i)))))
