@@ -23,10 +23,23 @@ pub fn print_event(
     ensures err { OnErr result (out.new.items ≡ out.old.items) }
 {
     let mut line = Vec::new(alloc);
-    put_number(&mut line, alloc, number)?;
-    put_said(&mut line, alloc, event, book)?;
+    put_event(&mut line, alloc, number, event, book)?;
     out.extend_from_slice(line.as_slice())?;
     Ok(())
+}
+
+// Appends the text of an event, or some of it where there is no memory.
+pub fn put_event(
+    line: &mut Vec<u8>,
+    alloc: Global,
+    number: u64,
+    event: &Event,
+    book: &Book,
+) -> Result<(), Memory>
+    ensures { OnOk result (line.new.items ≡ line.old.items ++ event_text (words book.now) number event.now) }
+{
+    put_number(line, alloc, number)?;
+    put_said(line, alloc, event, book)
 }
 
 fn put(line: &mut Vec<u8>, bytes: &[u8]) -> Result<(), Memory>
