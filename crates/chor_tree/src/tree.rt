@@ -1,6 +1,6 @@
 //! Choreographies as tables of nodes.
 
-ghost use Rattle.std.specs.Prelude.{◌≡◌, ◌<◌, ◌++◌, ◌∷◌, [], All, IfOk, OnErr, length};
+ghost use Rattle.std.specs.Prelude.{◌≡◌, ◌<◌, ◌^◌, ◌++◌, ◌∷◌, [], All, IfOk, OnOk, OnErr, length};
 ghost use Rattle.chor_tree.specs.Children.{children_of, IsClosed};
 
 use crate::file::Named;
@@ -121,11 +121,14 @@ impl Tree {
     pub fn push(&mut self, node: Node) -> Result<NodeId, Memory>
         requires { All (λ c. c.0 < length self.old.nodes) (children_of node.form) }
         ensures ok { IfOk result (λ id. (id.0 ≡ length self.old.nodes) × (self.new.nodes ≡ self.old.nodes ++ node ∷ [])) }
+        ensures short { OnOk result (length self.new.nodes < 2 ^ 32) }
         ensures err { OnErr result (self.new ≡ self.old) }
     {
-        let Ok(number) = u32::try_from(self.nodes.len()) else {
+        let count = self.nodes.len();
+        if count >= u32::MAX as usize {
             return Err(Memory);
-        };
+        }
+        let number = count as u32;
         self.nodes.push(node)?;
         Ok(NodeId(number))
     }
