@@ -3,6 +3,8 @@
 
 mod file;
 mod protocol;
+#[cfg(test)]
+mod tests;
 mod tree;
 
 #[cfg(test)]

@@ -26,17 +26,23 @@ fn a_conditional_with_two_branches(rt: HostRuntime) -> Result<(), Fail> {
     let mut tree = Tree::new(rt.alloc());
     let first = tree.push(node(5, Form::End))?;
     let second = tree.push(node(4, Form::End))?;
-    let shown = tree.push(node(3, Form::Show {
-        process: PROCESS,
-        expr: Expr::Lit(Value::Int(1)),
-        next: second,
-    }))?;
-    let root = tree.push(node(2, Form::If {
-        process: PROCESS,
-        expr: Expr::Lit(Value::Bool(true)),
-        first: shown,
-        second: first,
-    }))?;
+    let shown = tree.push(node(
+        3,
+        Form::Show {
+            process: PROCESS,
+            expr: Expr::Lit(Value::Int(1)),
+            next: second,
+        },
+    ))?;
+    let root = tree.push(node(
+        2,
+        Form::If {
+            process: PROCESS,
+            expr: Expr::Lit(Value::Bool(true)),
+            first: shown,
+            second: first,
+        },
+    ))?;
     assert!(rt; first == NodeId(0));
     assert!(rt; shown == NodeId(2));
     assert!(rt; root == NodeId(3));

@@ -1,5 +1,5 @@
 -- The text of an event, and of a whole run (this project's own).
-use Rattle.std.specs.Prelude.{ℕ, suc, Bool, true, false, ◌==◌, List, [], ◌∷◌, ◌++◌, length, slice_index_or, Option, Some, None, slice_get, if◌then◌else◌, codes, ℤ}
+use Rattle.std.specs.Prelude.{ℕ, suc, Bool, true, false, ◌==◌, List, [], ◌∷◌, ◌++◌, slice_index_or, Option, Some, None, slice_get, if◌then◌else◌, codes, ℤ}
 use Rattle.std.specs.Fmt.{decimal, signed_decimal}
 use Rattle.chor_base.specs.declared.names.NameId.{NameId}
 use Rattle.chor_base.specs.declared.value.Value.{Value}
