@@ -1,5 +1,5 @@
--- Bytes are cut in one way.
-use Rattle.std.proofs.Common.{◌≡◌, ◌<◌, ◌≤◌, ◌+◌, ℕ, true, List, [], ◌∷◌, ◌++◌, length, refl, sym, ap, ◌∙◌, subst, arith, append_assoc, length-append}
+-- Cuts in a row, and that bytes are cut in one way.
+use Rattle.std.proofs.Common.{◌≡◌, ◌<◌, ◌≤◌, ◌+◌, ℕ, true, List, [], ◌∷◌, ◌++◌, length, take, drop, take-append-drop, refl, sym, ap, ◌∙◌, subst, arith, append_assoc, length-append}
 use Rattle.std.proofs.lemmas.List.{append-nil}
 use Rattle.chor_base.specs.declared.rule.Place.{Place}
 use Rattle.chor_base.specs.declared.rule.Rule.{Rule}
@@ -11,6 +11,20 @@ use Rattle.chor_lexer.specs.Tokens.{IsTokens}
 use Rattle.chor_lexer.proofs.Runs.{Passes}
 use Rattle.chor_lexer.proofs.Texts.{heads, tails, text_body, body_same, escape_clash, fronts_same}
 use Rattle.chor_lexer.proofs.Fronts.{byte_class, symbol_class, lexeme_class, lexeme_long, lexeme_same, class_no_blank}
+
+-- ---- cuts in a row
+
+-- one cut after another
+pub cut_on : (bs mid rest : List ℕ) (p m q : Place) (ls ms : List Lexeme) → IsCut bs p ls mid m → IsCut mid m ms rest q → IsCut bs p (ls ++ ms) rest q
+cut_on bs mid rest p m q ls ms here d = d
+cut_on bs mid rest p m q ls ms (blank a b c) d = blank a b (cut_on _ mid rest _ m q ls ms c d)
+cut_on bs mid rest p m q ls ms (token n c) d = token n (cut_on _ mid rest _ m q _ ms c d)
+
+pub cut_blank : (bytes rest : List ℕ) (p : Place) (ls : List Lexeme) (n : ℕ) → IsCut bytes start ls rest p → IsBlank (take n rest) (drop n rest) → IsCut bytes start ls (drop n rest) (place_after p (take n rest))
+cut_blank bytes rest p ls n c b = subst (λ (l : List Lexeme). IsCut bytes start l (drop n rest) (place_after p (take n rest))) (append-nil ls) (cut_on bytes rest (drop n rest) start p (place_after p (take n rest)) ls [] c (blank (sym (take-append-drop n rest)) b here))
+
+pub cut_token : (bytes rest : List ℕ) (p : Place) (ls : List Lexeme) (n : ℕ) (s : Symbol) → IsCut bytes start ls rest p → IsNext s (take n rest) (drop n rest) rest → IsCut bytes start (ls ++ record { symbol = s; place = p } ∷ []) (drop n rest) (place_after p (take n rest))
+cut_token bytes rest p ls n s c next = cut_on bytes rest (drop n rest) start p (place_after p (take n rest)) ls _ c (token next here)
 
 -- ---- the same front
 

@@ -1,6 +1,5 @@
 -- What is known while tokens are read.
-use Rattle.std.proofs.Common.{◌≡◌, ◌<◌, ◌≤◌, ◌+◌, ◌-◌, ◌^◌, ℕ, true, false, List, [], ◌∷◌, ◌++◌, length, take, drop, None, refl, sym, ap, ◌∙◌, subst, arith, length-append, take-append-drop, length-take-le, length-drop}
-use Rattle.std.proofs.lemmas.List.{append-nil}
+use Rattle.std.proofs.Common.{◌≡◌, ◌<◌, ◌≤◌, ◌+◌, ◌-◌, ◌^◌, ℕ, true, false, List, [], ◌∷◌, ◌++◌, length, take, drop, None, refl, sym, ap, ◌∙◌, subst, arith, length-append, length-take-le, length-drop}
 use Rattle.std.specs.List.{AllByRecursion, fold}
 use Rattle.std.specs.Str.{IsUtf8}
 use Rattle.std.specs.Str.Lossy.{utf8_valid_len}
@@ -14,25 +13,13 @@ use Rattle.chor_lexer.specs.declared.token.Kind.{Kind}
 use Rattle.chor_lexer.specs.declared.token.Kind.TheVariants as kind
 use Rattle.chor_lexer.specs.declared.token.Token.{Token}
 use Rattle.chor_lexer.specs.Lexeme.{Symbol, word, text, last, Lexeme, IsLexeme, is_word, is_number, is_text, is_mark}
-use Rattle.chor_lexer.specs.Cut.{IsBlank, start, place_after, IsNext, IsCut, here, blank, token}
+use Rattle.chor_lexer.specs.Cut.{IsBlank, start, place_after, IsCut, here}
 use Rattle.chor_lexer.specs.Tokens.{AreTokensOf, Spells, AreSpelled, Grows, HasSymbol, is_last, is_ended, with_name, with_text}
 use Rattle.chor_lexer.specs.Refusal.{IsFault, Refuses, malformed, faulty, IsDenial}
 use Rattle.chor_lexer.specs.Scan.{HasForm, IsWritten, IsNextOf}
+use Rattle.chor_lexer.proofs.Cuts.{cut_blank, cut_token}
 use Rattle.chor_lexer.proofs.Fronts.{lexeme_same, lexeme_long}
 use Rattle.chor_lexer.proofs.Spelled.{grows_none, grows_on, spelled_on, spelled_push}
-
--- ---- cuts in a row
-
-pub cut_on : (bs mid rest : List ℕ) (p m q : Place) (ls ms : List Lexeme) → IsCut bs p ls mid m → IsCut mid m ms rest q → IsCut bs p (ls ++ ms) rest q
-cut_on bs mid rest p m q ls ms here d = d
-cut_on bs mid rest p m q ls ms (blank a b c) d = blank a b (cut_on _ mid rest _ m q ls ms c d)
-cut_on bs mid rest p m q ls ms (token n c) d = token n (cut_on _ mid rest _ m q _ ms c d)
-
-cut_blank : (bytes rest : List ℕ) (p : Place) (ls : List Lexeme) (n : ℕ) → IsCut bytes start ls rest p → IsBlank (take n rest) (drop n rest) → IsCut bytes start ls (drop n rest) (place_after p (take n rest))
-cut_blank bytes rest p ls n c b = subst (λ (l : List Lexeme). IsCut bytes start l (drop n rest) (place_after p (take n rest))) (append-nil ls) (cut_on bytes rest (drop n rest) start p (place_after p (take n rest)) ls [] c (blank (sym (take-append-drop n rest)) b here))
-
-cut_token : (bytes rest : List ℕ) (p : Place) (ls : List Lexeme) (n : ℕ) (s : Symbol) → IsCut bytes start ls rest p → IsNext s (take n rest) (drop n rest) rest → IsCut bytes start (ls ++ record { symbol = s; place = p } ∷ []) (drop n rest) (place_after p (take n rest))
-cut_token bytes rest p ls n s c next = cut_on bytes rest (drop n rest) start p (place_after p (take n rest)) ls _ c (token next here)
 
 -- ---- the state of the loop
 
