@@ -17,3 +17,6 @@ mod written;
 pub use command::chor;
 pub use status::Status;
 pub use words::{Command, Words, read_words};
+
+#[cfg(test)]
+mod tests;

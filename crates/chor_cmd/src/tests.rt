@@ -1,0 +1,218 @@
+//! What no clause says: that the calls succeed where there is memory, and their runs as written out
+//! by hand.
+
+use crate::{Status, Words, chor};
+use chor_base::{List, Word};
+use chor_io::{MemoryShelf, MemorySink, OpenGate};
+use std::alloc::Global;
+use std::test::Fail;
+
+fn word(alloc: Global, bytes: &[u8]) -> Result<Word, Fail> {
+    Ok(Word::from_vec(bytes.to_vec(alloc)?))
+}
+
+// The words of a command line.
+fn words(alloc: Global, command: &[u8], name: &[u8]) -> Result<Words, Fail> {
+    let items = vec![in alloc; word(alloc, command)?, word(alloc, name)?]?;
+    Ok(Words {
+        items: List::from_vec(items),
+    })
+}
+
+// Whether the words are answered so, where the file `a` has these bytes and the sink this room.
+fn answers(
+    alloc: Global,
+    words: &Words,
+    file: &[u8],
+    room: u32,
+    status: Status,
+    text: &[u8],
+) -> Result<bool, Fail> {
+    let files = vec![in alloc; (word(alloc, b"a")?, word(alloc, file)?)]?;
+    let mut shelf = MemoryShelf::new(alloc, List::from_vec(files), List::new(alloc));
+    let mut out = MemorySink::new(alloc, room, List::new(alloc))?;
+    let ended = chor(alloc, words, &mut shelf, &mut out, &OpenGate);
+    Ok(ended == status && out.bytes() == text)
+}
+
+// Whether a file runs, and its transcript is this text.
+fn runs(alloc: Global, file: &[u8], text: &[u8]) -> Result<bool, Fail> {
+    let words = words(alloc, b"run", b"a")?;
+    answers(alloc, &words, file, 20_000, Status::Done, text)
+}
+
+fn hello(alloc: Global) -> Result<Vec<u8>, Fail> {
+    let bytes =
+        b"protocol P (A, B) { s = A -> B : int then t; t = end; } service a : P (A, B); main (p, q) { start a(k): p[A], q[B]; p[A].3 -> q[B].x : k; end }".to_vec(
+            alloc,
+        )?;
+    Ok(bytes)
+}
+
+#[test]
+fn hello_runs(rt: HostRuntime) -> Result<(), Fail> {
+    let alloc = rt.alloc();
+    let text = b"1 start a #0 A=p B=q\n2 send p #0 A>B 3\n3 recv q #0 A>B 3\nend 3\n";
+    let source = hello(alloc)?;
+    assert!(rt; runs(alloc, source.as_slice(), text)?);
+    Ok(())
+}
+
+#[test]
+fn two_messages_are_received_in_order(rt: HostRuntime) -> Result<(), Fail> {
+    let alloc = rt.alloc();
+    let source =
+        b"protocol P (A, B) { s = A -> B : int then t; t = A -> B : int then u; u = end; } service a : P (A, B); main (p, q) { start a(k): p[A], q[B]; p[A].1 -> q[B].x : k; p[A].2 -> q[B].y : k; end }";
+    let text =
+        b"1 start a #0 A=p B=q\n2 send p #0 A>B 1\n3 send p #0 A>B 2\n4 recv q #0 A>B 1\n5 recv q #0 A>B 2\nend 5\n";
+    assert!(rt; runs(alloc, source, text)?);
+    Ok(())
+}
+
+#[test]
+fn ten_messages_go_both_ways(rt: HostRuntime) -> Result<(), Fail> {
+    let alloc = rt.alloc();
+    let mut source =
+        b"protocol P (A, B) { a = A -> B : int then b; b = A -> B : int then c; c = B -> A : int then d; d = A -> B : int then e; e = B -> A : int then f; f = B -> A : int then g; g = A -> B : int then h; h = A -> B : int then i; i = A -> B : int then j; j = B -> A : int then k; k = end; }".to_vec(
+            alloc,
+        )?;
+    source.extend_from_slice(
+        b" service a : P (A, B); main (p, q) { start a(k): p[A], q[B]; p[A].1 -> q[B].x : k; p[A].2 -> q[B].x : k; q[B].3 -> p[A].x : k; p[A].4 -> q[B].x : k; q[B].5 -> p[A].x : k; q[B].6 -> p[A].x : k; p[A].7 -> q[B].x : k; p[A].8 -> q[B].x : k; p[A].9 -> q[B].x : k; q[B].10 -> p[A].x : k; end }",
+    )?;
+    let mut text =
+        b"1 start a #0 A=p B=q\n2 send p #0 A>B 1\n3 send p #0 A>B 2\n4 recv q #0 A>B 1\n5 recv q #0 A>B 2\n6 send q #0 B>A 3\n7 recv p #0 B>A 3\n8 send p #0 A>B 4\n9 recv q #0 A>B 4\n10 send q #0 B>A 5\n11 recv p #0 B>A 5\n".to_vec(
+            alloc,
+        )?;
+    text.extend_from_slice(
+        b"12 send q #0 B>A 6\n13 recv p #0 B>A 6\n14 send p #0 A>B 7\n15 send p #0 A>B 8\n16 recv q #0 A>B 7\n17 send p #0 A>B 9\n18 recv q #0 A>B 8\n19 recv q #0 A>B 9\n20 send q #0 B>A 10\n21 recv p #0 B>A 10\nend 21\n",
+    )?;
+    assert!(rt; runs(alloc, source.as_slice(), text.as_slice())?);
+    Ok(())
+}
+
+// A file of so many exchanges from A to B.
+fn many(alloc: Global, count: u16) -> Result<Vec<u8>, Fail> {
+    let mut source = b"protocol P (A, B) { s0 = A -> B : int then s1; ".to_vec(alloc)?;
+    let mut body = Vec::new(alloc);
+    for number in 1..count {
+        let state = format!(in alloc; "s{number} = A -> B : int then s")?;
+        source.extend_from_slice(state.as_bytes())?;
+        let next = format!(in alloc; "{}; ", u32::from(number) + 1)?;
+        source.extend_from_slice(next.as_bytes())?;
+        body.extend_from_slice(b"p[A].7 -> q[B].x : k; ")?;
+    }
+    let last = format!(in alloc; "s{count} = end; ")?;
+    source.extend_from_slice(last.as_bytes())?;
+    source.extend_from_slice(
+        b"} service a : P (A, B); main (p, q) { start a(k): p[A], q[B]; p[A].7 -> q[B].x : k; ",
+    )?;
+    source.extend_from_slice(body.as_slice())?;
+    source.extend_from_slice(b"end }")?;
+    Ok(source)
+}
+
+#[test]
+fn at_most_255_messages(rt: HostRuntime) -> Result<(), Fail> {
+    let alloc = rt.alloc();
+    let words = words(alloc, b"run", b"a")?;
+    let source = many(alloc, 255)?;
+    let files = vec![in alloc; (word(alloc, b"a")?, Word::from_vec(source))]?;
+    let mut shelf = MemoryShelf::new(alloc, List::from_vec(files), List::new(alloc));
+    let mut out = MemorySink::new(alloc, 20_000, List::new(alloc))?;
+    let ended = chor(alloc, &words, &mut shelf, &mut out, &OpenGate);
+    assert!(rt; ended == Status::Done);
+    assert!(rt;
+        out.bytes()
+            .starts_with(b"1 start a #0 A=p B=q\n2 send p #0 A>B 7\n")
+    );
+    assert!(rt; out.bytes().ends_with(b"511 recv q #0 A>B 7\nend 511\n"));
+    let more = many(alloc, 256)?;
+    assert!(rt;
+        answers(
+            alloc,
+            &words,
+            more.as_slice(),
+            20_000,
+            Status::Unbuilt,
+            b"not built\n"
+        )?
+    );
+    Ok(())
+}
+
+#[test]
+fn other_files_and_words_are_refused(rt: HostRuntime) -> Result<(), Fail> {
+    let alloc = rt.alloc();
+    let source = hello(alloc)?;
+    let run = words(alloc, b"run", b"a")?;
+    let missing = words(alloc, b"run", b"b")?;
+    let other = words(alloc, b"walk", b"a")?;
+    let flag = words(alloc, b"run", b"-a")?;
+    let file = source.as_slice();
+    assert!(rt;
+        answers(
+            alloc,
+            &run,
+            b"main () { end }",
+            100,
+            Status::Unbuilt,
+            b"not built\n"
+        )?
+    );
+    assert!(rt;
+        answers(
+            alloc,
+            &missing,
+            file,
+            100,
+            Status::ReadFault,
+            b"read fault b\n"
+        )?
+    );
+    assert!(rt;
+        answers(
+            alloc,
+            &other,
+            file,
+            100,
+            Status::Usage,
+            b"usage: chor COMMAND ARGUMENTS\n"
+        )?
+    );
+    assert!(rt;
+        answers(
+            alloc,
+            &flag,
+            file,
+            100,
+            Status::Usage,
+            b"usage: chor COMMAND ARGUMENTS\n"
+        )?
+    );
+    assert!(rt; answers(alloc, &run, file, 5, Status::WriteFault, b"1 sta")?);
+    Ok(())
+}
+
+#[test]
+fn a_file_has_its_limit(rt: HostRuntime) -> Result<(), Fail> {
+    let alloc = rt.alloc();
+    let words = words(alloc, b"run", b"a")?;
+    let mut source = hello(alloc)?;
+    for _ in source.len()..1_048_576 {
+        source.push(b' ')?;
+    }
+    let text = b"1 start a #0 A=p B=q\n2 send p #0 A>B 3\n3 recv q #0 A>B 3\nend 3\n";
+    assert!(rt; runs(alloc, source.as_slice(), text)?);
+    source.push(b' ')?;
+    assert!(rt;
+        answers(
+            alloc,
+            &words,
+            source.as_slice(),
+            100,
+            Status::TooLarge,
+            b"too large a\n"
+        )?
+    );
+    Ok(())
+}
