@@ -1,5 +1,5 @@
 -- What a process chooses to make is a step of the network.
-use Rattle.std.proofs.Common.{◌≡◌, ℕ, suc, List, Option, Some, None, ℤ, subst, sym, ap, ◌∙◌, refl}
+use Rattle.std.proofs.Common.{◌≡◌, ℕ, suc, List, Option, Some, None, ℤ, refl}
 use Rattle.std.specs.Prelude.{slice_get}
 use Rattle.chor_base.specs.declared.names.NameId.{NameId}
 use Rattle.chor_base.specs.declared.event.Event.{Event}
@@ -8,8 +8,8 @@ use Rattle.endpoint_code.specs.declared.code.CodeNode.{CodeNode}
 use Rattle.endpoint_code.specs.declared.code.CodeNode.TheVariants.{Join, Send, Recv, Pick, Branch, Throw, Catch, Set, Show, Host, If, Call, End}
 use Rattle.endpoint_code.specs.declared.endpoints.Channel.{Channel}
 use Rattle.endpoint_code.specs.declared.endpoints.Endpoints.{Endpoints}
-use Rattle.endpoint_code.specs.Network.{NetworkState, Place, Sessions, Made, Makes, place_at, channel_of, makes, starts, MachineAnswers, NetworkSteps, acts, begins}
-use Rattle.endpoint_code.specs.Scheduled.{partners, started, started_on, chosen_at, chosen, Chooses, IsScheduled, closed, goes, Close}
+use Rattle.endpoint_code.specs.Network.{NetworkState, Place, Sessions, Makes, place_at, channel_of, MachineAnswers, NetworkSteps, acts, begins}
+use Rattle.endpoint_code.specs.Scheduled.{partners, started, started_on, chosen_at, Chooses, IsScheduled, closed, goes, Close}
 use Rattle.endpoint_code.specs.NetworkRuns.{NetworkLeads}
 
 module _ (e : Endpoints) (hosts : Hosts) (cap : Option ℕ) (n : NetworkState) (p : ℕ) (x : Event) (m : NetworkState) where

@@ -1,5 +1,5 @@
 -- Each queue holds what was sent and not yet received, in order.
-use Rattle.std.proofs.Common.{◌≡◌, ℕ, Bool, true, false, ◌&&◌, ◌==◌, List, [], ◌∷◌, ◌++◌, refl, sym, ap, ◌∙◌, Option, Some, None, ℤ, subst, arith, if◌then◌else◌, append_assoc}
+use Rattle.std.proofs.Common.{◌≡◌, ℕ, Bool, true, false, List, [], ◌∷◌, ◌++◌, refl, sym, ap, ◌∙◌, Option, Some, None, ℤ, subst, arith, if◌then◌else◌, append_assoc}
 use Rattle.std.specs.Prelude.{slice_get}
 use Rattle.std.proofs.lemmas.List.{append-nil}
 use Rattle.std.proofs.lemmas.Bool.Decides.{nat_tests}
@@ -7,7 +7,6 @@ use Rattle.std.specs.FinMap as fin
 use Rattle.chor_base.specs.declared.names.NameId.{NameId}
 use Rattle.chor_base.specs.declared.value.Load.{Load}
 use Rattle.chor_base.specs.declared.event.Event.{Event}
-use Rattle.chor_base.specs.declared.event.Event.TheVariants as event
 use Rattle.chor_base.specs.NameMap.{Variables}
 use Rattle.chor_base.specs.Meaning.{Hosts}
 use Rattle.chor_base.specs.Events.{Triple, triple_eq, load_on, sent_by, received_by, sent_on, received_on, IsFifo}
@@ -15,9 +14,9 @@ use Rattle.endpoint_code.specs.declared.code.CodeNode.{CodeNode}
 use Rattle.endpoint_code.specs.declared.code.CodeNode.TheVariants.{Join, Send, Recv, Pick, Branch, Throw, Catch, Set, Show, Host, If, Call, End}
 use Rattle.endpoint_code.specs.declared.endpoints.Channel.{Channel}
 use Rattle.endpoint_code.specs.declared.endpoints.Endpoints.{Endpoints}
-use Rattle.endpoint_code.specs.Network.{Machine, NetworkState, Place, Sessions, Made, Makes, Taking, Goes, loads_for, with_loads, queue_of, with_queue, moved, put_if, puts, part_load, has_room, takes, takes_from, takes_value, takes_label, takes_part, went, node_makes, place_makes, machine_makes, makes, place_of, starts, channel_starts, channel_of, starts_with, begun, joiners, paired, NetworkSteps, acts, begins}
+use Rattle.endpoint_code.specs.Network.{Machine, NetworkState, Place, Sessions, Makes, Taking, Goes, loads_for, with_loads, queue_of, moved, put_if, puts, has_room, takes, takes_from, went, node_makes, place_makes, machine_makes, makes, place_of, starts, channel_starts, channel_of, starts_with, begun, joiners, paired, NetworkSteps, acts, begins}
 use Rattle.endpoint_code.specs.NetworkRuns.{NetworkLeads, IsNetworkRun}
-use Rattle.endpoint_code.proofs.Queues.{triple_same, loads-same, loads-other}
+use Rattle.endpoint_code.proofs.Queues.{loads-same, loads-other}
 
 same_triple : (t u : Triple) → triple_eq t u ≡ true → t ≡ u
 same_triple t u h =

@@ -1,5 +1,5 @@
 -- Lists of loads by their triples.
-use Rattle.std.proofs.Common.{◌≡◌, ℕ, Bool, true, false, List, [], ◌∷◌, refl, sym, ap, ◌∙◌, arith, if◌then◌else◌}
+use Rattle.std.proofs.Common.{◌≡◌, Bool, true, false, List, [], ◌∷◌, refl, ap, arith, if◌then◌else◌}
 use Rattle.std.proofs.lemmas.Bool.Decides.{nat_tests}
 use Rattle.chor_base.specs.declared.value.Load.{Load}
 use Rattle.chor_base.specs.Events.{Triple, triple_eq}

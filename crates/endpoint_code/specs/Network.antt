@@ -3,7 +3,6 @@
 use Rattle.std.specs.Prelude.{ℕ, suc, ◌≡◌, ◌==◌, ◌&&◌, Bool, true, false, List, [], ◌∷◌, ◌++◌, length, Option, Some, None, slice_get, slice_set, if◌then◌else◌, nat_lt, ℤ}
 use Rattle.std.specs.FinMap as fin
 use Rattle.chor_base.specs.declared.names.NameId.{NameId}
-use Rattle.chor_base.specs.declared.value.Value.{Value}
 use Rattle.chor_base.specs.declared.value.Value.TheVariants.{Int, Bool as Truth, Text, Part as Endpoint}
 use Rattle.chor_base.specs.declared.value.Load.{Load}
 use Rattle.chor_base.specs.declared.value.Load.TheVariants.{Value as Carries, Label as Picks}

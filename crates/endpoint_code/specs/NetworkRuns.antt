@@ -1,5 +1,5 @@
 -- Runs of a network, and why a process waits.
-use Rattle.std.specs.Prelude.{ℕ, suc, ◌≡◌, ◌<◌, ◌==◌, ◌&&◌, ◌||◌, Bool, true, false, List, [], ◌∷◌, Option, Some, None, slice_get, if◌then◌else◌, is_some, length}
+use Rattle.std.specs.Prelude.{ℕ, ◌≡◌, ◌==◌, ◌&&◌, ◌||◌, Bool, true, false, List, [], ◌∷◌, Option, Some, None, if◌then◌else◌, is_some}
 use Rattle.std.specs.FinMap as fin
 use Rattle.chor_base.specs.declared.names.NameId.{NameId}
 use Rattle.chor_base.specs.declared.value.Load.{Load}
@@ -9,10 +9,10 @@ use Rattle.chor_base.specs.declared.event.Why.TheVariants.{Empty, Wrong, Full, A
 use Rattle.chor_base.specs.NameMap.{Variables}
 use Rattle.chor_base.specs.Meaning.{Hosts}
 use Rattle.endpoint_code.specs.declared.code.CodeNode.{CodeNode}
-use Rattle.endpoint_code.specs.declared.code.CodeNode.TheVariants.{Join, Send, Recv, Pick, Branch, Throw, Catch, Set, Show, Host, If, Call, End}
+use Rattle.endpoint_code.specs.declared.code.CodeNode.TheVariants.{Join, Send, Recv, Pick, Branch, Throw, Catch, End}
 use Rattle.endpoint_code.specs.declared.endpoints.Channel.{Channel}
 use Rattle.endpoint_code.specs.declared.endpoints.Endpoints.{Endpoints}
-use Rattle.endpoint_code.specs.Network.{Sessions, Machine, NetworkState, Place, Taking, queue_of, place_of, place_at, has_room, takes_value, takes_label, takes_part, channel_of, NetworkSteps, first_state}
+use Rattle.endpoint_code.specs.Network.{Sessions, Machine, NetworkState, Place, Taking, queue_of, place_of, has_room, takes_value, takes_label, takes_part, channel_of, NetworkSteps, first_state}
 
 -- The events lead from one state to another, step by step
 abbrev pub NetworkLeads : Endpoints → Hosts → Option ℕ → NetworkState → List Event → NetworkState → Type 0

@@ -1,6 +1,6 @@
 //! Endpoint code as a table of nodes.
 
-ghost use Rattle.std.specs.Prelude.{◌≡◌, ◌<◌, ◌++◌, ◌∷◌, [], All, IfOk, OnErr, length};
+ghost use Rattle.std.specs.Prelude.{◌≡◌, ◌<◌, ◌^◌, ◌++◌, ◌∷◌, [], All, IfOk, OnOk, OnErr, length};
 ghost use Rattle.endpoint_code.specs.Code.{children_of, IsClosed};
 
 use chor_base::{Expr, List, Memory, NameId};
@@ -62,11 +62,14 @@ impl Code {
     pub fn push(&mut self, node: CodeNode) -> Result<CodeId, Memory>
         requires { All (λ c. c.0 < length self.old.nodes) (children_of node) }
         ensures ok { IfOk result (λ id. (id.0 ≡ length self.old.nodes) × (self.new.nodes ≡ self.old.nodes ++ node ∷ [])) }
+        ensures short { OnOk result (length self.new.nodes < 2 ^ 32) }
         ensures err { OnErr result (self.new ≡ self.old) }
     {
-        let Ok(number) = u32::try_from(self.nodes.len()) else {
+        let count = self.nodes.len();
+        if count >= u32::MAX as usize {
             return Err(Memory);
-        };
+        }
+        let number = count as u32;
         self.nodes.push(node)?;
         Ok(CodeId(number))
     }
