@@ -5,10 +5,9 @@ mod file;
 mod protocol;
 #[cfg(test)]
 mod tests;
-mod tree;
-
 #[cfg(test)]
 mod tests;
+mod tree;
 
 pub use file::{File, Named, Proc, ProcParam, Service, SessionParam};
 pub use protocol::{Payload, ProtoArm, ProtoStep, Protocol, State};
