@@ -1,6 +1,6 @@
 -- The fields of a network and what contracts see of it.
-use Rattle.std.proofs.Common.{◌≡◌, ℕ, suc, ◌<◌, ◌++◌, ◌∷◌, [], Bool, true, List, length, get_or, sym, ap, ◌∙◌, subst, refl, Some, None, arith, length-set}
-use Rattle.std.specs.Prelude.{slice_get, slice_set, map}
+use Rattle.std.proofs.Common.{◌≡◌, ℕ, suc, ◌<◌, ◌++◌, ◌∷◌, [], Bool, List, length, get_or, sym, ap, ◌∙◌, subst, refl, Some, None, arith, length-set}
+use Rattle.std.specs.Prelude.{slice_set, map}
 use Rattle.std.proofs.lemmas.List.{length-map}
 use Rattle.chor_base.specs.declared.names.NameId.{NameId}
 use Rattle.chor_base.specs.declared.event.Event.{Event}
@@ -33,7 +33,6 @@ pub place_there : (e : Endpoints) (ms : List Runner) (q : QueuesView) (sid p : �
 place_there e ms q sid p r node s lt h =
     let same = stands_there e ms q sid p r node s lt h in
     subst (λ (m : Machine). place_of e m ≡ Some (record { node = node; sessions = m.sessions })) same s.place
-
 
 length-with_machines : (ms : List Machine) (js : List (ℕ × Machine)) → length (with_machines ms js) ≡ length ms
 length-with_machines ms [] = refl
@@ -70,12 +69,12 @@ module _ {e : Endpoints} (ms : List Runner) (q : QueuesView) {sid : ℕ} {h : Li
   pub grown_put : (new : NetworkView) (p : ℕ) (t : Runner) (k : QueuesView) → new.state ≡ state_of (slice_set ms p t) k sid → HasGrown v new
   grown_put new p t k a =
       subst (λ (w : NetworkView). HasGrown w new) is
-          (record {
-            sid = (let b : new.state.sid ≡ sid = ap (λ (n : NetworkState). n.sid) a in omega arith);
-            machines = (
-                let b : length new.state.machines ≡ length (map standing_of (slice_set ms p t)) = ap (λ (n : NetworkState). length n.machines) a in
-                let d = length-map (slice_set ms p t) standing_of in
-                let f = length-map ms standing_of in
-                let g = length-set ms p t in
-                omega arith);
-          })
+      (record {
+        sid = (let b : new.state.sid ≡ sid = ap (λ (n : NetworkState). n.sid) a in omega arith);
+        machines = (
+            let b : length new.state.machines ≡ length (map standing_of (slice_set ms p t)) = ap (λ (n : NetworkState). length n.machines) a in
+            let d = length-map (slice_set ms p t) standing_of in
+            let f = length-map ms standing_of in
+            let g = length-set ms p t in
+            omega arith);
+      })

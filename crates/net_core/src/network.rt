@@ -161,7 +161,9 @@ impl<'a> Network<'a> {
     fn absent(&self, channel: NameId, own: NameId) -> Option<Why>
         ensures { result ≡ absent_on self.now.endpoints self.now.state.machines channel own (channel_of self.now.endpoints.channels channel) }
     {
-        let roles = channel_named(self.endpoints.channels.as_slice(), channel)?.active.as_slice();
+        let roles = channel_named(self.endpoints.channels.as_slice(), channel)?
+            .active
+            .as_slice();
         for role in roles {
             if self.is_missing(channel, own, *role) {
                 return Some(Why::Absent(channel, *role));
