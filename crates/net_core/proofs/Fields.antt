@@ -42,6 +42,10 @@ length-with_machines ms (j ∷ js) = length-with_machines (slice_set ms j.0 j.1)
 pub grown_begun : (old : NetworkView) (c : NameId) (parts : List (NameId × ℕ)) (new : NetworkView) → HasBegun old c parts new → HasGrown old new
 grown_begun old c parts new h = record {
   sid = (let a : new.state.sid ≡ suc old.state.sid = ap (λ (n : NetworkState). n.sid) h.becomes.state in omega arith);
+  kept = (
+      let a : length new.state.machines ≡ length h.machines = ap (λ (n : NetworkState). length n.machines) h.becomes.state in
+      let b : length h.machines ≡ length old.state.machines = sym (ap length h.joined.placed) ∙ length-with_machines old.state.machines h.joined.joining in
+      omega arith);
   machines = (
       let a : length new.state.machines ≡ length h.machines = ap (λ (n : NetworkState). length n.machines) h.becomes.state in
       let b : length h.machines ≡ length old.state.machines = sym (ap length h.joined.placed) ∙ length-with_machines old.state.machines h.joined.joining in
@@ -71,6 +75,12 @@ module _ {e : Endpoints} (ms : List Runner) (q : QueuesView) {sid : ℕ} {h : Li
       subst (λ (w : NetworkView). HasGrown w new) is
       (record {
         sid = (let b : new.state.sid ≡ sid = ap (λ (n : NetworkState). n.sid) a in omega arith);
+        kept = (
+            let b : length new.state.machines ≡ length (map standing_of (slice_set ms p t)) = ap (λ (n : NetworkState). length n.machines) a in
+            let d = length-map (slice_set ms p t) standing_of in
+            let f = length-map ms standing_of in
+            let g = length-set ms p t in
+            omega arith);
         machines = (
             let b : length new.state.machines ≡ length (map standing_of (slice_set ms p t)) = ap (λ (n : NetworkState). length n.machines) a in
             let d = length-map (slice_set ms p t) standing_of in

@@ -96,7 +96,7 @@ first_bound e (p ∷ ps) all =
     (record { names = []; scoped = All-head (λ p. IsScoped e p.body []) p ps all; bound = λ k h. absurd cc })
     (first_bound e ps (All-tail (λ p. IsScoped e p.body []) p ps all))
 
-length-standing_all : (ps : List Process) → length (standing_all ps) ≡ length ps
+pub length-standing_all : (ps : List Process) → length (standing_all ps) ≡ length ps
 length-standing_all [] = refl
 length-standing_all (p ∷ ps) = ap suc (length-standing_all ps)
 
