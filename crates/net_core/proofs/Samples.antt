@@ -35,19 +35,19 @@ sample_faultless e p q channels procedures services processes names first second
     served = subst (All (IsServed e)) (sym services) (All-nil (IsServed e));
     provided =
         subst (All (λ (k : Channel). All (λ r. has_service k.name r e.services ≡ true) k.serve)) (sym channels)
-            (All-cons (λ (k : Channel). All (λ r. has_service k.name r e.services ≡ true) k.serve) sample_channel [] (All-nil (λ (r : NameId). has_service (name 0) r e.services ≡ true)) (All-nil (λ (k : Channel). All (λ r. has_service k.name r e.services ≡ true) k.serve)));
+        (All-cons (λ (k : Channel). All (λ r. has_service k.name r e.services ≡ true) k.serve) sample_channel [] (All-nil (λ (r : NameId). has_service (name 0) r e.services ≡ true)) (All-nil (λ (k : Channel). All (λ r. has_service k.name r e.services ≡ true) k.serve)));
     procedure_bodies = subst (All (λ (x : Procedure). IsScoped e x.body x.sessions)) (sym procedures) (All-nil (λ (x : Procedure). IsScoped e x.body x.sessions));
     service_bodies = subst (All (λ (x : ServiceCode). IsScoped e x.body (x.channel ∷ []))) (sym services) (All-nil (λ (x : ServiceCode). IsScoped e x.body (x.channel ∷ [])));
     process_bodies =
         subst (All (λ (x : Process). IsScoped e x.body [])) (sym processes)
-            (All-cons (λ (x : Process). IsScoped e x.body []) p (q ∷ []) first (All-cons (λ (x : Process). IsScoped e x.body []) q [] second (All-nil (λ (x : Process). IsScoped e x.body []))));
+        (All-cons (λ (x : Process). IsScoped e x.body []) p (q ∷ []) first (All-cons (λ (x : Process). IsScoped e x.body []) q [] second (All-nil (λ (x : Process). IsScoped e x.body []))));
   };
   calls = subst (All (λ (x : Procedure). begins_with_call (node_at e x.body) ≡ false)) (sym procedures) (All-nil (λ (x : Procedure). begins_with_call (node_at e x.body) ≡ false));
 }
 
-pub node_found : (e : Endpoints) (ns : List CodeNode) (i : ℕ) (n : CodeNode) → e.code.nodes ≡ ns → slice_get ns i ≡ Some n → node_at e (record { 0 = i }) ≡ Some n
-node_found e ns i n h f = ap (λ (xs : List CodeNode). slice_get xs i) h ∙ f
-
 pub if_ok : {T E : Type 0} (r : Result T E) (P : T → Type 0) → ((x : T) → r ≡ Ok x → P x) → IfOk r P
 if_ok (Ok x) P f = f x refl
 if_ok (Err x) P f = tt
+
+pub ok_at : {T E : Type 0} (r : Result T E) (P : T → Type 0) (x : T) → r ≡ Ok x → IfOk r P → P x
+ok_at {T} {E} r P x is h = subst (λ (q : Result T E). IfOk q P) is h
