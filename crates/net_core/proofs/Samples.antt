@@ -1,9 +1,8 @@
 -- Two processes on a channel of two roles are without fault where their bodies are scoped.
-use Rattle.std.proofs.Common.{◌≡◌, ℕ, true, List, [], ◌∷◌, refl, map, ◌++◌, false, sym, ap, ◌∙◌, subst, Some, Result, Ok, Err, IfOk}
-use Rattle.std.specs.Prelude.{slice_get, All}
+use Rattle.std.proofs.Common.{◌≡◌, ℕ, true, List, [], ◌∷◌, refl, map, ◌++◌, false, sym, ap, subst, Result, Ok, Err, IfOk}
+use Rattle.std.specs.Prelude.{All}
 use Rattle.std.proofs.lemmas.List.Elements.{All-nil, All-cons}
 use Rattle.chor_base.specs.declared.names.NameId.{NameId}
-use Rattle.endpoint_code.specs.declared.code.CodeNode.{CodeNode}
 use Rattle.endpoint_code.specs.declared.endpoints.Channel.{Channel}
 use Rattle.endpoint_code.specs.declared.endpoints.Endpoints.{Endpoints}
 use Rattle.endpoint_code.specs.declared.endpoints.Procedure.{Procedure}

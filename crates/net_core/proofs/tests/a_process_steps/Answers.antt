@@ -1,4 +1,4 @@
-use Rattle.std.proofs.Common.{◌≡◌, ◌∙◌, ap, ℕ, length, arith}
+use Rattle.std.proofs.Common.{◌≡◌, ◌∙◌, ap, length, arith}
 use Rattle.endpoint_code.specs.Network.{NetworkState}
 use Rattle.net_core.proofs.Scopes.{length-standing_all}
 use Rattle.net_core.proofs.tests.a_process_steps.Goals as goal
