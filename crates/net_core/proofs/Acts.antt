@@ -1,7 +1,6 @@
 -- Events of one process.
-use Rattle.std.proofs.Common.{◌≡◌, ℕ, zero, suc, ◌+◌, ◌-◌, ◌<◌, ◌≤◌, ◌&&◌, Bool, true, false, List, [], ◌∷◌, ◌++◌, length, get_or, refl, sym, ap, ◌∙◌, subst, Option, Some, None, arith, is_some, length-set, cond}
-use Rattle.std.specs.Prelude.{slice_get, slice_set, map, All, ℤ, pos}
-use Rattle.std.proofs.lemmas.Option.{slice_get-get_or, slice_get-map}
+use Rattle.std.proofs.Common.{◌≡◌, ℕ, ◌<◌, Bool, true, false, List, [], length, get_or, refl, sym, ap, ◌∙◌, subst, Option, Some, None, arith, is_some, length-set, cond}
+use Rattle.std.specs.Prelude.{slice_set, map, All, ℤ, pos}
 use Rattle.std.proofs.lemmas.List.{map-set, length-map}
 use Rattle.std.proofs.lemmas.List.Elements.{All-set}
 use Rattle.chor_base.specs.declared.names.NameId.{NameId}
@@ -13,14 +12,14 @@ use Rattle.endpoint_code.specs.declared.code.CodeId.{CodeId}
 use Rattle.endpoint_code.specs.declared.code.CodeNode.{CodeNode}
 use Rattle.endpoint_code.specs.declared.code.CodeNode.TheVariants.{Join, Send, Recv, Pick, Branch, Throw, Catch, Set, Show, Host, If, Call, End}
 use Rattle.endpoint_code.specs.declared.endpoints.Endpoints.{Endpoints}
-use Rattle.endpoint_code.specs.Network.{Machine, NetworkState, Sessions, Place, Made, Makes, place_of, place_at, node_at, node_makes, makes, machine_makes, place_makes, PlaceAnswers, MachineAnswers}
+use Rattle.endpoint_code.specs.Network.{Machine, NetworkState, Sessions, Place, Makes, place_at, node_at, node_makes, makes, machine_makes, place_makes, PlaceAnswers, MachineAnswers}
 use Rattle.endpoint_code.specs.NetworkRuns.{has_ended, waits_for, can_step, node_waits, place_waits, ends_there}
-use Rattle.endpoint_code.specs.Scheduled.{Chooses, chosen, chosen_at}
+use Rattle.endpoint_code.specs.Scheduled.{Chooses, chosen_at}
 use Rattle.endpoint_code.specs.Faults.{IsScoped, joins, sends, receives, picks, offers, gives, gains, sets, shows, asks, tests, calls, ends}
 use Rattle.net_core.specs.declared.machine.Runner.{Runner}
 use Rattle.net_core.specs.Lanes.{QueuesView, loads_in}
 use Rattle.net_core.specs.Plain.{is_plain}
-use Rattle.net_core.specs.Machines.{standing_of, is_join, waits_at, acts_alone, ActsAt, GoesOn, with_process}
+use Rattle.net_core.specs.Machines.{standing_of, is_join, waits_at, acts_alone, ActsAt, GoesOn}
 use Rattle.net_core.specs.Bound.{AreBound, IsBound}
 use Rattle.net_core.specs.Heads.{Stands, steps_at, steps_of, joins_at_all, is_joining}
 use Rattle.net_core.specs.Views.{IsSound, state_of}
@@ -65,7 +64,7 @@ joins_not e n p node s h = sym (ap is_joining (ap (place_at e) s.there ∙ s.pla
 pub acts_by_itself : (e : Endpoints) (n : NetworkState) (p : ℕ) (node : CodeNode) → Stands e n p node → steps_at e n p ≡ true → joins_at_all e n p ≡ false → acts_alone node ≡ true
 acts_by_itself e n p node s steps h =
     ends_not node s.machine.sessions s.plain (joins_not e n p node s h)
-        (sym (ap ends_there s.place) ∙ not_ended e n s.machine (sym (ap (steps_of e n) s.there) ∙ steps))
+    (sym (ap ends_there s.place) ∙ not_ended e n s.machine (sym (ap (steps_of e n) s.there) ∙ steps))
 
 -- so it waits for nothing at its node
 pub goes_freely : (e : Endpoints) (ms : List Runner) (q : QueuesView) (sid p : ℕ) (r : Runner) (node : CodeNode) → Stands e (state_of ms q sid) p node → p < length ms → r ≡ get_or ms p r → steps_at e (state_of ms q sid) p ≡ true → joins_at_all e (state_of ms q sid) p ≡ false → waits_at q r node ≡ None
@@ -174,7 +173,7 @@ alone_chooses e ms q k sid p r t node x s lt h acts made =
       answer = pos 0;
       allowed =
           subst (λ (o : Option Machine). MachineAnswers [] e o (pos 0)) (sym s.there)
-              (subst (λ (o : Option Place). PlaceAnswers [] s.machine.vars o (pos 0)) (sym s.place) (alone_answers [] s.machine.vars node s.machine.sessions (pos 0) acts));
+          (subst (λ (o : Option Place). PlaceAnswers [] s.machine.vars o (pos 0)) (sym s.place) (alone_answers [] s.machine.vars node s.machine.sessions (pos 0) acts));
       made =
           ap (λ (o : Option Machine). chosen_at e None n p (pos 0) (place_at e o)) s.there
           ∙ ap (chosen_at e None n p (pos 0)) s.place

@@ -1,15 +1,13 @@
 -- The start that a process makes.
-use Rattle.std.proofs.Common.{◌≡◌, ℕ, zero, suc, ◌+◌, ◌<◌, ◌≤◌, ◌==◌, ◌&&◌, ◌||◌, Bool, true, false, cond, List, [], ◌∷◌, ◌++◌, length, get_or, refl, sym, ap, ◌∙◌, subst, Option, Some, None, arith}
-use Rattle.std.specs.Prelude.{slice_get, map, All, ℤ, pos}
+use Rattle.std.proofs.Common.{◌≡◌, ℕ, suc, ◌==◌, ◌&&◌, Bool, true, false, cond, List, [], ◌∷◌, ◌++◌, length, refl, sym, ap, ◌∙◌, subst, Option, Some, None, arith}
+use Rattle.std.specs.Prelude.{slice_get, map, All, pos}
 use Rattle.std.proofs.lemmas.Bool.Decides.{nat_tests}
 use Rattle.std.proofs.lemmas.List.{append-nil}
 use Rattle.std.proofs.lemmas.List.Elements.{All-head, All-tail}
 use Rattle.chor_base.specs.declared.names.NameId.{NameId}
-use Rattle.chor_base.specs.declared.event.Event.{Event}
 use Rattle.chor_base.specs.declared.event.Event.TheVariants as event
 use Rattle.endpoint_code.specs.declared.code.CodeId.{CodeId}
-use Rattle.endpoint_code.specs.declared.code.CodeNode.{CodeNode}
-use Rattle.endpoint_code.specs.declared.code.CodeNode.TheVariants.{Join, Send, Recv, Pick, Branch, Throw, Catch, Set, Show, Host, If, Call, End}
+use Rattle.endpoint_code.specs.declared.code.CodeNode.TheVariants.{Join}
 use Rattle.endpoint_code.specs.declared.endpoints.Endpoints.{Endpoints}
 use Rattle.endpoint_code.specs.declared.endpoints.Channel.{Channel}
 use Rattle.endpoint_code.specs.Network.{Machine, NetworkState, Sessions, Place, Made, Makes, node_at, place_of, place_at, channel_of, joiners, one_joiner, with_machines, served, served_parts, begun, starts, starts_with, channel_starts, PlaceAnswers, MachineAnswers}
@@ -84,7 +82,7 @@ begins e n p c own l next k ps ms s plain found cast joined =
       answer = pos 0;
       allowed =
           subst (λ (o : Option Machine). MachineAnswers [] e o (pos 0)) (sym s.there)
-              (subst (λ (o : Option Place). PlaceAnswers [] s.machine.vars o (pos 0)) (sym s.place) tt);
+          (subst (λ (o : Option Place). PlaceAnswers [] s.machine.vars o (pos 0)) (sym s.place) tt);
       made =
           ap (λ (o : Option Machine). chosen_at e None n p (pos 0) (place_at e o)) s.there
           ∙ ap (chosen_at e None n p (pos 0)) s.place

@@ -1,17 +1,15 @@
 -- The partners of a start.
-use Rattle.std.proofs.Common.{◌≡◌, ℕ, zero, suc, ◌+◌, ◌<◌, ◌≤◌, ◌==◌, ◌&&◌, ◌||◌, Bool, true, false, cond, List, [], ◌∷◌, ◌++◌, length, get_or, drop, take, refl, sym, ap, ◌∙◌, subst, Option, Some, None, arith, is_some}
+use Rattle.std.proofs.Common.{◌≡◌, ℕ, zero, suc, ◌+◌, ◌<◌, ◌==◌, ◌||◌, Bool, true, false, cond, List, [], ◌∷◌, ◌++◌, length, refl, sym, ap, ◌∙◌, subst, Option, Some, None, arith, is_some}
 use Rattle.std.specs.Prelude.{slice_get, map, All, ◌≢◌}
 use Rattle.std.proofs.lemmas.Bool.Decides.{nat_tests}
-use Rattle.std.proofs.lemmas.List.{drop_more, take_more, append-nil}
-use Rattle.std.proofs.lemmas.List.Elements.{All-head, All-tail, All-cons, All-nil}
+use Rattle.std.proofs.lemmas.List.Elements.{All-cons, All-nil}
 use Rattle.std.proofs.lemmas.Option.{slice_get_within}
 use Rattle.chor_base.specs.declared.names.NameId.{NameId}
 use Rattle.endpoint_code.specs.declared.code.CodeNode.{CodeNode}
 use Rattle.endpoint_code.specs.declared.code.CodeNode.TheVariants.{Join, Send, Recv, Pick, Branch, Throw, Catch, Set, Show, Host, If, Call, End}
 use Rattle.chor_base.specs.declared.event.Why.TheVariants.{Absent}
 use Rattle.endpoint_code.specs.declared.endpoints.Endpoints.{Endpoints}
-use Rattle.endpoint_code.specs.declared.endpoints.Channel.{Channel}
-use Rattle.endpoint_code.specs.Network.{Machine, NetworkState, Place, place_of, place_at, paired, one_pair}
+use Rattle.endpoint_code.specs.Network.{Machine, Place, place_of, place_at, paired, one_pair}
 use Rattle.endpoint_code.specs.NetworkRuns.{joins_there, is_joined, absent_among}
 use Rattle.endpoint_code.specs.Scheduled.{least_joiner, partners, partner}
 use Rattle.endpoint_code.specs.Faults.{AreDistinct, no_name, one_more, is_among}
@@ -100,12 +98,12 @@ others_apart no_role h r q j n = All-nil (λ (x : NameId × ℕ). x.1 ≢ q)
 others_apart {e} {ms} {c} {p} {own} (one_role {r = s} {q = t} {rs} {ps} a b) h r q j n =
     let parts = either_false (r.0 == s.0) (is_among r rs) n in
     All-cons (λ (x : NameId × ℕ). x.1 ≢ q) (s, t) ps
-        (λ (same : t ≡ q).
-            let k : joins_there (place_at e (slice_get ms q)) c s ≡ true = subst (λ (x : ℕ). joins_there (place_at e (slice_get ms x)) c s ≡ true) same (partner_joins e ms c p own s t h a) in
-            let one : (r.0 == s.0) ≡ true = same_role (place_at e (slice_get ms q)) c r s j k in
-            let two : (r.0 == s.0) ≡ false = parts.0 in
-            cc)
-        (others_apart b h r q j parts.1)
+    (λ (same : t ≡ q).
+    let k : joins_there (place_at e (slice_get ms q)) c s ≡ true = subst (λ (x : ℕ). joins_there (place_at e (slice_get ms x)) c s ≡ true) same (partner_joins e ms c p own s t h a) in
+    let one : (r.0 == s.0) ≡ true = same_role (place_at e (slice_get ms q)) c r s j k in
+    let two : (r.0 == s.0) ≡ false = parts.0 in
+    cc)
+    (others_apart b h r q j parts.1)
 
 pub cast_apart : {e : Endpoints} {ms : List Machine} {c : NameId} {p : ℕ} {own : NameId} {rs : List NameId} {ps : List (NameId × ℕ)} → IsCast e ms c p own rs ps → AreDistinct rs → joins_there (place_at e (slice_get ms p)) c own ≡ true → AreApart ps
 cast_apart no_role d h = no_part

@@ -1,6 +1,6 @@
 -- The fields of a network and what contracts see of it.
-use Rattle.std.proofs.Common.{◌≡◌, ℕ, suc, ◌<◌, ◌++◌, ◌∷◌, [], Bool, true, List, length, get_or, sym, ap, ◌∙◌, subst, refl, Some, None, arith, length-set}
-use Rattle.std.specs.Prelude.{slice_get, slice_set, map}
+use Rattle.std.proofs.Common.{◌≡◌, ℕ, suc, ◌<◌, ◌++◌, ◌∷◌, [], Bool, List, length, get_or, sym, ap, ◌∙◌, subst, refl, Some, None, arith, length-set}
+use Rattle.std.specs.Prelude.{slice_set, map}
 use Rattle.std.proofs.lemmas.List.{length-map}
 use Rattle.chor_base.specs.declared.names.NameId.{NameId}
 use Rattle.chor_base.specs.declared.event.Event.{Event}
@@ -34,7 +34,6 @@ place_there e ms q sid p r node s lt h =
     let same = stands_there e ms q sid p r node s lt h in
     subst (λ (m : Machine). place_of e m ≡ Some (record { node = node; sessions = m.sessions })) same s.place
 
-
 length-with_machines : (ms : List Machine) (js : List (ℕ × Machine)) → length (with_machines ms js) ≡ length ms
 length-with_machines ms [] = refl
 length-with_machines ms (j ∷ js) = length-with_machines (slice_set ms j.0 j.1) js ∙ length-set ms j.0 j.1
@@ -43,6 +42,10 @@ length-with_machines ms (j ∷ js) = length-with_machines (slice_set ms j.0 j.1)
 pub grown_begun : (old : NetworkView) (c : NameId) (parts : List (NameId × ℕ)) (new : NetworkView) → HasBegun old c parts new → HasGrown old new
 grown_begun old c parts new h = record {
   sid = (let a : new.state.sid ≡ suc old.state.sid = ap (λ (n : NetworkState). n.sid) h.becomes.state in omega arith);
+  kept = (
+      let a : length new.state.machines ≡ length h.machines = ap (λ (n : NetworkState). length n.machines) h.becomes.state in
+      let b : length h.machines ≡ length old.state.machines = sym (ap length h.joined.placed) ∙ length-with_machines old.state.machines h.joined.joining in
+      omega arith);
   machines = (
       let a : length new.state.machines ≡ length h.machines = ap (λ (n : NetworkState). length n.machines) h.becomes.state in
       let b : length h.machines ≡ length old.state.machines = sym (ap length h.joined.placed) ∙ length-with_machines old.state.machines h.joined.joining in
@@ -70,12 +73,18 @@ module _ {e : Endpoints} (ms : List Runner) (q : QueuesView) {sid : ℕ} {h : Li
   pub grown_put : (new : NetworkView) (p : ℕ) (t : Runner) (k : QueuesView) → new.state ≡ state_of (slice_set ms p t) k sid → HasGrown v new
   grown_put new p t k a =
       subst (λ (w : NetworkView). HasGrown w new) is
-          (record {
-            sid = (let b : new.state.sid ≡ sid = ap (λ (n : NetworkState). n.sid) a in omega arith);
-            machines = (
-                let b : length new.state.machines ≡ length (map standing_of (slice_set ms p t)) = ap (λ (n : NetworkState). length n.machines) a in
-                let d = length-map (slice_set ms p t) standing_of in
-                let f = length-map ms standing_of in
-                let g = length-set ms p t in
-                omega arith);
-          })
+      (record {
+        sid = (let b : new.state.sid ≡ sid = ap (λ (n : NetworkState). n.sid) a in omega arith);
+        kept = (
+            let b : length new.state.machines ≡ length (map standing_of (slice_set ms p t)) = ap (λ (n : NetworkState). length n.machines) a in
+            let d = length-map (slice_set ms p t) standing_of in
+            let f = length-map ms standing_of in
+            let g = length-set ms p t in
+            omega arith);
+        machines = (
+            let b : length new.state.machines ≡ length (map standing_of (slice_set ms p t)) = ap (λ (n : NetworkState). length n.machines) a in
+            let d = length-map (slice_set ms p t) standing_of in
+            let f = length-map ms standing_of in
+            let g = length-set ms p t in
+            omega arith);
+      })

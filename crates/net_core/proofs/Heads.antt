@@ -1,28 +1,25 @@
 -- What the node of a process tells of it.
-use Rattle.std.proofs.Common.{◌≡◌, ℕ, zero, suc, ◌+◌, ◌<◌, ◌==◌, ◌&&◌, ◌||◌, Bool, true, false, cond, List, [], ◌∷◌, ◌++◌, length, get_or, refl, sym, ap, ◌∙◌, subst, Option, Some, None, arith, is_some, drop}
-use Rattle.std.specs.Prelude.{slice_get, map, not}
+use Rattle.std.proofs.Common.{◌≡◌, ℕ, suc, ◌+◌, ◌<◌, ◌==◌, ◌||◌, Bool, true, false, cond, List, [], ◌∷◌, length, get_or, refl, sym, ap, ◌∙◌, Option, Some, None, is_some, drop}
+use Rattle.std.specs.Prelude.{slice_get, not}
 use Rattle.std.proofs.lemmas.List.{drop_more}
 use Rattle.std.specs.FinMap as fin
 use Rattle.chor_base.specs.declared.names.NameId.{NameId}
 use Rattle.chor_base.specs.declared.value.Load.{Load}
 use Rattle.chor_base.specs.declared.value.Load.TheVariants.{Value as Carries, Label as Picks}
 use Rattle.chor_base.specs.declared.value.Value.TheVariants.{Int, Bool as Truth, Text, Part as Endpoint}
-use Rattle.chor_base.specs.declared.event.Why.{Why}
 use Rattle.chor_base.specs.declared.event.Why.TheVariants.{Absent}
 use Rattle.chor_base.specs.Events.{Triple}
 use Rattle.endpoint_code.specs.declared.code.CodeId.{CodeId}
 use Rattle.endpoint_code.specs.declared.code.CodeNode.{CodeNode}
 use Rattle.endpoint_code.specs.declared.code.CodeNode.TheVariants.{Join, Send, Recv, Pick, Branch, Throw, Catch, Set, Show, Host, If, Call, End}
 use Rattle.endpoint_code.specs.declared.endpoints.Endpoints.{Endpoints}
-use Rattle.endpoint_code.specs.declared.endpoints.Channel.{Channel}
-use Rattle.endpoint_code.specs.Network.{Machine, NetworkState, Sessions, Place, place_of, loads_for, takes_value}
+use Rattle.endpoint_code.specs.Network.{Machine, NetworkState, Sessions, place_of, loads_for, takes_value}
 use Rattle.endpoint_code.specs.NetworkRuns.{node_waits, waits_to_send, waits_to_receive, waits_for_first, is_joined, absent_among, joins_there}
 use Rattle.endpoint_code.specs.Scheduled.{least_joiner}
 use Rattle.net_core.specs.declared.machine.Runner.{Runner}
 use Rattle.net_core.specs.Lanes.{QueuesView, loads_in}
 use Rattle.net_core.specs.Plain.{is_plain}
-use Rattle.net_core.specs.Machines.{standing_of, is_join, waits_at, waits_for_value, waits_by_load, is_value_load}
-use Rattle.net_core.specs.Heads.{Stands, why_at}
+use Rattle.net_core.specs.Machines.{is_join, waits_at, waits_for_value, waits_by_load}
 
 -- ---- waiting
 

@@ -1,13 +1,11 @@
 -- Starts of sessions.
-use Rattle.std.proofs.Common.{◌≡◌, ℕ, zero, suc, ◌+◌, ◌<◌, ◌≤◌, ◌==◌, ◌&&◌, ◌||◌, Bool, true, false, cond, List, [], ◌∷◌, ◌++◌, length, get_or, drop, take, refl, sym, ap, ◌∙◌, subst, Option, Some, None, arith, is_some, length-set}
+use Rattle.std.proofs.Common.{◌≡◌, ℕ, zero, suc, ◌+◌, ◌<◌, ◌≤◌, ◌==◌, ◌&&◌, ◌||◌, Bool, true, false, cond, List, [], ◌∷◌, length, get_or, drop, take, refl, sym, ap, ◌∙◌, subst, Option, Some, None, arith, is_some}
 use Rattle.std.specs.Prelude.{slice_get, slice_set, map, All, ◌≢◌}
 use Rattle.std.specs.FinMap as fin
 use Rattle.std.specs.Ordering.{nat_cmp, eq_by_cmp}
 use Rattle.std.proofs.lemmas.Cmp.{nat_cmp_total}
-use Rattle.std.proofs.lemmas.Bool.Decides.{nat_tests}
-use Rattle.std.proofs.lemmas.List.{drop_more, drop_all, map-set, length-map}
+use Rattle.std.proofs.lemmas.List.{drop_more, drop_all, map-set}
 use Rattle.std.proofs.lemmas.List.Elements.{All-set, All-head, All-tail, All-more, All-weaker}
-use Rattle.std.proofs.lemmas.Option.{slice_get-get_or, slice_get_within, get_or_from_slice_get}
 use Rattle.chor_base.specs.declared.names.NameId.{NameId}
 use Rattle.chor_base.specs.NameMap.{Variables}
 use Rattle.chor_base.proofs.NameMaps.{ties}
@@ -23,7 +21,7 @@ use Rattle.net_core.specs.declared.machine.Runner.{Runner}
 use Rattle.net_core.specs.Plain.{is_plain}
 use Rattle.net_core.specs.Machines.{standing_of}
 use Rattle.net_core.specs.Bound.{AreBound, IsBound}
-use Rattle.net_core.specs.Starts.{AllJoin, AreApart, no_part, one_part, spare_sessions, sessions_room, machines_alone, Joined, JoinsOne, partner_for, IsCast, no_role, one_role}
+use Rattle.net_core.specs.Starts.{AllJoin, AreApart, one_part, spare_sessions, sessions_room, machines_alone, Joined, JoinsOne}
 use Rattle.net_core.proofs.Turns.{all_at}
 use Rattle.net_core.proofs.Scopes.{plain_place}
 
@@ -161,10 +159,10 @@ to_join_more e c s first parts old new i d lt t one =
     record {
       joins =
           subst (λ (ms : List Machine). AllJoin e ms c qs) (sym same)
-              (joins_still e c (map standing_of old) q.1 (standing_of one.machine) qs others (All-tail (λ (x : NameId × ℕ). joins_there (place_at e (slice_get (map standing_of old) x.1)) c x.0 ≡ true) q qs here.joins));
+          (joins_still e c (map standing_of old) q.1 (standing_of one.machine) qs others (All-tail (λ (x : NameId × ℕ). joins_there (place_at e (slice_get (map standing_of old) x.1)) c x.0 ≡ true) q qs here.joins));
       room =
           subst (λ (ms : List Runner). All (λ (x : NameId × ℕ). 1 ≤ sessions_room ms x.1) qs) (sym one.put)
-              (room_still old q.1 one.machine qs others (All-tail (λ (x : NameId × ℕ). 1 ≤ sessions_room old x.1) q qs here.room));
+          (room_still old q.1 one.machine qs others (All-tail (λ (x : NameId × ℕ). 1 ≤ sessions_room old x.1) q qs here.room));
       apart = apart_tail q qs here.apart;
       goes = λ last j. here.goes last (joined_more e c s old new q qs last one others j);
     }
@@ -203,5 +201,5 @@ room_stays_put (x ∷ ms) (suc p) d n (suc q) lt h = room_stays_put ms p d n q (
 pub room_taken : (ms ns : List Runner) (parts : List (NameId × ℕ)) (i : ℕ) (d : NameId × ℕ) → i < length parts → ((q : ℕ) → sessions_room ms q ≤ sessions_room ns q) → 1 ≤ sessions_room ns (get_or parts i d).1 → All (λ q. 1 ≤ sessions_room ms q.1) (take i parts) → All (λ q. 1 ≤ sessions_room ns q.1) (take (i + 1) parts)
 room_taken ms ns parts i d lt more here all =
     All-more (λ (q : NameId × ℕ). 1 ≤ sessions_room ns q.1) parts i d lt
-        (All-weaker (λ (q : NameId × ℕ). 1 ≤ sessions_room ms q.1) (λ (q : NameId × ℕ). 1 ≤ sessions_room ns q.1) (λ q h. let k = more q.1 in omega arith) (take i parts) all)
-        here
+    (All-weaker (λ (q : NameId × ℕ). 1 ≤ sessions_room ms q.1) (λ (q : NameId × ℕ). 1 ≤ sessions_room ns q.1) (λ q h. let k = more q.1 in omega arith) (take i parts) all)
+    here

@@ -1,12 +1,12 @@
 -- Where a triple's queue is.
-use Rattle.std.proofs.Common.{◌≡◌, ℕ, zero, suc, ◌+◌, ◌≤◌, ◌<◌, ◌==◌, ◌&&◌, Bool, true, false, cond, List, [], ◌∷◌, ◌++◌, length, get_or, refl, sym, ap, ◌∙◌, subst, Option, Some, None, arith, IfSome, IfNone, IsOk, OnOk, Result, Ok, Err}
-use Rattle.std.specs.Prelude.{slice_set, slice_get, slice_index_or, drop, if◌then◌else◌, ◌≢◌}
+use Rattle.std.proofs.Common.{◌≡◌, ℕ, zero, suc, ◌+◌, ◌≤◌, ◌<◌, ◌==◌, ◌&&◌, Bool, true, false, cond, List, [], ◌∷◌, ◌++◌, length, get_or, refl, sym, ap, ◌∙◌, subst, Some, None, arith, OnOk, Result, Ok, Err}
+use Rattle.std.specs.Prelude.{slice_set, slice_get}
 use Rattle.std.proofs.lemmas.Bool.Decides.{nat_tests}
 use Rattle.chor_base.specs.declared.names.NameId.{NameId}
 use Rattle.chor_base.specs.declared.value.Load.{Load}
 use Rattle.chor_base.specs.Events.{Triple, triple_eq}
 use Rattle.endpoint_code.specs.Network.{loads_for, with_loads}
-use Rattle.net_core.specs.Lanes.{LaneView, QueuesView, loads_in, room_among, room_on, lane_from}
+use Rattle.net_core.specs.Lanes.{LaneView, loads_in, room_among, lane_from}
 
 -- the first lane of the triple is at this place
 pub data At (t : Triple) : List LaneView → ℕ → Type 0 where

@@ -1,6 +1,6 @@
 -- Where a process can step, the pick rule may take one.
-use Rattle.std.proofs.Common.{◌≡◌, ℕ, zero, suc, ◌+◌, ◌<◌, ◌==◌, ◌&&◌, ◌||◌, Bool, true, false, cond, List, [], ◌∷◌, length, refl, sym, ap, ◌∙◌, subst, Option, Some, None, arith, is_some}
-use Rattle.std.specs.Prelude.{slice_get, ◌≢◌}
+use Rattle.std.proofs.Common.{◌≡◌, ℕ, zero, suc, ◌<◌, ◌==◌, ◌&&◌, ◌||◌, Bool, true, false, cond, List, [], ◌∷◌, length, refl, sym, ap, ◌∙◌, Option, Some, None, arith, is_some}
+use Rattle.std.specs.Prelude.{slice_get}
 use Rattle.std.proofs.lemmas.Bool.Decides.{nat_tests}
 use Rattle.std.proofs.lemmas.Option.{slice_get_within}
 use Rattle.chor_base.specs.declared.names.NameId.{NameId}
@@ -11,13 +11,12 @@ use Rattle.endpoint_code.specs.declared.code.CodeNode.{CodeNode}
 use Rattle.endpoint_code.specs.declared.code.CodeNode.TheVariants.{Join, Send, Recv, Pick, Branch, Throw, Catch, Set, Show, Host, If, Call, End}
 use Rattle.endpoint_code.specs.declared.endpoints.Endpoints.{Endpoints}
 use Rattle.endpoint_code.specs.declared.endpoints.Channel.{Channel}
-use Rattle.endpoint_code.specs.Network.{Machine, NetworkState, Sessions, Place, node_at, place_of, place_at, channel_of}
+use Rattle.endpoint_code.specs.Network.{Machine, NetworkState, Sessions, Place, node_at, place_of, channel_of}
 use Rattle.endpoint_code.specs.NetworkRuns.{has_ended, ends_there, joins_there, is_joined, absent_among, absent_on, waits_for, place_waits, can_step, none_can_step}
 use Rattle.endpoint_code.specs.Scheduled.{is_listed, listed, listed_from, listed_at, first_role}
 use Rattle.endpoint_code.specs.Faults.{is_among, IsActive}
 use Rattle.net_core.specs.Heads.{Stands, EachStands}
 use Rattle.net_core.proofs.Lanes.{name_same, both_true}
-use Rattle.net_core.proofs.Casts.{either_false}
 use Rattle.net_core.proofs.Begins.{scoped_join}
 
 -- a place where a process joins
@@ -143,12 +142,12 @@ leader e n i m c r there p active steps = go active.0.active refl
         let first = joined_at e n.machines c f (role_joined e n.machines c r f fs joined all) in
         let place = join_place (place_of e first.1) c f first.3 in
         let none : absent_on e n.machines c f (channel_of e.channels c) ≡ None =
-            ap (absent_on e n.machines c f) active.1 ∙ ap (absent_among e n.machines c f) s ∙ all_joined e n.machines c r f (f ∷ fs) joined all
+        ap (absent_on e n.machines c f) active.1 ∙ ap (absent_among e n.machines c f) s ∙ all_joined e n.machines c r f (f ∷ fs) joined all
         in
         let leads : listed_at e (place_of e first.1) ≡ true =
-            ap (listed_at e) place.is ∙ ap (λ (o : Option Channel). first_role o f) active.1
-            ∙ ap (λ (rs : List NameId). first_role (Some (record active.0 { active = rs })) f) s
-            ∙ (let a : (f.0 == f.0) ≡ true = grind (arith, nat_tests) in a)
+        ap (listed_at e) place.is ∙ ap (λ (o : Option Channel). first_role o f) active.1
+        ∙ ap (λ (rs : List NameId). first_role (Some (record active.0 { active = rs })) f) s
+        ∙ (let a : (f.0 == f.0) ≡ true = grind (arith, nat_tests) in a)
         in
         (first.0, first.1, first.2, ap (λ (b : Bool). b && listed_at e (place_of e first.1)) (join_steps e n first.1 c f place none) ∙ leads)
 

@@ -10,3 +10,4 @@ pub mod Casts
 pub mod Begins
 pub mod Leaders
 pub mod Runs
+pub mod Samples

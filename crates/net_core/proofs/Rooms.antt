@@ -1,5 +1,5 @@
 -- Room for the next events of processes.
-use Rattle.std.proofs.Common.{◌≡◌, ℕ, zero, suc, ◌+◌, ◌-◌, ◌<◌, ◌≤◌, ◌&&◌, Bool, true, false, List, [], ◌∷◌, length, get_or, refl, sym, ap, ◌∙◌, subst, Option, Some, None, arith}
+use Rattle.std.proofs.Common.{◌≡◌, ℕ, zero, suc, ◌<◌, ◌≤◌, ◌&&◌, Bool, true, List, [], ◌∷◌, length, get_or, refl, sym, ap, ◌∙◌, Option, Some, None, arith}
 use Rattle.std.specs.Prelude.{slice_get, slice_set, map, nat_lt}
 use Rattle.std.specs.FinMap as fin
 use Rattle.std.proofs.lemmas.Option.{slice_get-get_or, slice_get-map, get_or_from_slice_get}
@@ -9,7 +9,7 @@ use Rattle.chor_base.specs.Events.{Triple}
 use Rattle.endpoint_code.specs.declared.code.CodeNode.{CodeNode}
 use Rattle.endpoint_code.specs.declared.code.CodeNode.TheVariants.{Join, Send, Recv, Pick, Branch, Throw, Catch, Set, Show, Host, If, Call, End}
 use Rattle.endpoint_code.specs.declared.endpoints.Endpoints.{Endpoints}
-use Rattle.endpoint_code.specs.Network.{Machine, NetworkState, Sessions, Place, place_of}
+use Rattle.endpoint_code.specs.Network.{Machine, Place, place_of}
 use Rattle.net_core.specs.declared.machine.Runner.{Runner}
 use Rattle.net_core.specs.Lanes.{QueuesView, room_on}
 use Rattle.net_core.specs.Machines.{standing_of, has_room_at, has_room_to}
@@ -48,7 +48,7 @@ room_stays e k l q r m n more queues vars same h =
     let parts = both_true (nat_lt 0 k) (place_has_room q m (place_of e (standing_of m))) h in
     let first : nat_lt 0 l ≡ true = let a : nat_lt 0 k ≡ true = parts.0 in grind (arith, nat_tests) in
     let second : place_has_room r n (place_of e (standing_of n)) ≡ true =
-        ap (λ (s : Machine). place_has_room r n (place_of e s)) same ∙ place_stays (place_of e (standing_of m)) parts.1
+    ap (λ (s : Machine). place_has_room r n (place_of e s)) same ∙ place_stays (place_of e (standing_of m)) parts.1
     in
     ap (λ (b : Bool). b && place_has_room r n (place_of e (standing_of n))) first ∙ second
   where

@@ -1,5 +1,5 @@
 -- Turns and runs by the pick rule.
-use Rattle.std.proofs.Common.{◌≡◌, ℕ, zero, suc, ◌+◌, ◌-◌, ◌*◌, ◌%◌, ◌^◌, ◌<◌, ◌≤◌, ◌&&◌, Bool, true, false, cond, List, [], ◌∷◌, ◌++◌, length, refl, sym, ap, ◌∙◌, subst, Option, Some, None, arith, is_some, append_assoc, map}
+use Rattle.std.proofs.Common.{◌≡◌, ℕ, zero, suc, ◌+◌, ◌-◌, ◌*◌, ◌%◌, ◌^◌, ◌<◌, ◌≤◌, ◌&&◌, Bool, true, false, cond, List, [], ◌∷◌, ◌++◌, length, refl, sym, ap, ◌∙◌, subst, Option, Some, None, arith, is_some, append_assoc}
 use Rattle.std.specs.Prelude.{slice_get, ◌≢◌}
 use Rattle.std.proofs.lemmas.Option.{slice_get_within, some_pair_parts}
 use Rattle.std.proofs.lemmas.List.{append-nil, length-append, length-map, map-append}
@@ -16,9 +16,9 @@ use Rattle.endpoint_code.specs.Network.{place_of}
 use Rattle.net_core.specs.declared.answer.Picked.{Picked}
 use Rattle.net_core.specs.declared.answer.Picked.TheVariants.{Ended, Limit, Stuck, Memory}
 use Rattle.net_core.specs.Heads.{steps_at, steps_of, why_at, why_of, ended_at, ended_of}
-use Rattle.net_core.specs.Views.{NetworkView, IsSame}
-use Rattle.net_core.specs.Steps.{FitsMore, HasGrown, HasStepped, most_served}
-use Rattle.net_core.specs.Picks.{waiting_at, GoesOn, stays, goes, entries_of, HasRun, HasGone, Runs, HasTurned, HasClosed, Turns, IsStuck}
+use Rattle.net_core.specs.Views.{NetworkView}
+use Rattle.net_core.specs.Steps.{FitsMore, HasGrown, most_served}
+use Rattle.net_core.specs.Picks.{GoesOn, stays, goes, entries_of, HasRun, HasGone, Runs, HasTurned, HasClosed, Turns, IsStuck}
 use Rattle.net_core.proofs.Lanes.{both_true}
 
 -- ---- the first process that hasn't ended
@@ -108,9 +108,10 @@ picked_steps e n seed events p h =
     let i = picked_item (listed e None n) (seed + events) p h in
     let f = listed_item e n 0 n.machines i.0 p i.1 in
     let same : f.place ≡ p = let number : p ≡ 0 + f.place = f.number in omega arith in
-    let steps : can_step e None n f.item.machine ≡ true = (both_true (can_step e None n f.item.machine) (listed_at e (place_of e f.item.machine)) f.listed).0 in
-    (subst (λ (k : ℕ). k < length n.machines) same (slice_get_within n.machines f.place f.item.machine f.item.there),
-    subst (λ (k : ℕ). steps_at e n k ≡ true) same (ap (steps_of e n) f.item.there ∙ steps))
+    let steps : can_step e None n f.item.machine ≡ true = (both_true (can_step e None n f.item.machine) (listed_at e (place_of e f.item.machine)) f.listed).0 in (
+      subst (λ (k : ℕ). k < length n.machines) same (slice_get_within n.machines f.place f.item.machine f.item.there),
+      subst (λ (k : ℕ). steps_at e n k ≡ true) same (ap (steps_of e n) f.item.there ∙ steps),
+    )
 
 -- a process that can step neither waits nor has ended
 pub steps_no_wait : (e : Endpoints) (n : NetworkState) (p : ℕ) (w : Why) → steps_at e n p ≡ true → why_at e n p ≡ Some w → ⊥
@@ -215,11 +216,11 @@ underway_more seed steps first old new u t =
             ∙ ap (λ (r : List Entry). first.history ++ r) (sym (map-append _ g.events (x ∷ [])));
         run =
             subst (λ (n : NetworkState). GoesOn first.endpoints seed steps first.state (length first.history) (g.events ++ x ∷ []) n) (sym t.step.becomes.state)
-                (goes_more g.run t.step.state (length old.history) t.process x (events_so_far seed steps first old g)
-                (subst (λ (p : Endpoints). all_ended p old.state.machines ≡ false) e t.open_still)
-                other
-                (subst (λ (p : Endpoints). picked p None seed (length old.history) old.state ≡ Some t.process) e t.pick)
-                (subst (λ (p : Endpoints). Chooses p [] None old.state t.process x t.step.state) e t.step.chooses));
+            (goes_more g.run t.step.state (length old.history) t.process x (events_so_far seed steps first old g)
+            (subst (λ (p : Endpoints). all_ended p old.state.machines ≡ false) e t.open_still)
+            other
+            (subst (λ (p : Endpoints). picked p None seed (length old.history) old.state ≡ Some t.process) e t.pick)
+            (subst (λ (p : Endpoints). Chooses p [] None old.state t.process x t.step.state) e t.step.chooses));
       };
       before = omega arith;
       fits = fits_after old new (steps - length new.history) t.step.becomes.endpoints t.grown (subst (FitsMore old) left u.fits);
@@ -234,7 +235,7 @@ closed_run seed steps first old new c u h =
       history = h.same.history ∙ g.history;
       run =
           subst (λ (n : NetworkState). IsScheduled first.endpoints [] None seed steps first.state (length first.history) g.events n c) (sym h.same.state)
-              (closed_by g.run (length old.history) c (events_so_far seed steps first old g) (subst (λ (e : Endpoints). Closes e None steps old.state (length old.history) c) g.endpoints h.closes));
+          (closed_by g.run (length old.history) c (events_so_far seed steps first old g) (subst (λ (e : Endpoints). Closes e None steps old.state (length old.history) c) g.endpoints h.closes));
     }
 
 pub closes_run : (seed steps : ℕ) (first old new : NetworkView) (r : Picked) → Underway seed steps first old → Turns seed steps old (Some r) new → Runs seed steps first r new

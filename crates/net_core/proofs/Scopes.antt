@@ -1,5 +1,5 @@
 -- What the code at which a process stands tells.
-use Rattle.std.proofs.Common.{◌≡◌, ℕ, zero, suc, ◌+◌, ◌<◌, ◌==◌, ◌&&◌, ◌||◌, Bool, true, false, cond, List, [], ◌∷◌, ◌++◌, length, get_or, refl, sym, ap, ◌∙◌, subst, Option, Some, None, arith, is_some, ◌^◌}
+use Rattle.std.proofs.Common.{◌≡◌, ℕ, suc, ◌<◌, true, List, [], ◌∷◌, length, get_or, refl, sym, ap, ◌∙◌, subst, Option, Some, None, arith, ◌^◌}
 use Rattle.std.specs.Prelude.{slice_get, All, map}
 use Rattle.std.proofs.lemmas.Option.{slice_get-get_or, get_or_from_slice_get, slice_get_within, slice_get-map}
 use Rattle.std.proofs.lemmas.List.{length-map}
@@ -10,14 +10,14 @@ use Rattle.endpoint_code.specs.declared.code.CodeNode.{CodeNode}
 use Rattle.endpoint_code.specs.declared.code.CodeNode.TheVariants.{Join, Send, Recv, Pick, Branch, Throw, Catch, Set, Show, Host, If, Call, End}
 use Rattle.endpoint_code.specs.declared.endpoints.Endpoints.{Endpoints}
 use Rattle.endpoint_code.specs.declared.endpoints.Process.{Process}
-use Rattle.endpoint_code.specs.Network.{Machine, NetworkState, Sessions, Place, node_at, place_of, place_in, standing, standing_all}
+use Rattle.endpoint_code.specs.Network.{Machine, Sessions, node_at, place_in, standing, standing_all}
 use Rattle.endpoint_code.specs.Faults.{IsFaultless, IsScoped, joins, sends, receives, picks, offers, gives, gains, sets, shows, asks, tests, calls, ends}
 use Rattle.net_core.specs.declared.machine.Runner.{Runner}
 use Rattle.net_core.specs.Lanes.{QueuesView}
 use Rattle.net_core.specs.Plain.{is_plain, IsPlain}
 use Rattle.net_core.specs.Machines.{standing_of}
 use Rattle.net_core.specs.Heads.{Stands, EachStands}
-use Rattle.net_core.specs.Bound.{AreBound, IsBound}
+use Rattle.net_core.specs.Bound.{IsBound}
 use Rattle.net_core.specs.Views.{IsSound, state_of}
 use Rattle.net_core.proofs.Turns.{all_at, turn}
 
@@ -93,10 +93,10 @@ pub first_bound : (e : Endpoints) (ps : List Process) → All (λ p. IsScoped e 
 first_bound e [] all = All-nil (IsBound e)
 first_bound e (p ∷ ps) all =
     All-cons (IsBound e) (standing p.body) (standing_all ps)
-        (record { names = []; scoped = All-head (λ p. IsScoped e p.body []) p ps all; bound = λ k h. absurd cc })
-        (first_bound e ps (All-tail (λ p. IsScoped e p.body []) p ps all))
+    (record { names = []; scoped = All-head (λ p. IsScoped e p.body []) p ps all; bound = λ k h. absurd cc })
+    (first_bound e ps (All-tail (λ p. IsScoped e p.body []) p ps all))
 
-length-standing_all : (ps : List Process) → length (standing_all ps) ≡ length ps
+pub length-standing_all : (ps : List Process) → length (standing_all ps) ≡ length ps
 length-standing_all [] = refl
 length-standing_all (p ∷ ps) = ap suc (length-standing_all ps)
 

@@ -1,14 +1,14 @@
 -- Loops over the processes of a network.
-use Rattle.std.proofs.Common.{◌≡◌, ℕ, zero, suc, ◌+◌, ◌<◌, ◌==◌, ◌&&◌, ◌||◌, Bool, true, false, cond, List, [], ◌∷◌, ◌++◌, length, drop, take, get_or, refl, sym, ap, ◌∙◌, subst, Option, Some, None, arith, add-one}
-use Rattle.std.specs.Prelude.{slice_get, All, map}
+use Rattle.std.proofs.Common.{◌≡◌, ℕ, suc, ◌+◌, ◌<◌, ◌&&◌, Bool, cond, List, [], ◌∷◌, ◌++◌, length, drop, get_or, refl, sym, ap, ◌∙◌, subst, Option, Some, None, arith, add-one}
+use Rattle.std.specs.Prelude.{slice_get, All}
 use Rattle.std.proofs.lemmas.Option.{slice_get-get_or, get_or_from_slice_get, slice_get_within}
 use Rattle.std.proofs.lemmas.List.{drop_more}
 use Rattle.chor_base.specs.declared.names.NameId.{NameId}
 use Rattle.chor_base.specs.declared.event.Why.{Why}
 use Rattle.endpoint_code.specs.declared.endpoints.Endpoints.{Endpoints}
 use Rattle.endpoint_code.specs.declared.endpoints.Process.{Process}
-use Rattle.endpoint_code.specs.Network.{Machine, NetworkState, standing, standing_all, place_of, place_at}
-use Rattle.endpoint_code.specs.NetworkRuns.{has_ended, all_ended, joins_there, waits_for}
+use Rattle.endpoint_code.specs.Network.{Machine, NetworkState, standing, standing_all, place_at}
+use Rattle.endpoint_code.specs.NetworkRuns.{all_ended, joins_there, waits_for}
 use Rattle.endpoint_code.specs.Scheduled.{least_joiner, listed_from, first_waiting_from}
 use Rattle.net_core.specs.Heads.{ended_of, ended_at, why_of, why_at, listed_of, is_listed_at, joins_in}
 

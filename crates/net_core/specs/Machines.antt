@@ -1,5 +1,5 @@
 -- What one process of a network does by itself.
-use Rattle.std.specs.Prelude.{ℕ, ◌≡◌, Bool, true, false, List, [], Option, Some, None, slice_set, nat_lt, ℤ, is_some, slice_get, if◌then◌else◌, ◌==◌, ◌&&◌}
+use Rattle.std.specs.Prelude.{ℕ, ◌≡◌, Bool, true, false, List, Option, Some, None, slice_set, nat_lt, ℤ, is_some, slice_get, if◌then◌else◌, ◌==◌, ◌&&◌}
 use Rattle.std.specs.FinMap as fin
 use Rattle.chor_base.specs.declared.names.NameId.{NameId}
 use Rattle.chor_base.specs.declared.value.Load.{Load}
@@ -10,10 +10,8 @@ use Rattle.chor_base.specs.declared.event.Why.{Why}
 use Rattle.chor_base.specs.declared.event.Why.TheVariants.{Empty, Wrong}
 use Rattle.chor_base.specs.Events.{Triple}
 use Rattle.endpoint_code.specs.declared.code.CodeNode.{CodeNode}
-use Rattle.endpoint_code.specs.declared.code.CodeNode.TheVariants.{Join, Send, Recv, Pick, Branch, Throw, Catch, Set, Show, Host, If, Call, End}
-use Rattle.endpoint_code.specs.declared.endpoints.Endpoints.{Endpoints}
-use Rattle.endpoint_code.specs.Network.{Machine, NetworkState, Sessions, Made, Makes, node_makes, loads_for}
-use Rattle.endpoint_code.specs.NetworkRuns.{node_waits}
+use Rattle.endpoint_code.specs.declared.code.CodeNode.TheVariants.{Join, Send, Recv}
+use Rattle.endpoint_code.specs.Network.{Machine, NetworkState, Sessions, Makes, node_makes, loads_for}
 use Rattle.net_core.specs.declared.machine.Runner.{Runner}
 use Rattle.net_core.specs.Lanes.{QueuesView, loads_in, room_on}
 

@@ -1,7 +1,7 @@
 -- The endpoint programs that a network here runs.
-use Rattle.std.specs.Prelude.{◌≡◌, Bool, true, false, List, [], All}
+use Rattle.std.specs.Prelude.{◌≡◌, Bool, true, false, [], All}
 use Rattle.endpoint_code.specs.declared.code.CodeNode.{CodeNode}
-use Rattle.endpoint_code.specs.declared.code.CodeNode.TheVariants.{Join, Send, Recv, Pick, Branch, Throw, Catch, Set, Show, Host, If, Call, End}
+use Rattle.endpoint_code.specs.declared.code.CodeNode.TheVariants.{Join, Send, Recv, End}
 use Rattle.endpoint_code.specs.declared.endpoints.Endpoints.{Endpoints}
 
 abbrev pub is_plain : CodeNode → Bool

@@ -31,9 +31,10 @@ abbrev pub most_served : List Channel → ℕ
 most_served [] = 0
 most_served (k ∷ ks) = max (length k.serve) (most_served ks)
 
--- by one event a network draws at most one session number, and at most as many process numbers as a channel has service roles
+-- by one event a network loses no process, and draws at most one session number and as many process numbers as a channel has service roles
 pub record HasGrown (old new : NetworkView) : Type 0 where
   pub sid : new.state.sid ≤ old.state.sid + 1
+  pub kept : length old.state.machines ≤ length new.state.machines
   pub machines : length new.state.machines ≤ length old.state.machines + most_served old.endpoints.channels
 
 -- so many events more leave the numbers of sessions and processes below 2^32

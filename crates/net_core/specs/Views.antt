@@ -1,13 +1,10 @@
 -- What contracts see of a network.
-use Rattle.std.specs.Prelude.{ℕ, ◌≡◌, ◌<◌, ◌^◌, Bool, true, false, ◌&&◌, List, [], ◌∷◌, ◌++◌, length, map, Option, Some, None, slice_get, nat_lt, is_some, All}
-use Rattle.std.specs.FinMap as fin
-use Rattle.chor_base.specs.declared.names.NameId.{NameId}
+use Rattle.std.specs.Prelude.{ℕ, ◌≡◌, ◌<◌, ◌^◌, Bool, true, ◌&&◌, List, [], ◌∷◌, ◌++◌, length, map, Option, Some, None, slice_get, nat_lt, All}
 use Rattle.chor_base.specs.declared.event.Event.{Event}
 use Rattle.chor_base.specs.declared.event.Entry.{Entry}
-use Rattle.endpoint_code.specs.declared.code.CodeNode.{CodeNode}
 use Rattle.endpoint_code.specs.declared.endpoints.Endpoints.{Endpoints}
-use Rattle.endpoint_code.specs.Network.{Machine, NetworkState, Sessions, Place, place_of}
-use Rattle.endpoint_code.specs.Faults.{IsFaultless, IsScoped, is_among}
+use Rattle.endpoint_code.specs.Network.{Machine, NetworkState, Place, place_of}
+use Rattle.endpoint_code.specs.Faults.{IsFaultless}
 use Rattle.net_core.specs.declared.machine.Runner.{Runner}
 use Rattle.net_core.specs.Lanes.{QueuesView, loads_in}
 use Rattle.net_core.specs.Plain.{IsPlain}

@@ -10,3 +10,6 @@ mod starts;
 
 pub use answer::{Picked, Step};
 pub use network::Network;
+
+#[cfg(test)]
+mod tests;

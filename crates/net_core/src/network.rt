@@ -115,6 +115,7 @@ impl<'a> Network<'a> {
     {
         matches!(self.node(pid), CodeNode::End)
     }
+
     /// Whether every process has ended.
     pub fn finished(&self) -> bool
         ensures { result ≡ all_ended self.now.endpoints self.now.state.machines }
@@ -137,6 +138,7 @@ impl<'a> Network<'a> {
             _ => false,
         }
     }
+
     // The least process that joins a channel in a role.
     fn joiner(&self, channel: NameId, role: NameId) -> Option<u32>
         ensures { result ≡ least_joiner self.now.endpoints 0 self.now.state.machines channel role }
@@ -161,7 +163,9 @@ impl<'a> Network<'a> {
     fn absent(&self, channel: NameId, own: NameId) -> Option<Why>
         ensures { result ≡ absent_on self.now.endpoints self.now.state.machines channel own (channel_of self.now.endpoints.channels channel) }
     {
-        let roles = channel_named(self.endpoints.channels.as_slice(), channel)?.active.as_slice();
+        let roles = channel_named(self.endpoints.channels.as_slice(), channel)?
+            .active
+            .as_slice();
         for role in roles {
             if self.is_missing(channel, own, *role) {
                 return Some(Why::Absent(channel, *role));

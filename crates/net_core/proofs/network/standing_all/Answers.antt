@@ -1,8 +1,6 @@
-use Rattle.std.proofs.Common.{◌≡◌, ◌∙◌, sym, ap, ◌++◌, ◌∷◌, [], List, map, take, arith}
+use Rattle.std.proofs.Common.{◌∙◌, sym, ap, ◌++◌, ◌∷◌, [], List, map, take}
 use Rattle.std.proofs.lemmas.List.{take_more, map_push}
-use Rattle.endpoint_code.specs.declared.endpoints.Process.{Process}
 use Rattle.endpoint_code.specs.Network.{Machine, standing_all}
-use Rattle.net_core.specs.declared.machine.Runner.{Runner}
 use Rattle.net_core.specs.Machines.{standing_of}
 use Rattle.net_core.proofs.Turns.{standing_push}
 use Rattle.net_core.proofs.network.standing_all.Goals as goal

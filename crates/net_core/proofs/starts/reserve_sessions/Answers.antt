@@ -1,9 +1,6 @@
 use Rattle.std.proofs.Common.{◌≡◌, ◌≤◌, ◌<◌, ◌∙◌, ap, sym, subst, get_or, length, ℕ, arith}
-use Rattle.chor_base.specs.declared.names.NameId.{NameId}
 use Rattle.endpoint_code.specs.Network.{Machine, Sessions}
 use Rattle.net_core.specs.declared.machine.Runner.{Runner}
-use Rattle.net_core.specs.Machines.{standing_of}
-use Rattle.net_core.specs.Starts.{sessions_room}
 use Rattle.net_core.proofs.Joins.{standing_put, room_stays_put, room_taken, room_here}
 use Rattle.net_core.proofs.starts.reserve_sessions.Goals as goal
 
@@ -20,8 +17,8 @@ loop-part-preserved c =
       standing = standing_put ms q.1 d n within (ap (λ (m : Sessions). let t : Machine = record { at = (get_or ms q.1 d).at; vars = (get_or ms q.1 d).vars.map; sessions = m } in t) c.reserve.ensures.map) ∙ c.loop-part.invariant.standing;
       room =
           room_taken ms _ parts i (record { 0 = 0 }, 0) c.loop-part-test.true (λ p. room_stays_put ms q.1 d n p within c.reserve.ensures.kept)
-              (subst (λ (k : ℕ). 1 ≤ k) (sym (room_here ms q.1 n within)) c.in_ok-reserve.ensures.ok)
-              c.loop-part.invariant.room;
+          (subst (λ (k : ℕ). 1 ≤ k) (sym (room_here ms q.1 n within)) c.in_ok-reserve.ensures.ok)
+          c.loop-part.invariant.room;
     }
 
 pub returns-in_err-reserve-clause-standing : goal.returns-in_err-reserve-clause-standing

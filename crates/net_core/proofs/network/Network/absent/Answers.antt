@@ -1,5 +1,4 @@
-use Rattle.std.proofs.Common.{◌≡◌, ◌∙◌, sym, ap, Bool, cond, Some, None, Option, List, drop, ◌+◌, arith, get_or}
-use Rattle.chor_base.specs.declared.names.NameId.{NameId}
+use Rattle.std.proofs.Common.{◌≡◌, ◌∙◌, sym, ap, Bool, cond, Some, List, drop, ◌+◌, get_or}
 use Rattle.chor_base.specs.declared.event.Why.TheVariants.{Absent}
 use Rattle.endpoint_code.specs.declared.endpoints.Channel.{Channel}
 use Rattle.endpoint_code.specs.Network.{channel_of}
@@ -14,7 +13,7 @@ returns-then-is_missing c =
     let i = c.loop-role.role-index in
     let roles = c.as_slice-roles.result.now in
     let chan : Some c.in_ok-channel_named.field-0.now ≡ channel_of v.endpoints.channels c.args.channel =
-        c.in_ok-channel_named.ensures ∙ ap (λ (ks : List Channel). channel_of ks c.args.channel) c.as_slice.ensures ∙ ap (λ (w : NetworkView). channel_of w.endpoints.channels c.args.channel) c.self.view_is
+    c.in_ok-channel_named.ensures ∙ ap (λ (ks : List Channel). channel_of ks c.args.channel) c.as_slice.ensures ∙ ap (λ (w : NetworkView). channel_of w.endpoints.channels c.args.channel) c.self.view_is
     in
     let here = absent_turn v.endpoints v.state.machines c.args.channel c.args.own roles i (record { 0 = 0 }) c.is_missing.result c.loop-role-test.true c.is_missing.ensures in
     sym (ap (absent_on v.endpoints v.state.machines c.args.channel c.args.own) (sym chan) ∙ ap (absent_among v.endpoints v.state.machines c.args.channel c.args.own) (sym c.as_slice-roles.ensures)

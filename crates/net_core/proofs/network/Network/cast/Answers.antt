@@ -1,4 +1,4 @@
-use Rattle.std.proofs.Common.{◌≡◌, ◌∙◌, sym, ap, subst, refl, Some, None, List, drop, take, get_or, ◌+◌, ◌++◌, ◌∷◌, [], ℕ, true, is_some}
+use Rattle.std.proofs.Common.{◌∙◌, sym, ap, subst, List, drop, take, get_or, ◌+◌, ◌++◌, ◌∷◌, [], ℕ, is_some}
 use Rattle.std.proofs.lemmas.List.{drop_more, take_more}
 use Rattle.chor_base.specs.declared.names.NameId.{NameId}
 use Rattle.endpoint_code.specs.NetworkRuns.{absent_among}
@@ -23,8 +23,8 @@ loop-role-preserved c =
     record {
       so_far =
           subst (λ (ps : List (NameId × ℕ)). IsCast v.endpoints v.state.machines c.args.channel c.args.pid c.args.own (take (i + 1) roles) ps) (sym c.in_ok-push.ensures.ok)
-              (subst (λ (rs : List NameId). IsCast v.endpoints v.state.machines c.args.channel c.args.pid c.args.own rs (c.loop-role.parts ++ (role, c.in-Some.partner) ∷ [])) (sym (take_more roles i (record { 0 = 0 }) c.loop-role-test.true))
-              (cast_push c.loop-role.invariant.so_far role c.in-Some.partner (sym c.in-Some.ensures)));
+          (subst (λ (rs : List NameId). IsCast v.endpoints v.state.machines c.args.channel c.args.pid c.args.own rs (c.loop-role.parts ++ (role, c.in-Some.partner) ∷ [])) (sym (take_more roles i (record { 0 = 0 }) c.loop-role-test.true))
+          (cast_push c.loop-role.invariant.so_far role c.in-Some.partner (sym c.in-Some.ensures)));
       left = (absent_head v.endpoints v.state.machines c.args.channel c.args.own role (drop (i + 1) roles) c.args.pid (sym (ap (absent_among v.endpoints v.state.machines c.args.channel c.args.own) more) ∙ c.loop-role.invariant.left)).1;
     }
 

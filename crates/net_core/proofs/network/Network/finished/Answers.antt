@@ -1,4 +1,4 @@
-use Rattle.std.proofs.Common.{◌≡◌, ◌∙◌, sym, ap, Bool, ◌&&◌, drop, ◌+◌, ◌<◌, length, arith}
+use Rattle.std.proofs.Common.{◌∙◌, sym, ap, Bool, ◌&&◌, drop, ◌+◌, ◌<◌, length, arith}
 use Rattle.endpoint_code.specs.NetworkRuns.{all_ended}
 use Rattle.net_core.proofs.Turns.{ended_turn}
 use Rattle.net_core.proofs.network.Network.finished.Goals as goal

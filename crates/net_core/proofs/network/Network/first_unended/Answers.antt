@@ -1,4 +1,4 @@
-use Rattle.std.proofs.Common.{◌≡◌, ◌∙◌, ap, Bool, cond, Some, None, drop, ◌+◌, ◌<◌, length, arith}
+use Rattle.std.proofs.Common.{◌∙◌, ap, Bool, cond, Some, None, drop, ◌+◌, ◌<◌, length, arith}
 use Rattle.endpoint_code.specs.Scheduled.{first_waiting_from}
 use Rattle.net_core.specs.Heads.{why_at}
 use Rattle.net_core.proofs.Turns.{waiting_turn}

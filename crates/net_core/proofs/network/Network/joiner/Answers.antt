@@ -1,4 +1,4 @@
-use Rattle.std.proofs.Common.{◌≡◌, ◌∙◌, sym, ap, Bool, cond, Some, drop, ◌+◌, ◌<◌, length, arith}
+use Rattle.std.proofs.Common.{◌∙◌, sym, ap, Bool, cond, Some, drop, ◌+◌, ◌<◌, length, arith}
 use Rattle.endpoint_code.specs.Scheduled.{least_joiner}
 use Rattle.net_core.proofs.Turns.{joiner_turn}
 use Rattle.net_core.proofs.network.Network.joiner.Goals as goal

@@ -1,4 +1,4 @@
-use Rattle.std.proofs.Common.{◌≡◌, ◌∙◌, sym, ap, refl, subst, Bool, cond, Some, None, List, drop, ◌+◌, ◌-◌, ◌<◌, ◌∷◌, length, arith, ℕ, true, false, suc, zero}
+use Rattle.std.proofs.Common.{◌∙◌, sym, ap, Bool, cond, None, List, drop, ◌+◌, ◌<◌, ◌∷◌, length, arith, ℕ}
 use Rattle.std.specs.Prelude.{slice_get}
 use Rattle.endpoint_code.specs.Scheduled.{listed_from}
 use Rattle.net_core.proofs.Turns.{listed_turn, get_next}
@@ -23,7 +23,8 @@ loop-pid-preserved c =
     let rest = listed_from v.endpoints None v.state (i + 1) (drop (i + 1) v.state.machines) in
     let here = ap (λ (l : List ℕ). slice_get l c.loop-pid.left) (listed_turn v.endpoints v.state i c.is_listed.result within c.is_listed.ensures) in
     c.loop-pid.invariant ∙ here
-    ∙ (elim c.if-is_listed.branch
-      [ then-is_listed+else-left-eq0 w ↦
+    ∙ (elim c.if-is_listed.branch [
+      | then-is_listed+else-left-eq0 w ↦
           ap (λ (b : Bool). slice_get (cond b (i ∷ rest) rest) c.loop-pid.left) w.if-is_listed.true ∙ get_next i rest c.loop-pid.left c.if-is_listed.left (let a = w.left-is in let b = w.if-left-eq0.false in omega arith)
-      | else-is_listed w ↦ ap (λ (b : Bool). slice_get (cond b (i ∷ rest) rest) c.loop-pid.left) w.if-is_listed.false ∙ ap (slice_get rest) (sym w.left-is) ])
+      | else-is_listed w ↦ ap (λ (b : Bool). slice_get (cond b (i ∷ rest) rest) c.loop-pid.left) w.if-is_listed.false ∙ ap (slice_get rest) (sym w.left-is)
+    ])

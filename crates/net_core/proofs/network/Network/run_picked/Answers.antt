@@ -1,4 +1,4 @@
-use Rattle.net_core.proofs.Runs.{begun_run, underway_more, closes_run, fits_fewer}
+use Rattle.net_core.proofs.Runs.{begun_run, underway_more, closes_run}
 use Rattle.net_core.proofs.network.Network.run_picked.Goals as goal
 
 pub loop-picked-init : goal.loop-picked-init

@@ -1,16 +1,14 @@
 use Rattle.std.proofs.Common.{◌≡◌, ◌∙◌, sym, ap, subst, List, Some}
 use Rattle.endpoint_code.specs.declared.endpoints.Channel.{Channel}
-use Rattle.endpoint_code.specs.declared.code.CodeNode.{CodeNode}
 use Rattle.endpoint_code.specs.declared.code.CodeNode.TheVariants.{Join}
-use Rattle.endpoint_code.specs.Network.{channel_of, NetworkState}
+use Rattle.endpoint_code.specs.Network.{channel_of}
 use Rattle.endpoint_code.specs.Faults.{IsFaultless}
-use Rattle.endpoint_code.specs.Scheduled.{Chooses}
 use Rattle.chor_base.specs.declared.names.NameId.{NameId}
 use Rattle.net_core.specs.Plain.{IsPlain}
 use Rattle.net_core.specs.Starts.{IsCast}
 use Rattle.net_core.specs.Heads.{Stands}
-use Rattle.net_core.specs.Views.{NetworkView, Becomes}
-use Rattle.net_core.specs.Steps.{HasStepped, HasBegun}
+use Rattle.net_core.specs.Views.{NetworkView}
+use Rattle.net_core.specs.Steps.{HasBegun}
 use Rattle.net_core.proofs.Lanes.{on_ok}
 use Rattle.net_core.proofs.Fields.{grown_begun}
 use Rattle.net_core.proofs.Casts.{cast_joins, cast_apart}
@@ -28,35 +26,35 @@ begin-requires-clause-apart c =
     let v = c.args.self.now in
     let s : Stands v.endpoints v.state c.args.pid (Join c.in-Join.channel c.in-Join.own c.in-Join.field-2 c.in-Join.field-3) = subst (Stands v.endpoints v.state c.args.pid) c.in-Join.is c.node.ensures in
     let found : channel_of v.endpoints.channels c.in-Join.channel ≡ Some c.in-Some.found.now =
-        sym (c.in-Some.ensures ∙ ap (λ (ks : List Channel). channel_of ks c.in-Join.channel) c.as_slice.ensures ∙ ap (λ (w : NetworkView). channel_of w.endpoints.channels c.in-Join.channel) c.self.view_is)
+    sym (c.in-Some.ensures ∙ ap (λ (ks : List Channel). channel_of ks c.in-Join.channel) c.as_slice.ensures ∙ ap (λ (w : NetworkView). channel_of w.endpoints.channels c.in-Join.channel) c.self.view_is)
     in
     let cast : IsCast v.endpoints v.state.machines c.in-Join.channel c.args.pid c.in-Join.own c.in-Some.found.now.active c.in_ok-parts.parts =
-        subst (λ (rs : List NameId). IsCast v.endpoints v.state.machines c.in-Join.channel c.args.pid c.in-Join.own rs c.in_ok-parts.parts) c.as_slice-2.ensures c.in_ok-parts.ensures
+    subst (λ (rs : List NameId). IsCast v.endpoints v.state.machines c.in-Join.channel c.args.pid c.in-Join.own rs c.in_ok-parts.parts) c.as_slice-2.ensures c.in_ok-parts.ensures
     in
     cast_apart cast (channel_distinct v.endpoints c.in-Join.channel c.in-Some.found.now (subst (λ (w : NetworkView). IsFaultless w.endpoints) c.self.view_is c.self.invariant.faultless) found)
-        (stands_joining v.endpoints v.state c.args.pid _ _ _ _ s)
+    (stands_joining v.endpoints v.state c.args.pid _ _ _ _ s)
 
 pub returns-clause-ok : goal.returns-clause-ok
 returns-clause-ok c =
     let v = c.args.self.now in
     let s : Stands v.endpoints v.state c.args.pid (Join c.in-Join.channel c.in-Join.own c.in-Join.field-2 c.in-Join.field-3) = subst (Stands v.endpoints v.state c.args.pid) c.in-Join.is c.node.ensures in
     let found : channel_of v.endpoints.channels c.in-Join.channel ≡ Some c.in-Some.found.now =
-        sym (c.in-Some.ensures ∙ ap (λ (ks : List Channel). channel_of ks c.in-Join.channel) c.as_slice.ensures ∙ ap (λ (w : NetworkView). channel_of w.endpoints.channels c.in-Join.channel) c.self.view_is)
+    sym (c.in-Some.ensures ∙ ap (λ (ks : List Channel). channel_of ks c.in-Join.channel) c.as_slice.ensures ∙ ap (λ (w : NetworkView). channel_of w.endpoints.channels c.in-Join.channel) c.self.view_is)
     in
     let cast : IsCast v.endpoints v.state.machines c.in-Join.channel c.args.pid c.in-Join.own c.in-Some.found.now.active c.in_ok-parts.parts =
-        subst (λ (rs : List NameId). IsCast v.endpoints v.state.machines c.in-Join.channel c.args.pid c.in-Join.own rs c.in_ok-parts.parts) c.as_slice-2.ensures c.in_ok-parts.ensures
+    subst (λ (rs : List NameId). IsCast v.endpoints v.state.machines c.in-Join.channel c.args.pid c.in-Join.own rs c.in_ok-parts.parts) c.as_slice-2.ensures c.in_ok-parts.ensures
     in
     on_ok c.begin.result
-        (λ (h : HasBegun c.args.self.now c.in-Join.channel c.in_ok-parts.parts c.begin.new.self).
-            record {
-              event = _;
-              state = _;
-              becomes = h.becomes;
-              chooses =
-                  begins v.endpoints v.state c.args.pid c.in-Join.channel c.in-Join.own c.in-Join.field-2 c.in-Join.field-3 c.in-Some.found.now c.in_ok-parts.parts h.machines s
-                      (subst (λ (w : NetworkView). IsPlain w.endpoints) c.self.view_is c.self.invariant.plain) found cast h.joined;
-            })
-        c.begin.ensures.ok
+    (λ (h : HasBegun c.args.self.now c.in-Join.channel c.in_ok-parts.parts c.begin.new.self).
+    record {
+      event = _;
+      state = _;
+      becomes = h.becomes;
+      chooses =
+          begins v.endpoints v.state c.args.pid c.in-Join.channel c.in-Join.own c.in-Join.field-2 c.in-Join.field-3 c.in-Some.found.now c.in_ok-parts.parts h.machines s
+          (subst (λ (w : NetworkView). IsPlain w.endpoints) c.self.view_is c.self.invariant.plain) found cast h.joined;
+    })
+    c.begin.ensures.ok
 
 pub returns-clause-grown : goal.returns-clause-grown
 returns-clause-grown c = on_ok c.begin.result (grown_begun c.args.self.now c.in-Join.channel c.in_ok-parts.parts c.begin.new.self) c.begin.ensures.ok

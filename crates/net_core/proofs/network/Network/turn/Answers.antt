@@ -1,6 +1,4 @@
-use Rattle.std.proofs.Common.{◌≡◌, ◌∙◌, sym, ap, refl, Some, None, length, false}
-use Rattle.std.specs.Prelude.{◌≢◌}
-use Rattle.endpoint_code.specs.NetworkRuns.{all_ended}
+use Rattle.std.proofs.Common.{◌∙◌, sym, refl, length}
 use Rattle.endpoint_code.specs.Scheduled.{ended, limit}
 use Rattle.net_core.proofs.Runs.{picked_steps, steps_no_wait, steps_no_end, stuck_closes}
 use Rattle.net_core.proofs.network.Network.turn.Goals as goal

@@ -1,9 +1,8 @@
-use Rattle.std.proofs.Common.{◌≡◌, ◌≤◌, ◌+◌, ◌++◌, ◌∷◌, [], ◌∙◌, ap, sym, subst, List, IsOk, arith, ℕ}
-use Rattle.std.specs.Prelude.{slice_get, drop}
-use Rattle.chor_base.specs.declared.value.Load.{Load}
+use Rattle.std.proofs.Common.{◌∙◌, ap, sym, List}
+use Rattle.std.specs.Prelude.{slice_get}
 use Rattle.chor_base.specs.Events.{Triple}
-use Rattle.endpoint_code.specs.Network.{loads_for, with_loads}
-use Rattle.net_core.specs.Lanes.{LaneView, QueuesView, loads_in, room_among, room_on, lane_from}
+use Rattle.endpoint_code.specs.Network.{loads_for}
+use Rattle.net_core.specs.Lanes.{LaneView, QueuesView, loads_in, lane_from}
 use Rattle.net_core.proofs.Lanes.{first_lacking, first_found}
 use Rattle.net_core.proofs.queues.Queues.first.Goals as goal
 

@@ -1,8 +1,5 @@
-use Rattle.std.proofs.Common.{◌≡◌, ◌≤◌, ◌+◌, ◌++◌, ◌∷◌, [], ◌∙◌, ap, sym, subst, List, IsOk, arith, ℕ, ◌<◌, length, get_or, rules}
-use Rattle.std.specs.Prelude.{slice_get, drop}
-use Rattle.chor_base.specs.declared.value.Load.{Load}
+use Rattle.std.proofs.Common.{◌≡◌, ◌≤◌, ◌∙◌, ap, sym, List, arith, ◌<◌, length, get_or, rules}
 use Rattle.chor_base.specs.Events.{Triple}
-use Rattle.endpoint_code.specs.Network.{loads_for, with_loads}
 use Rattle.net_core.specs.Lanes.{LaneView, QueuesView, loads_in, room_among, room_on, lane_from}
 use Rattle.net_core.proofs.Lanes.{same_loads, room_found, room_kept, room_none, room_more, room_put_found, on_ok}
 use Rattle.net_core.specs.contracts.queues.Queues.{the_view}
@@ -13,19 +10,19 @@ returns-in-Some-clause-loads c =
     let l = c.index_mut-lane.result.now in
     let within : c.in-Some.place < length c.self.inside.lanes.items = search rules in
     same_loads c.self.inside.lanes.items c.in-Some.place l c.reserve.new.self within
-        (c.reserve.ensures.triple ∙ ap (λ (n : LaneView). n.triple) c.index_mut-lane.ensures.value)
-        (c.reserve.ensures.loads ∙ ap (λ (n : LaneView). n.loads) c.index_mut-lane.ensures.value)
+    (c.reserve.ensures.triple ∙ ap (λ (n : LaneView). n.triple) c.index_mut-lane.ensures.value)
+    (c.reserve.ensures.loads ∙ ap (λ (n : LaneView). n.loads) c.index_mut-lane.ensures.value)
     ∙ ap (λ (v : QueuesView). loads_in v.lanes) c.self.view_is
 
 pub returns-in-Some-clause-ok : goal.returns-in-Some-clause-ok
 returns-in-Some-clause-ok c =
     let t : Triple = (c.args.sid, c.args.from, c.args.to) in
     on_ok c.reserve.result
-        (λ (h : 1 ≤ c.reserve.new.self.room).
-            let e = room_put_found (the_view c.self.inside).fresh c.self.inside.lanes.items t c.in-Some.place c.index_mut-lane.result.now c.reserve.new.self
-                (sym (c.in-Some.ensures.place ∙ ap (λ (ls : List LaneView). lane_from 0 ls t) c.as_slice.ensures.value)) c.index_mut-lane.ensures.value c.reserve.ensures.triple in
-            omega arith)
-        c.reserve.ensures.ok
+    (λ (h : 1 ≤ c.reserve.new.self.room).
+    let e = room_put_found (the_view c.self.inside).fresh c.self.inside.lanes.items t c.in-Some.place c.index_mut-lane.result.now c.reserve.new.self
+    (sym (c.in-Some.ensures.place ∙ ap (λ (ls : List LaneView). lane_from 0 ls t) c.as_slice.ensures.value)) c.index_mut-lane.ensures.value c.reserve.ensures.triple in
+    omega arith)
+    c.reserve.ensures.ok
 
 pub returns-in-Some-clause-kept : goal.returns-in-Some-clause-kept
 returns-in-Some-clause-kept c = λ t.
@@ -34,16 +31,16 @@ returns-in-Some-clause-kept c = λ t.
     let kept : c.index_mut-lane.result.now.room ≤ c.reserve.new.self.room = c.reserve.ensures.kept in
     let same : room_on c.args.self.now t ≡ room_among (the_view c.self.inside).fresh c.self.inside.lanes.items t = ap (λ (v : QueuesView). room_on v t) (sym c.self.view_is) in
     let h = room_kept (the_view c.self.inside).fresh c.self.inside.lanes.items c.in-Some.place c.index_mut-lane.result.now c.reserve.new.self t within
-        (c.reserve.ensures.triple ∙ ap (λ (n : LaneView). n.triple) c.index_mut-lane.ensures.value) (omega arith) in
+    (c.reserve.ensures.triple ∙ ap (λ (n : LaneView). n.triple) c.index_mut-lane.ensures.value) (omega arith) in
     omega arith
 
 pub returns-in-Some-clause-succeeds : goal.returns-in-Some-clause-succeeds
 returns-in-Some-clause-succeeds c = λ h.
     let t : Triple = (c.args.sid, c.args.from, c.args.to) in
     let e : room_on c.args.self.now t ≡ c.index_mut-lane.result.now.room =
-        ap (λ (v : QueuesView). room_on v t) (sym c.self.view_is)
-        ∙ room_found _ c.self.inside.lanes.items t c.in-Some.place c.index_mut-lane.result.now
-            (sym (c.in-Some.ensures.place ∙ ap (λ (ls : List LaneView). lane_from 0 ls t) c.as_slice.ensures.value)) c.index_mut-lane.ensures.value
+    ap (λ (v : QueuesView). room_on v t) (sym c.self.view_is)
+    ∙ room_found _ c.self.inside.lanes.items t c.in-Some.place c.index_mut-lane.result.now
+    (sym (c.in-Some.ensures.place ∙ ap (λ (ls : List LaneView). lane_from 0 ls t) c.as_slice.ensures.value)) c.index_mut-lane.ensures.value
     in
     c.reserve.ensures.succeeds (omega arith)
 
@@ -51,20 +48,20 @@ pub returns-in-None-clause-ok : goal.returns-in-None-clause-ok
 returns-in-None-clause-ok c =
     let t : Triple = (c.args.sid, c.args.from, c.args.to) in
     on_ok c.reserve_lane.result
-        (λ (h : 1 ≤ c.reserve_lane.new.self.fresh).
-            let e : room_on c.reserve_lane.new.self t ≡ c.reserve_lane.new.self.fresh =
-                room_none c.reserve_lane.new.self.fresh c.reserve_lane.new.self.lanes t (ap (λ (ls : List LaneView). lane_from 0 ls t) c.reserve_lane.ensures.lanes ∙ (sym (c.in-None.ensures.place ∙ ap (λ (ls : List LaneView). lane_from 0 ls t) c.as_slice.ensures.value ∙ ap (λ (v : QueuesView). lane_from 0 v.lanes t) c.self.view_is)))
-            in
-            omega arith)
-        c.reserve_lane.ensures.ok
+    (λ (h : 1 ≤ c.reserve_lane.new.self.fresh).
+    let e : room_on c.reserve_lane.new.self t ≡ c.reserve_lane.new.self.fresh =
+    room_none c.reserve_lane.new.self.fresh c.reserve_lane.new.self.lanes t (ap (λ (ls : List LaneView). lane_from 0 ls t) c.reserve_lane.ensures.lanes ∙ (sym (c.in-None.ensures.place ∙ ap (λ (ls : List LaneView). lane_from 0 ls t) c.as_slice.ensures.value ∙ ap (λ (v : QueuesView). lane_from 0 v.lanes t) c.self.view_is)))
+    in
+    omega arith)
+    c.reserve_lane.ensures.ok
 
 pub returns-in-None-clause-kept : goal.returns-in-None-clause-kept
 returns-in-None-clause-kept c = λ t.
     let e : room_on c.reserve_lane.new.self t ≡ room_among c.reserve_lane.new.self.fresh c.args.self.now.lanes t =
-        ap (λ (ls : List LaneView). room_among c.reserve_lane.new.self.fresh ls t) c.reserve_lane.ensures.lanes
+    ap (λ (ls : List LaneView). room_among c.reserve_lane.new.self.fresh ls t) c.reserve_lane.ensures.lanes
     in
     let h : room_on c.args.self.now t ≤ room_among c.reserve_lane.new.self.fresh c.args.self.now.lanes t =
-        room_more c.args.self.now.fresh c.reserve_lane.new.self.fresh c.args.self.now.lanes t c.reserve_lane.ensures.kept
+    room_more c.args.self.now.fresh c.reserve_lane.new.self.fresh c.args.self.now.lanes t c.reserve_lane.ensures.kept
     in
     omega arith
 
