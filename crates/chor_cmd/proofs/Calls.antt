@@ -1,21 +1,16 @@
 -- How a call ends, by what was fetched.
-use Rattle.std.proofs.Common.{◌≡◌, ◌<◌, ◌≤◌, ℕ, List, [], Option, Some, None, length, sym, ◌∙◌, subst}
-use Rattle.std.specs.Prelude.{codes}
+use Rattle.std.proofs.Common.{◌≡◌, ◌<◌, ℕ, List, [], Option, Some, None, length, sym, ◌∙◌, subst}
 use Rattle.std.specs.Option.{IfSome, IfNone}
 use Rattle.chor_io.specs.Outside.{FetchTells, FetchFrom}
 use Rattle.chor_io.specs.declared.outside.Fetched.TheVariants as fetched
-use Rattle.chor_cmd.specs.declared.words.Words.{Words}
-use Rattle.chor_cmd.specs.declared.status.Status.TheVariants.{Done, Unbuilt}
-use Rattle.chor_cmd.specs.Words.{IsRunForm}
-use Rattle.chor_cmd.specs.ThinFile.{IsNoSource}
-use Rattle.chor_cmd.specs.Endings.{Told, Tells, TellsOnly, source_limit, RunsThin, Ends, unbuilt, done}
+use Rattle.chor_cmd.specs.Endings.{Told, Tells, TellsOnly, source_limit}
 
 -- the bytes that were fetched are those that are told
-told_from : (o : Option (List ℕ)) (new told : List ℕ) (limit : ℕ) → o ≡ Some told → FetchFrom o limit [] new fetched.All → (told ≡ new) × (length new ≤ limit)
+told_from : (o : Option (List ℕ)) (new told : List ℕ) (limit : ℕ) → o ≡ Some told → FetchFrom o limit [] new fetched.All → told ≡ new
 told_from None new told limit e h = absurd cc
 told_from (Some bytes) new told limit e h =
     let same : bytes ≡ told = cc in
-    (sym same ∙ sym h.0, subst (λ (l : List ℕ). length l ≤ limit) (sym h.0) h.1)
+    sym same ∙ sym h.0
 
 pub told_all : (files : Told) (name new : List ℕ) → FetchTells files name 1048576 [] new fetched.All → TellsOnly files name new
 told_all None name new h told t = absurd t
@@ -28,14 +23,6 @@ long_from (Some bytes) new told limit e h = let same : bytes ≡ told = cc in su
 pub told_long : (files : Told) (name new : List ℕ) → FetchTells files name 1048576 [] new fetched.TooLong → (told : List ℕ) → Tells files name told → source_limit < length told
 told_long None name new h told t = absurd t
 told_long (Some files) name new h told t = long_from (files name) new told 1048576 t h
-
-pub done_ends : (words : Words) (files : Told) (before after : List ℕ → ℕ) (name bytes text : List ℕ) → IsRunForm words name → TellsOnly files name bytes → RunsThin bytes text → Ends words files before after Done text
-done_ends words files before after name bytes text form only runs =
-    done name text form (λ told t. let s = only told t in (subst (λ (l : List ℕ). length l ≤ source_limit) (sym s.0) s.1, subst (λ (l : List ℕ). RunsThin l text) (sym s.0) runs))
-
-pub unbuilt_ends : (words : Words) (files : Told) (before after : List ℕ → ℕ) (name bytes : List ℕ) → IsRunForm words name → TellsOnly files name bytes → IsNoSource bytes → Ends words files before after Unbuilt (codes "not built\n")
-unbuilt_ends words files before after name bytes form only none =
-    unbuilt name form (λ told t. let s = only told t in (subst (λ (l : List ℕ). length l ≤ source_limit) (sym s.0) s.1, subst IsNoSource (sym s.0) none))
 
 -- what is said of the value in an option that is this one, and of an option that is empty
 pub of_some : {A : Type 0} (o : Option A) (a : A) (P : A → Type 0) → o ≡ Some a → IfSome o P → P a

@@ -29,9 +29,9 @@ Tells (Some files) name bytes = files name ≡ Some bytes
 abbrev pub source_limit : ℕ
 source_limit = 1048576
 
--- the shelf tells no other bytes of this file than these, which keep to the limit
+-- where the shelf tells the bytes of this file, they are these
 abbrev pub TellsOnly : Told → List ℕ → List ℕ → Type 0
-TellsOnly files name bytes = (told : List ℕ) → Tells files name told → (told ≡ bytes) × (length bytes ≤ source_limit)
+TellsOnly files name bytes = (told : List ℕ) → Tells files name told → told ≡ bytes
 
 -- what the transcripts of a file are written with
 abbrev pub book_of : File → Book
@@ -74,9 +74,9 @@ pub data Ends (words : Words) (files : Told) (before after : List ℕ → ℕ) :
       → Ends words files before after ReadFault (line_naming (codes "read fault ") name)
   too_large : (name : List ℕ) → IsRunForm words name → ((bytes : List ℕ) → Tells files name bytes → source_limit < length bytes)
       → Ends words files before after TooLarge (line_naming (codes "too large ") name)
-  unbuilt : (name : List ℕ) → IsRunForm words name → ((bytes : List ℕ) → Tells files name bytes → (length bytes ≤ source_limit) × IsNoSource bytes)
+  unbuilt : (name bytes : List ℕ) → IsRunForm words name → TellsOnly files name bytes → length bytes ≤ source_limit → IsNoSource bytes
       → Ends words files before after Unbuilt (codes "not built\n")
-  done : (name text : List ℕ) → IsRunForm words name → ((bytes : List ℕ) → Tells files name bytes → (length bytes ≤ source_limit) × RunsThin bytes text)
+  done : (name bytes text : List ℕ) → IsRunForm words name → TellsOnly files name bytes → length bytes ≤ source_limit → RunsThin bytes text
       → Ends words files before after Done text
 
 -- where the bytes written are told, exactly this text was added
