@@ -5,8 +5,6 @@ mod file;
 mod protocol;
 #[cfg(test)]
 mod tests;
-#[cfg(test)]
-mod tests;
 mod tree;
 
 pub use file::{File, Named, Proc, ProcParam, Service, SessionParam};
