@@ -3,3 +3,4 @@ pub mod NameMap
 pub mod Expr
 pub mod Meaning
 pub mod Events
+pub mod Writing

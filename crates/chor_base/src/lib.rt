@@ -14,6 +14,7 @@ mod table;
 mod tests;
 mod texts;
 mod value;
+mod writing;
 
 pub use event::{Entry, Event, Why};
 pub use expr::{BinOp, Expr, UnOp, eval};
@@ -25,3 +26,4 @@ pub use names::{NameId, Names};
 pub use rule::{Denied, Place, Refusal, Rule};
 pub use texts::Texts;
 pub use value::{Load, Sort, Value};
+pub use writing::{put_bytes, put_int, put_literal, put_name, put_number, put_truth};

@@ -1,7 +1,8 @@
 //! Values of expressions worked out by hand, and that each call succeeds where there is memory.
 
 use crate::{
-    BinOp, Entry, Event, Expr, List, Memory, NameId, Names, Texts, UnOp, Value, Vars, eval,
+    BinOp, Entry, Event, Expr, List, Memory, NameId, Names, Rule, Texts, UnOp, Value, Vars, eval,
+    put_bytes, put_int, put_literal, put_name, put_number, put_truth,
 };
 use std::alloc::Global;
 use std::test::Fail;
@@ -187,5 +188,27 @@ fn events_are_copied(rt: HostRuntime) -> Result<(), Fail> {
 fn want_of_memory_has_a_text(rt: HostRuntime) -> Result<(), Fail> {
     let text = format!(in rt.alloc(); "{Memory}")?;
     assert_eq!(rt; text.as_str(), "out of memory");
+    Ok(())
+}
+
+#[test]
+fn pieces_of_text(rt: HostRuntime) -> Result<(), Fail> {
+    let alloc = rt.alloc();
+    let mut names = Names::new(alloc);
+    let seller = names.intern(b"Seller")?;
+    let mut texts = Texts::new(alloc);
+    let text = texts.intern(b"a \"b\" \\ c\nd")?;
+    let mut out = Vec::new(alloc);
+    put_name(&mut out, &names, seller)?;
+    put_name(&mut out, &names, NameId(7))?;
+    put_bytes(&mut out, b" ".as_slice())?;
+    put_number(&mut out, alloc, 18_446_744_073_709_551_615)?;
+    put_int(&mut out, alloc, LEAST)?;
+    put_literal(&mut out, alloc, &texts, text)?;
+    put_literal(&mut out, alloc, &texts, 7)?;
+    put_truth(&mut out, false)?;
+    put_bytes(&mut out, Rule::E4.name())?;
+    let want = b"Seller 18446744073709551615-9223372036854775808\"a \\\"b\\\" \\\\ c\\nd\"falseE4";
+    assert!(rt; out.as_slice() == want.as_slice());
     Ok(())
 }

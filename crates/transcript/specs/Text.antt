@@ -1,6 +1,7 @@
 -- The text of an event, and of a whole run (this project's own).
-use Rattle.std.specs.Prelude.{ℕ, suc, Bool, true, false, ◌==◌, List, [], ◌∷◌, ◌++◌, slice_index_or, Option, Some, None, slice_get, if◌then◌else◌, codes, ℤ}
+use Rattle.std.specs.Prelude.{ℕ, suc, List, [], ◌∷◌, ◌++◌, Option, Some, None, slice_get, codes, ℤ}
 use Rattle.std.specs.Fmt.{decimal, signed_decimal}
+use Rattle.chor_base.specs.Writing.{name_in, literal_in, truth_text}
 use Rattle.chor_base.specs.declared.names.NameId.{NameId}
 use Rattle.chor_base.specs.declared.value.Value.{Value}
 use Rattle.chor_base.specs.declared.value.Value.TheVariants.{Int, Bool as Truth, Text, Part as Endpoint}
@@ -17,7 +18,7 @@ pub record Words : Type 0 where
 
 -- a name or a text that isn't there adds no bytes
 abbrev pub name_text : Words → NameId → List ℕ
-name_text w x = slice_index_or w.names x.0 []
+name_text w x = name_in w.names x
 
 abbrev pub process_named : Words → ℕ → Option NameId → List ℕ
 process_named w p (Some x) = name_text w x
@@ -27,27 +28,11 @@ process_named w p None = 37 ∷ decimal p
 abbrev pub process_text : Words → ℕ → List ℕ
 process_text w p = process_named w p (slice_get w.processes p)
 
--- quotes, backslashes and line feeds have a backslash before them
-abbrev pub escaped_byte : ℕ → List ℕ
-escaped_byte b = if b == 34 then 92 ∷ 34 ∷ [] else (if b == 92 then 92 ∷ 92 ∷ [] else (if b == 10 then 92 ∷ 110 ∷ [] else b ∷ []))
-
-abbrev pub escaped : List ℕ → List ℕ
-escaped [] = []
-escaped (b ∷ bs) = escaped_byte b ++ escaped bs
-
-abbrev pub literal : Option (List ℕ) → List ℕ
-literal None = []
-literal (Some bytes) = (34 ∷ escaped bytes) ++ 34 ∷ []
-
-abbrev pub truth_text : Bool → List ℕ
-truth_text true = codes "true"
-truth_text false = codes "false"
-
 -- a number with its sign, `true` or `false`, a text literal, or an endpoint as `#1.R`
 abbrev pub value_text : Words → Value → List ℕ
 value_text w (Int z) = signed_decimal z
 value_text w (Truth b) = truth_text b
-value_text w (Text t) = literal (slice_get w.texts t)
+value_text w (Text t) = literal_in w.texts t
 value_text w (Endpoint s r) = 35 ∷ decimal s ++ 46 ∷ [] ++ name_text w r
 
 abbrev pub load_text : Words → Load → List ℕ

@@ -1,12 +1,16 @@
 //! One line of a transcript.
 
 ghost use Rattle.std.specs.Prelude.{◌≡◌, ◌++◌, ◌∷◌, [], OnOk, OnErr, slice_get, codes};
-ghost use Rattle.std.specs.Fmt.{decimal, signed_decimal};
-ghost use Rattle.transcript.specs.Text.{name_text, process_text, escaped_byte, escaped, literal, truth_text, value_text, load_text, parts_text, sending, receiving, message_text, spaced, numbers_text, said, event_text};
+ghost use Rattle.std.specs.Fmt.{decimal};
+ghost use Rattle.chor_base.specs.Writing.{truth_text};
+ghost use Rattle.transcript.specs.Text.{name_text, process_text, value_text, load_text, parts_text, sending, receiving, message_text, spaced, numbers_text, said, event_text};
 ghost use Rattle.transcript.specs.Books.{words};
 
 use crate::book::Book;
-use chor_base::{Event, Load, Memory, NameId, Value};
+use chor_base::{
+    Event, Load, Memory, NameId, Value, put_bytes, put_int, put_literal, put_name, put_number,
+    put_truth,
+};
 use std::alloc::Global;
 
 /// Appends the text of an event with its number, without a line's end. A process of the beginning
@@ -42,88 +46,15 @@ pub fn put_event(
     put_said(line, alloc, event, book)
 }
 
-fn put(line: &mut Vec<u8>, bytes: &[u8]) -> Result<(), Memory>
-    ensures { OnOk result (line.new.items ≡ line.old.items ++ bytes.now) }
-{
-    line.extend_from_slice(bytes)?;
-    Ok(())
-}
-
-fn put_number(line: &mut Vec<u8>, alloc: Global, number: u64) -> Result<(), Memory>
-    ensures { OnOk result (line.new.items ≡ line.old.items ++ decimal number) }
-{
-    let text = format!(in alloc; "{number}")?;
-    put(line, text.as_bytes())
-}
-
-fn put_int(line: &mut Vec<u8>, alloc: Global, number: i64) -> Result<(), Memory>
-    ensures { OnOk result (line.new.items ≡ line.old.items ++ signed_decimal number) }
-{
-    let text = format!(in alloc; "{number}")?;
-    put(line, text.as_bytes())
-}
-
-fn put_name(line: &mut Vec<u8>, book: &Book, name: NameId) -> Result<(), Memory>
-    ensures { OnOk result (line.new.items ≡ line.old.items ++ name_text (words book.now) name) }
-{
-    if (name.0 as usize) < book.names.len() {
-        put(line, book.names.at(name))
-    } else {
-        Ok(())
-    }
-}
-
 fn put_process(line: &mut Vec<u8>, alloc: Global, book: &Book, pid: u32) -> Result<(), Memory>
     ensures { OnOk result (line.new.items ≡ line.old.items ++ process_text (words book.now) pid) }
 {
     match book.processes.as_slice().get(pid as usize) {
-        Some(name) => put_name(line, book, *name),
+        Some(name) => put_name(line, book.names, *name),
         None => {
             line.push(b'%')?;
             put_number(line, alloc, u64::from(pid))
         }
-    }
-}
-
-fn put_byte(line: &mut Vec<u8>, byte: u8) -> Result<(), Memory>
-    ensures { OnOk result (line.new.items ≡ line.old.items ++ escaped_byte byte) }
-{
-    match byte {
-        b'"' => put(line, b"\\\"".as_slice()),
-        b'\\' => put(line, b"\\\\".as_slice()),
-        b'\n' => put(line, b"\\n".as_slice()),
-        _ => put(line, [byte].as_slice()),
-    }
-}
-
-fn put_escaped(line: &mut Vec<u8>, bytes: &[u8]) -> Result<(), Memory>
-    ensures { OnOk result (line.new.items ≡ line.old.items ++ escaped bytes.now) }
-{
-    for byte in bytes {
-        put_byte(line, *byte)?;
-    }
-    Ok(())
-}
-
-fn put_text(line: &mut Vec<u8>, book: &Book, text: u32) -> Result<(), Memory>
-    ensures { OnOk result (line.new.items ≡ line.old.items ++ literal (slice_get (words book.now).texts text)) }
-{
-    if (text as usize) < book.texts.len() {
-        put(line, b"\"".as_slice())?;
-        put_escaped(line, book.texts.at(text))?;
-        put(line, b"\"".as_slice())
-    } else {
-        Ok(())
-    }
-}
-
-fn put_truth(line: &mut Vec<u8>, truth: bool) -> Result<(), Memory>
-    ensures { OnOk result (line.new.items ≡ line.old.items ++ truth_text truth) }
-{
-    if truth {
-        put(line, b"true".as_slice())
-    } else {
-        put(line, b"false".as_slice())
     }
 }
 
@@ -133,12 +64,12 @@ fn put_value(line: &mut Vec<u8>, alloc: Global, book: &Book, value: Value) -> Re
     match value {
         Value::Int(number) => put_int(line, alloc, number),
         Value::Bool(truth) => put_truth(line, truth),
-        Value::Text(text) => put_text(line, book, text),
+        Value::Text(text) => put_literal(line, alloc, book.texts, text),
         Value::Part(sid, role) => {
-            put(line, b"#".as_slice())?;
+            put_bytes(line, b"#".as_slice())?;
             put_number(line, alloc, u64::from(sid))?;
-            put(line, b".".as_slice())?;
-            put_name(line, book, role)
+            put_bytes(line, b".".as_slice())?;
+            put_name(line, book.names, role)
         }
     }
 }
@@ -148,7 +79,7 @@ fn put_load(line: &mut Vec<u8>, alloc: Global, book: &Book, load: Load) -> Resul
 {
     match load {
         Load::Value(value) => put_value(line, alloc, book, value),
-        Load::Label(label) => put_name(line, book, label),
+        Load::Label(label) => put_name(line, book.names, label),
     }
 }
 
@@ -161,9 +92,9 @@ fn put_parts(
     ensures { OnOk result (line.new.items ≡ line.old.items ++ parts_text (words book.now) parts.now) }
 {
     for part in parts {
-        put(line, b" ".as_slice())?;
-        put_name(line, book, part.0)?;
-        put(line, b"=".as_slice())?;
+        put_bytes(line, b" ".as_slice())?;
+        put_name(line, book.names, part.0)?;
+        put_bytes(line, b"=".as_slice())?;
         put_process(line, alloc, book, part.1)?;
     }
     Ok(())
@@ -210,13 +141,13 @@ fn put_message(
     ensures { OnOk result (line.new.items ≡ line.old.items ++ message_text (words book.now) message.pid message.sid message.from message.to message.load) }
 {
     put_process(line, alloc, book, message.pid)?;
-    put(line, b" #".as_slice())?;
+    put_bytes(line, b" #".as_slice())?;
     put_number(line, alloc, u64::from(message.sid))?;
-    put(line, b" ".as_slice())?;
-    put_name(line, book, message.from)?;
-    put(line, b">".as_slice())?;
-    put_name(line, book, message.to)?;
-    put(line, b" ".as_slice())?;
+    put_bytes(line, b" ".as_slice())?;
+    put_name(line, book.names, message.from)?;
+    put_bytes(line, b">".as_slice())?;
+    put_name(line, book.names, message.to)?;
+    put_bytes(line, b" ".as_slice())?;
     put_load(line, alloc, book, message.load)
 }
 
@@ -230,9 +161,9 @@ fn put_start(
 ) -> Result<(), Memory>
     ensures { OnOk result (line.new.items ≡ line.old.items ++ (codes " start " ++ name_text (words book.now) channel ++ codes " #" ++ decimal sid ++ parts_text (words book.now) parts.now)) }
 {
-    put(line, b" start ".as_slice())?;
-    put_name(line, book, channel)?;
-    put(line, b" #".as_slice())?;
+    put_bytes(line, b" start ".as_slice())?;
+    put_name(line, book.names, channel)?;
+    put_bytes(line, b" #".as_slice())?;
     put_number(line, alloc, u64::from(sid))?;
     put_parts(line, alloc, book, parts)
 }
@@ -251,12 +182,12 @@ struct Asked {
 fn put_asked(line: &mut Vec<u8>, alloc: Global, book: &Book, asked: Asked) -> Result<(), Memory>
     ensures { OnOk result (line.new.items ≡ line.old.items ++ (codes " host " ++ process_text (words book.now) asked.pid ++ codes " " ++ name_text (words book.now) asked.var ++ codes " " ++ name_text (words book.now) asked.name ++ numbers_text asked.left asked.right asked.value)) }
 {
-    put(line, b" host ".as_slice())?;
+    put_bytes(line, b" host ".as_slice())?;
     put_process(line, alloc, book, asked.pid)?;
-    put(line, b" ".as_slice())?;
-    put_name(line, book, asked.var)?;
-    put(line, b" ".as_slice())?;
-    put_name(line, book, asked.name)?;
+    put_bytes(line, b" ".as_slice())?;
+    put_name(line, book.names, asked.var)?;
+    put_bytes(line, b" ".as_slice())?;
+    put_name(line, book.names, asked.name)?;
     put_numbers(line, alloc, asked)
 }
 
@@ -272,7 +203,7 @@ fn put_numbers(line: &mut Vec<u8>, alloc: Global, asked: Asked) -> Result<(), Me
 fn put_spaced(line: &mut Vec<u8>, alloc: Global, number: i64) -> Result<(), Memory>
     ensures { OnOk result (line.new.items ≡ line.old.items ++ spaced number) }
 {
-    put(line, b" ".as_slice())?;
+    put_bytes(line, b" ".as_slice())?;
     put_int(line, alloc, number)
 }
 
@@ -293,7 +224,7 @@ fn put_said(line: &mut Vec<u8>, alloc: Global, event: &Event, book: &Book) -> Re
             to,
             load,
         } => {
-            put(line, sending(*load))?;
+            put_bytes(line, sending(*load))?;
             put_message(
                 line,
                 alloc,
@@ -314,7 +245,7 @@ fn put_said(line: &mut Vec<u8>, alloc: Global, event: &Event, book: &Book) -> Re
             to,
             load,
         } => {
-            put(line, receiving(*load))?;
+            put_bytes(line, receiving(*load))?;
             put_message(
                 line,
                 alloc,
@@ -329,23 +260,23 @@ fn put_said(line: &mut Vec<u8>, alloc: Global, event: &Event, book: &Book) -> Re
             )
         }
         Event::Test { pid, answer } => {
-            put(line, b" test ".as_slice())?;
+            put_bytes(line, b" test ".as_slice())?;
             put_process(line, alloc, book, *pid)?;
-            put(line, b" ".as_slice())?;
+            put_bytes(line, b" ".as_slice())?;
             put_truth(line, *answer)
         }
         Event::Set { pid, var, value } => {
-            put(line, b" set ".as_slice())?;
+            put_bytes(line, b" set ".as_slice())?;
             put_process(line, alloc, book, *pid)?;
-            put(line, b" ".as_slice())?;
-            put_name(line, book, *var)?;
-            put(line, b" ".as_slice())?;
+            put_bytes(line, b" ".as_slice())?;
+            put_name(line, book.names, *var)?;
+            put_bytes(line, b" ".as_slice())?;
             put_value(line, alloc, book, *value)
         }
         Event::Show { pid, value } => {
-            put(line, b" show ".as_slice())?;
+            put_bytes(line, b" show ".as_slice())?;
             put_process(line, alloc, book, *pid)?;
-            put(line, b" ".as_slice())?;
+            put_bytes(line, b" ".as_slice())?;
             put_value(line, alloc, book, *value)
         }
         Event::Host {

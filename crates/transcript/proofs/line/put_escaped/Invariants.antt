@@ -1,6 +1,0 @@
-use Rattle.std.proofs.Common.{◌≡◌, ◌++◌, drop}
-use Rattle.transcript.specs.Text.{escaped}
-use Rattle.transcript.proofs.line.put_escaped.Given as goal
-
-abbrev pub invariant-loop-byte : goal.invariant-loop-byte
-invariant-loop-byte l = l.line.items ++ escaped (drop l.byte-index l.bytes) ≡ l.fn.line.items ++ escaped l.bytes
