@@ -5,3 +5,4 @@ pub mod Cut
 pub mod Tokens
 pub mod Refusal
 pub mod Scan
+pub mod Canonical
