@@ -1,20 +1,25 @@
 -- How a call of the program may end, and with which text (this project's own).
 use Rattle.std.specs.Prelude.{ℕ, suc, ◌≡◌, ◌<◌, ◌≤◌, ◌*◌, List, [], ◌∷◌, ◌++◌, length, map, Option, Some, None, codes}
 use Rattle.std.specs.Fmt.{decimal}
+use Rattle.chor_base.specs.declared.rule.Place.{Place}
+use Rattle.chor_base.specs.declared.rule.Rule.{Rule}
+use Rattle.chor_base.specs.Writing.{rule_name}
 use Rattle.chor_base.specs.declared.event.Event.{Event}
 use Rattle.chor_base.specs.declared.event.Entry.{Entry}
 use Rattle.chor_base.specs.Events.{IsFifo}
 use Rattle.chor_tree.specs.declared.file.File.{File}
 use Rattle.chor_semantics.specs.Runs.{IsEndedRun}
+use Rattle.chor_lexer.specs.Refusal.{Refuses}
 use Rattle.chor_io.specs.Outside.{Risen, GrowsByFront}
 use Rattle.transcript.specs.Text.{Words as Book, transcript}
 use Rattle.chor_cmd.specs.declared.words.Words.{Words}
 use Rattle.chor_cmd.specs.declared.status.Status.{Status}
-use Rattle.chor_cmd.specs.declared.status.Status.TheVariants.{Done, Usage, ReadFault, WriteFault, Memory, TooLarge, Unbuilt}
+use Rattle.chor_cmd.specs.declared.status.Status.TheVariants.{Done, Refused, Usage, ReadFault, WriteFault, Memory, TooLarge, Unbuilt}
 use Rattle.chor_cmd.specs.Words.{IsRunForm, HasNoForm}
 use Rattle.chor_base.specs.declared.names.NameId.{NameId}
 use Rattle.chor_cmd.specs.Thin.{Thin}
 use Rattle.chor_cmd.specs.ThinFile.{plain, IsSourceOf, IsNoSource}
+use Rattle.chor_cmd.specs.Source.{HasTokens}
 
 -- the files by name, where they are told
 abbrev pub Told : Type 0
@@ -66,6 +71,10 @@ pub record RunsThin (bytes text : List ℕ) : Type 0 where
 abbrev pub line_naming : List ℕ → List ℕ → List ℕ
 line_naming what name = what ++ name ++ 10 ∷ []
 
+-- `refused`, the rule, and its place as line and column
+abbrev pub refused_line : Rule → Place → List ℕ
+refused_line rule place = codes "refused " ++ rule_name rule ++ codes " " ++ decimal place.line ++ codes ":" ++ decimal place.col ++ 10 ∷ []
+
 -- The statuses with which a call may end that could write its text, each with its cause and that text. The counts are
 -- those of the failed fetches of each name, before and after
 pub data Ends (words : Words) (files : Told) (before after : List ℕ → ℕ) : Status → List ℕ → Type 0 where
@@ -74,7 +83,9 @@ pub data Ends (words : Words) (files : Told) (before after : List ℕ → ℕ) :
       → Ends words files before after ReadFault (line_naming (codes "read fault ") name)
   too_large : (name : List ℕ) → IsRunForm words name → ((bytes : List ℕ) → Tells files name bytes → source_limit < length bytes)
       → Ends words files before after TooLarge (line_naming (codes "too large ") name)
-  unbuilt : (name bytes : List ℕ) → IsRunForm words name → TellsOnly files name bytes → length bytes ≤ source_limit → IsNoSource bytes
+  refused : (name bytes : List ℕ) (rule : Rule) (place : Place) → IsRunForm words name → TellsOnly files name bytes → length bytes ≤ source_limit → Refuses bytes rule place
+      → Ends words files before after Refused (refused_line rule place)
+  unbuilt : (name bytes : List ℕ) → IsRunForm words name → TellsOnly files name bytes → length bytes ≤ source_limit → HasTokens bytes → IsNoSource bytes
       → Ends words files before after Unbuilt (codes "not built\n")
   done : (name bytes text : List ℕ) → IsRunForm words name → TellsOnly files name bytes → length bytes ≤ source_limit → RunsThin bytes text
       → Ends words files before after Done text

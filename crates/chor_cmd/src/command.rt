@@ -3,10 +3,13 @@
 ghost use Rattle.std.specs.Prelude.{◌≡◌, ◌≢◌, ◌≤◌, ◌^◌, ℕ, List, length};
 ghost use Rattle.chor_cmd.specs.declared.words.Words.{Words as CommandWords};
 ghost use Rattle.chor_cmd.specs.Words.{IsRunForm};
-ghost use Rattle.chor_cmd.specs.Endings.{HasEnded, Told, TellsOnly};
+ghost use Rattle.chor_cmd.specs.Shapes.{thin_of};
+ghost use Rattle.chor_cmd.specs.ThinFile.{IsSourceOf, IsRunnable};
+ghost use Rattle.chor_cmd.specs.Endings.{HasEnded, Told, TellsOnly, source_limit};
 
-use crate::output::{finish, finish_naming};
-use crate::run::run_text;
+use crate::output::{finish, finish_naming, finish_refusing};
+use crate::run::transcript_of;
+use crate::source::{Source, ThinSource, read};
 use crate::status::Status;
 use crate::words::{Words, run_file};
 use chor_base::{Memory, Word};
@@ -21,7 +24,8 @@ const SOURCE_LIMIT: u64 = 1 << 20;
 ///
 /// `run FILE` writes the transcript of a run of the file's choreography. So far it handles thin
 /// files: one protocol, one channel and two processes that exchange 1 to 255 numbers in one
-/// session. For any other file it writes `not built`.
+/// session. For any other file that is made of tokens it writes `not built`, and for a file that
+/// isn't, `refused` with the rule that it violates and the place.
 ///
 /// The gate is for runs with workers, which aren't there yet.
 pub fn chor<F: Shelf, K: Sink, G: Gate + Sync>(
@@ -75,9 +79,21 @@ fn run_bytes<K: Sink>(alloc: Global, bytes: &[u8], out: &mut K) -> Status
     requires { length bytes.now ≤ 2 ^ 20 }
     ensures { (words : CommandWords) (files : Told) (before after : List ℕ → ℕ) (name : List ℕ) → IsRunForm words name → TellsOnly files name bytes.now → HasEnded words files before after (K.faults out.old) (K.faults out.new) (K.written out.old) (K.written out.new) result }
 {
-    match run_text(alloc, bytes) {
-        Ok(Some(text)) => finish(out, text.as_slice(), Status::Done),
-        Ok(None) => finish(out, b"not built\n".as_slice(), Status::Unbuilt),
+    match read(alloc, bytes) {
+        Ok(Source::Thin(source)) => run_source(alloc, &source, out),
+        Ok(Source::Other) => finish(out, b"not built\n".as_slice(), Status::Unbuilt),
+        Ok(Source::Refused(refusal)) => finish_refusing(alloc, out, &refusal),
+        Err(Memory) => Status::Memory,
+    }
+}
+
+// Runs a thin source.
+fn run_source<K: Sink>(alloc: Global, source: &ThinSource, out: &mut K) -> Status
+    requires { IsRunnable source.now.file (thin_of source.now.shape) }
+    ensures { (words : CommandWords) (files : Told) (before after : List ℕ → ℕ) (name bytes : List ℕ) → IsRunForm words name → TellsOnly files name bytes → length bytes ≤ source_limit → IsSourceOf bytes source.now.file (thin_of source.now.shape) → HasEnded words files before after (K.faults out.old) (K.faults out.new) (K.written out.old) (K.written out.new) result }
+{
+    match transcript_of(alloc, source) {
+        Ok(text) => finish(out, text.as_slice(), Status::Done),
         Err(Memory) => Status::Memory,
     }
 }

@@ -41,6 +41,17 @@ fn runs(alloc: Global, file: &[u8], text: &[u8]) -> Result<bool, Fail> {
     answers(alloc, &words, file, 20_000, Status::Done, text)
 }
 
+// Whether running a file writes this line and ends with this status.
+fn ends(alloc: Global, file: &[u8], status: Status, line: &[u8]) -> Result<bool, Fail> {
+    let words = words(alloc, b"run", b"a")?;
+    answers(alloc, &words, file, 100, status, line)
+}
+
+// Whether a file is refused with this line.
+fn refuses(alloc: Global, file: &[u8], line: &[u8]) -> Result<bool, Fail> {
+    ends(alloc, file, Status::Refused, line)
+}
+
 fn hello(alloc: Global) -> Result<Vec<u8>, Fail> {
     let bytes =
         b"protocol P (A, B) { s = A -> B : int then t; t = end; } service a : P (A, B); main (p, q) { start a(k): p[A], q[B]; p[A].3 -> q[B].x : k; end }".to_vec(
@@ -190,6 +201,33 @@ fn other_files_and_words_are_refused(rt: HostRuntime) -> Result<(), Fail> {
         )?
     );
     assert!(rt; answers(alloc, &run, file, 5, Status::WriteFault, b"1 sta")?);
+    Ok(())
+}
+
+#[test]
+fn what_is_no_token_is_refused(rt: HostRuntime) -> Result<(), Fail> {
+    let alloc = rt.alloc();
+    let open = b"main (p) { p show \"ab";
+    let great = b"main (p) { p show 9223372036854775808; end }";
+    let long = b"main (aaaaaaaaaaaaaaaaaaaaaaaaaaaaaaaaaaaaaaaaaaaaaaaaaaaaaaaaaaaaaaaaa) { end }";
+    assert!(rt; refuses(alloc, b"main () { $ }", b"refused L1 1:11\n")?);
+    assert!(rt; refuses(alloc, b"main ()\n\n{ $ }", b"refused L1 3:3\n")?);
+    assert!(rt; refuses(alloc, open, b"refused L2 1:19\n")?);
+    assert!(rt; refuses(alloc, great, b"refused L3 1:19\n")?);
+    assert!(rt; refuses(alloc, b"m\xff", b"refused L4 1:2\n")?);
+    assert!(rt; refuses(alloc, long, b"refused L5 1:7\n")?);
+    Ok(())
+}
+
+#[test]
+fn what_is_tokens_is_not_refused(rt: HostRuntime) -> Result<(), Fail> {
+    let alloc = rt.alloc();
+    let mut noted = b"// \xc3\xa9\n".to_vec(alloc)?;
+    noted.extend_from_slice(hello(alloc)?.as_slice())?;
+    let line = b"not built\n";
+    assert!(rt; ends(alloc, b"", Status::Unbuilt, line)?);
+    assert!(rt; ends(alloc, b"} then 3 \"a\"", Status::Unbuilt, line)?);
+    assert!(rt; ends(alloc, noted.as_slice(), Status::Unbuilt, line)?);
     Ok(())
 }
 
