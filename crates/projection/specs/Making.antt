@@ -1,9 +1,10 @@
 -- How the code of a straight line is made.
-use Rattle.std.specs.Prelude.{ℕ, ◌+◌, ◌≡◌, ◌<◌, List, [], ◌++◌, length, map, All, Option, Some, None, slice_get, slice_index_or}
+use Rattle.std.specs.Prelude.{ℕ, ◌+◌, ◌≡◌, ◌<◌, Bool, true, false, List, [], ◌++◌, length, map, All, Option, Some, None, slice_get, slice_index_or}
 use Rattle.chor_base.specs.declared.names.NameId.{NameId}
 use Rattle.chor_tree.specs.declared.file.File.{File}
 use Rattle.chor_tree.specs.declared.file.Named.{Named as Written}
 use Rattle.chor_tree.specs.declared.tree.Form.{Form}
+use Rattle.chor_tree.specs.declared.tree.Form.TheVariants.{Value, Label, Give, Set, Host, Show}
 use Rattle.chor_tree.specs.declared.tree.Node.{Node as TreeNode}
 use Rattle.chor_tree.specs.declared.tree.NodeId.{NodeId}
 use Rattle.chor_semantics.specs.Choreography.{Node, Choreography, Then}
@@ -60,6 +61,20 @@ part_before r _ = Absent
 -- what the process does at a node of this form
 abbrev pub part_at : NameId → Form → Part
 part_at r form = part_before r (form_tree [] form)
+
+-- a value, a label or an endpoint is sent
+abbrev pub is_message : Form → Bool
+is_message (Value from e to x k next) = true
+is_message (Label from to k l next) = true
+is_message (Give from to k given next) = true
+is_message _ = false
+
+-- a statement of one process
+abbrev pub is_own : Form → Bool
+is_own (Set p x e next) = true
+is_own (Host p x f left right next) = true
+is_own (Show p e next) = true
+is_own _ = false
 
 -- nothing, or a node that does this
 abbrev pub DoesPart : CodeId → Part → Option CodeNode → Type 0

@@ -1,11 +1,11 @@
 //! What a process does at a node of a straight line.
 
-ghost use Rattle.std.specs.Prelude.{◌≡◌, IfOk};
+ghost use Rattle.std.specs.Prelude.{◌≡◌, true, IfOk};
 ghost use Rattle.chor_base.specs.Expr.{term_of};
 ghost use Rattle.chor_semantics.specs.Choreography.{Communicates, OfValue, OfLabel, OfPart, Named as Unbound};
 ghost use Rattle.chor_semantics.specs.Sources.{name_ref, parts_of};
 ghost use Rattle.projection.specs.Codes.{part_in, role_in};
-ghost use Rattle.projection.specs.Making.{part_at, DoesPart};
+ghost use Rattle.projection.specs.Making.{is_message, is_own, part_at, DoesPart};
 
 use chor_base::{Expr, List, Memory, NameId};
 use chor_tree::{Form, Part};
@@ -18,6 +18,14 @@ struct Link {
     session: NameId,
     from: Part,
     to: Part,
+}
+
+impl Link {
+    fn new(session: NameId, from: Part, to: Part) -> Self
+        ensures { result ≡ record { session = session; from = from; to = to } }
+    {
+        Link { session, from, to }
+    }
 }
 
 /// The node by which a process does its part at a node of this form, and goes on at `next`; none
@@ -40,6 +48,28 @@ pub fn part(
             Some(role) => Ok(Some(CodeNode::Join(channel.name, role, session.name, next))),
             None => Ok(None),
         },
+        Form::Value { .. } => message_part(alloc, form, process, next),
+        Form::Label { .. } => message_part(alloc, form, process, next),
+        Form::Give { .. } => message_part(alloc, form, process, next),
+        Form::Set { .. } => own_part(alloc, form, process, next),
+        Form::Host { .. } => own_part(alloc, form, process, next),
+        Form::Show { .. } => own_part(alloc, form, process, next),
+        Form::If { .. } => Ok(None),
+        Form::Call { .. } => Ok(None),
+        Form::End => Ok(None),
+    }
+}
+
+// Its part in a message, which only its sender and its receiver have.
+fn message_part(
+    alloc: Global,
+    form: &Form,
+    process: NameId,
+    next: CodeId,
+) -> Result<Option<CodeNode>, Memory>
+    ensures { is_message form.now ≡ true → IfOk result (DoesPart next (part_at process form.now)) }
+{
+    match form {
         Form::Value {
             from,
             expr,
@@ -48,11 +78,7 @@ pub fn part(
             session,
             ..
         } => {
-            let link = Link {
-                session: session.name,
-                from: *from,
-                to: *to,
-            };
+            let link = Link::new(session.name, *from, *to);
             value(alloc, link, expr, *var, process, next)
         }
         Form::Label {
@@ -62,11 +88,7 @@ pub fn part(
             label,
             ..
         } => {
-            let link = Link {
-                session: session.name,
-                from: *from,
-                to: *to,
-            };
+            let link = Link::new(session.name, *from, *to);
             choice(alloc, link, *label, process, next)
         }
         Form::Give {
@@ -76,24 +98,33 @@ pub fn part(
             given,
             ..
         } => {
-            let link = Link {
-                session: session.name,
-                from: *from,
-                to: *to,
-            };
+            let link = Link::new(session.name, *from, *to);
             Ok(delegation(link, *given, process, next))
         }
+        _ => Ok(None),
+    }
+}
+
+// Its part in a statement, which only the process of the statement has.
+fn own_part(
+    alloc: Global,
+    form: &Form,
+    process: NameId,
+    next: CodeId,
+) -> Result<Option<CodeNode>, Memory>
+    ensures { is_own form.now ≡ true → IfOk result (DoesPart next (part_at process form.now)) }
+{
+    match form {
         Form::Set {
             process: owner,
             var,
             expr,
             ..
         } => {
-            if process == owner.name {
-                Ok(Some(CodeNode::Set(*var, expr.copy(alloc)?, next)))
-            } else {
-                Ok(None)
+            if process != owner.name {
+                return Ok(None);
             }
+            Ok(Some(CodeNode::Set(*var, expr.copy(alloc)?, next)))
         }
         Form::Host {
             process: owner,
@@ -103,27 +134,23 @@ pub fn part(
             right,
             ..
         } => {
-            if process == owner.name {
-                let left = left.copy(alloc)?;
-                Ok(Some(CodeNode::Host(*var, name.name, left, right.copy(alloc)?, next)))
-            } else {
-                Ok(None)
+            if process != owner.name {
+                return Ok(None);
             }
+            let left = left.copy(alloc)?;
+            Ok(Some(CodeNode::Host(*var, name.name, left, right.copy(alloc)?, next)))
         }
         Form::Show {
             process: owner,
             expr,
             ..
         } => {
-            if process == owner.name {
-                Ok(Some(CodeNode::Show(expr.copy(alloc)?, next)))
-            } else {
-                Ok(None)
+            if process != owner.name {
+                return Ok(None);
             }
+            Ok(Some(CodeNode::Show(expr.copy(alloc)?, next)))
         }
-        Form::If { .. } => Ok(None),
-        Form::Call { .. } => Ok(None),
-        Form::End => Ok(None),
+        _ => Ok(None),
     }
 }
 
