@@ -4,7 +4,7 @@ use Rattle.chor_io.specs.Outside.{PutTells, Risen}
 use Rattle.chor_io.specs.declared.outside.Put.TheVariants as put
 use Rattle.chor_cmd.specs.declared.words.Words.{Words}
 use Rattle.chor_cmd.specs.declared.status.Status.{Status}
-use Rattle.chor_cmd.specs.declared.status.Status.TheVariants.{Done, Usage, ReadFault, WriteFault, Memory, TooLarge, Unbuilt}
+use Rattle.chor_cmd.specs.declared.status.Status.TheVariants.{Done, Refused, Usage, ReadFault, WriteFault, Memory, TooLarge, Unbuilt}
 use Rattle.chor_cmd.specs.Endings.{Told, Ends, Wrote, WroteFront, HasEnded}
 
 wrote : (old new : Option (List ℕ)) (text : List ℕ) → PutTells old new text put.All → Wrote old new text
@@ -18,6 +18,7 @@ wrote_front (Some old) new text h = subst (λ (n : Option (List ℕ)). WroteFron
 -- the whole text was written
 pub wrote_all : (words : Words) (files : Told) (before after : List ℕ → ℕ) (f f' : ℕ) (old new : Option (List ℕ)) (status : Status) (text : List ℕ) → Ends words files before after status text → PutTells old new text put.All → HasEnded words files before after f f' old new status
 wrote_all words files before after f f' old new Done text e h = (text, e, wrote old new text h)
+wrote_all words files before after f f' old new Refused text e h = (text, e, wrote old new text h)
 wrote_all words files before after f f' old new Usage text e h = (text, e, wrote old new text h)
 wrote_all words files before after f f' old new ReadFault text e h = (text, e, wrote old new text h)
 wrote_all words files before after f f' old new TooLarge text e h = (text, e, wrote old new text h)

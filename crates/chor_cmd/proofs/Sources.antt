@@ -2,16 +2,14 @@
 use Rattle.std.proofs.Common.{◌≡◌, ◌<◌, ℕ, Bool, false, List, sym, subst}
 use Rattle.std.specs.Prelude.{All, IsTrue, ◌↔◌}
 use Rattle.chor_base.specs.declared.names.NameId.{NameId}
-use Rattle.chor_base.specs.declared.rule.Rule.{Rule}
-use Rattle.chor_base.specs.declared.rule.Place.{Place}
 use Rattle.chor_tree.specs.declared.file.File.{File}
 use Rattle.chor_lexer.specs.declared.token.Token.{Token}
-use Rattle.chor_lexer.specs.Tokens.{AreSpelled}
-use Rattle.chor_lexer.specs.Refusal.{Refuses}
-use Rattle.chor_lexer.proofs.Cuts.{not_both, one_reading}
+use Rattle.chor_lexer.specs.Tokens.{AreSpelled, AreTokensOf}
+use Rattle.chor_lexer.proofs.Cuts.{one_reading}
 use Rattle.chor_cmd.specs.Thin.{Thin}
 use Rattle.chor_cmd.specs.Pieces.{in_words, AreThin}
 use Rattle.chor_cmd.specs.Reading.{IsRead, IsNoThin, IsFine}
+use Rattle.chor_cmd.specs.Source.{HasTokens}
 use Rattle.chor_cmd.specs.ThinFile.{HasShape, IsNoSource, AreNoSource, AreSourceOf, IsRunnable}
 
 pub no_ascii : (bytes : List ℕ) (b : Bool) → (IsTrue b ↔ All (λ c. c < 128) bytes) → b ≡ false → IsNoSource bytes
@@ -20,8 +18,8 @@ no_ascii bytes b h e = record { never = λ f s. let yes : IsTrue b = h.1 s.1.asc
     clash : IsTrue false → ⊥
     clash i = cc
 
-pub no_tokens : (bytes : List ℕ) (rule : Rule) (place : Place) → Refuses bytes rule place → IsNoSource bytes
-no_tokens bytes rule place r = record { never = λ f s. not_both bytes s.1.lexemes rule place s.1.tokens r }
+pub are_tokens : (bytes : List ℕ) (names texts names' texts' : List (List ℕ)) (ts : List Token) → AreTokensOf bytes names texts names' texts' ts → HasTokens bytes
+are_tokens bytes names texts names' texts' ts a = (a.lexemes, a.tokens)
 
 pub unread : (names texts : List (List ℕ)) (ts : List Token) → IsNoThin names ts → AreNoSource names texts ts
 unread names texts ts n = record {

@@ -23,8 +23,8 @@ use Rattle.endpoint_code.proofs.Chosen.{scheduled_leads}
 use Rattle.transcript.specs.Text.{transcript}
 use Rattle.chor_cmd.specs.Thin.{Thin, thin_tree}
 use Rattle.chor_cmd.specs.ThinCode.{AreEndpointsOf}
-use Rattle.chor_cmd.specs.ThinFile.{plain, IsSourceOf, IsRunnable}
-use Rattle.chor_cmd.specs.Endings.{book_of, events_of, end_line, RunsShape, RunsThin}
+use Rattle.chor_cmd.specs.ThinFile.{plain, IsRunnable}
+use Rattle.chor_cmd.specs.Endings.{book_of, events_of, end_line, RunsShape}
 use Rattle.chor_cmd.proofs.ThinRuns.{Runs}
 use Rattle.chor_cmd.proofs.ThinBegins.{whole, distinct}
 
@@ -137,7 +137,3 @@ module _ (f : File) (t : Thin NameId) (r : IsRunnable f t) (e : Endpoints) (are 
       let count : length new.history ≡ length run.events = sym (length-events new.history) ∙ ap length events in
       runs_shape f t r e are run.events new.state Ended text (scheduled_from old e b run.events new.state Ended run.run)
       (h ∙ (λ i. transcript (book_of f) (events i) (end_line (count i))))
-
--- a source that is run
-pub runs_thin : (bytes text : List ℕ) (f : File) (t : Thin NameId) → IsSourceOf bytes f t → RunsShape f t text → RunsThin bytes text
-runs_thin bytes text f t s r = record { file = f; thin = t; source = s; runs = r }

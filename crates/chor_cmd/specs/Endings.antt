@@ -1,20 +1,30 @@
 -- How a call of the program may end, and with which text (this project's own).
 use Rattle.std.specs.Prelude.{ℕ, suc, ◌≡◌, ◌<◌, ◌≤◌, ◌*◌, List, [], ◌∷◌, ◌++◌, length, map, Option, Some, None, codes}
 use Rattle.std.specs.Fmt.{decimal}
+use Rattle.chor_base.specs.declared.rule.Place.{Place}
+use Rattle.chor_base.specs.declared.rule.Rule.{Rule}
+use Rattle.chor_base.specs.Writing.{rule_name}
 use Rattle.chor_base.specs.declared.event.Event.{Event}
 use Rattle.chor_base.specs.declared.event.Entry.{Entry}
 use Rattle.chor_base.specs.Events.{IsFifo}
 use Rattle.chor_tree.specs.declared.file.File.{File}
 use Rattle.chor_semantics.specs.Runs.{IsEndedRun}
+use Rattle.chor_lexer.specs.Refusal.{Refuses}
+use Rattle.endpoint_code.specs.declared.endpoints.Endpoints.{Endpoints}
+use Rattle.projection.specs.Projects.{Projects}
+use Rattle.endpoint_text.specs.Text.{endpoints_text}
 use Rattle.chor_io.specs.Outside.{Risen, GrowsByFront}
 use Rattle.transcript.specs.Text.{Words as Book, transcript}
 use Rattle.chor_cmd.specs.declared.words.Words.{Words}
 use Rattle.chor_cmd.specs.declared.status.Status.{Status}
-use Rattle.chor_cmd.specs.declared.status.Status.TheVariants.{Done, Usage, ReadFault, WriteFault, Memory, TooLarge, Unbuilt}
-use Rattle.chor_cmd.specs.Words.{IsRunForm, HasNoForm}
+use Rattle.chor_cmd.specs.declared.status.Status.TheVariants.{Done, Refused, Usage, ReadFault, WriteFault, Memory, TooLarge, Unbuilt}
+use Rattle.chor_cmd.specs.declared.words.Command.{Command}
+use Rattle.chor_cmd.specs.declared.words.Command.TheVariants.{Run, Project}
+use Rattle.chor_cmd.specs.Words.{IsForm, NamesFile, HasNoForm}
 use Rattle.chor_base.specs.declared.names.NameId.{NameId}
 use Rattle.chor_cmd.specs.Thin.{Thin}
 use Rattle.chor_cmd.specs.ThinFile.{plain, IsSourceOf, IsNoSource}
+use Rattle.chor_cmd.specs.Source.{HasTokens}
 
 -- the files by name, where they are told
 abbrev pub Told : Type 0
@@ -56,27 +66,44 @@ pub record RunsShape (f : File) (t : Thin NameId) (text : List ℕ) : Type 0 whe
   pub run : IsRunText f text
   pub count : length run.history ≡ suc (2 * length t.exchanges)
 
--- a thin file with these bytes has such a run
-pub record RunsThin (bytes text : List ℕ) : Type 0 where
+-- the text is that of endpoint programs that are the projection of this file
+pub record IsProjectionText (f : File) (text : List ℕ) : Type 0 where
+  pub endpoints : Endpoints
+  pub projects : Projects f endpoints
+  pub text_is : text ≡ endpoints_text endpoints
+
+-- what a command writes for a file that says what t says
+abbrev pub IsOutput : Command → File → Thin NameId → List ℕ → Type 0
+IsOutput (Run word) f t text = RunsShape f t text
+IsOutput (Project word) f t text = IsProjectionText f text
+
+-- what a command writes for a thin file with these bytes
+pub record Answers (command : Command) (bytes text : List ℕ) : Type 0 where
   pub file : File
   pub thin : Thin NameId
   pub source : IsSourceOf bytes file thin
-  pub runs : RunsShape file thin text
+  pub output : IsOutput command file thin text
 
 abbrev pub line_naming : List ℕ → List ℕ → List ℕ
 line_naming what name = what ++ name ++ 10 ∷ []
+
+-- `refused`, the rule, and its place as line and column
+abbrev pub refused_line : Rule → Place → List ℕ
+refused_line rule place = codes "refused " ++ rule_name rule ++ codes " " ++ decimal place.line ++ codes ":" ++ decimal place.col ++ 10 ∷ []
 
 -- The statuses with which a call may end that could write its text, each with its cause and that text. The counts are
 -- those of the failed fetches of each name, before and after
 pub data Ends (words : Words) (files : Told) (before after : List ℕ → ℕ) : Status → List ℕ → Type 0 where
   usage : HasNoForm words → Ends words files before after Usage (codes "usage: chor COMMAND ARGUMENTS\n")
-  read_fault : (name : List ℕ) → IsRunForm words name → Risen (before name) (after name)
+  read_fault : (name : List ℕ) → NamesFile words name → Risen (before name) (after name)
       → Ends words files before after ReadFault (line_naming (codes "read fault ") name)
-  too_large : (name : List ℕ) → IsRunForm words name → ((bytes : List ℕ) → Tells files name bytes → source_limit < length bytes)
+  too_large : (name : List ℕ) → NamesFile words name → ((bytes : List ℕ) → Tells files name bytes → source_limit < length bytes)
       → Ends words files before after TooLarge (line_naming (codes "too large ") name)
-  unbuilt : (name bytes : List ℕ) → IsRunForm words name → TellsOnly files name bytes → length bytes ≤ source_limit → IsNoSource bytes
+  refused : (name bytes : List ℕ) (rule : Rule) (place : Place) → NamesFile words name → TellsOnly files name bytes → length bytes ≤ source_limit → Refuses bytes rule place
+      → Ends words files before after Refused (refused_line rule place)
+  unbuilt : (name bytes : List ℕ) → NamesFile words name → TellsOnly files name bytes → length bytes ≤ source_limit → HasTokens bytes → IsNoSource bytes
       → Ends words files before after Unbuilt (codes "not built\n")
-  done : (name bytes text : List ℕ) → IsRunForm words name → TellsOnly files name bytes → length bytes ≤ source_limit → RunsThin bytes text
+  done : (command : Command) (name bytes text : List ℕ) → IsForm words command name → TellsOnly files name bytes → length bytes ≤ source_limit → Answers command bytes text
       → Ends words files before after Done text
 
 -- where the bytes written are told, exactly this text was added
@@ -94,5 +121,5 @@ WroteFront (Some old) (Some new) text = GrowsByFront old new text
 abbrev pub HasEnded : Words → Told → (List ℕ → ℕ) → (List ℕ → ℕ) → ℕ → ℕ → Option (List ℕ) → Option (List ℕ) → Status → Type 0
 HasEnded words files before after faults faults' old new WriteFault =
     Risen faults faults' × ((status : Status) × (text : List ℕ) × Ends words files before after status text × WroteFront old new text)
-HasEnded words files before after faults faults' old new Memory = ((name : List ℕ) × IsRunForm words name) × (new ≡ old)
+HasEnded words files before after faults faults' old new Memory = ((name : List ℕ) × NamesFile words name) × (new ≡ old)
 HasEnded words files before after faults faults' old new status = (text : List ℕ) × Ends words files before after status text × Wrote old new text

@@ -1,10 +1,11 @@
 -- The numbers with which the process ends.
 use Rattle.std.specs.Prelude.{ℕ}
 use Rattle.chor_cmd.specs.declared.status.Status.{Status}
-use Rattle.chor_cmd.specs.declared.status.Status.TheVariants.{Done, Usage, ReadFault, WriteFault, Memory, TooLarge, Unbuilt}
+use Rattle.chor_cmd.specs.declared.status.Status.TheVariants.{Done, Refused, Usage, ReadFault, WriteFault, Memory, TooLarge, Unbuilt}
 
 abbrev pub number_of : Status → ℕ
 number_of Done = 0
+number_of Refused = 1
 number_of Usage = 2
 number_of ReadFault = 3
 number_of WriteFault = 4

@@ -2,6 +2,8 @@
 use Rattle.std.specs.Prelude.{ℕ, ◌≡◌, ◌≢◌, List, [], ◌∷◌, codes}
 use Rattle.std.specs.Str.{IsUtf8}
 use Rattle.chor_cmd.specs.declared.words.Words.{Words}
+use Rattle.chor_cmd.specs.declared.words.Command.{Command}
+use Rattle.chor_cmd.specs.declared.words.Command.TheVariants.{Run, Project}
 
 -- the word doesn't begin as an option does
 abbrev pub BeginsPlain : List ℕ → Type 0
@@ -13,14 +15,36 @@ pub record IsFileWord (w : List ℕ) : Type 0 where
   pub plain : BeginsPlain w
   pub utf8 : IsUtf8 w
 
--- the words are `run` and this file word
-abbrev pub AreRun : List (List ℕ) → List ℕ → Type 0
-AreRun (command ∷ file ∷ []) name = (command ≡ codes "run") × (file ≡ name) × IsFileWord name
-AreRun _ name = ⊥
+-- the word of a command
+abbrev pub command_word : Command → List ℕ
+command_word (Run file) = codes "run"
+command_word (Project file) = codes "project"
 
-abbrev pub IsRunForm : Words → List ℕ → Type 0
-IsRunForm words name = AreRun words.items name
+-- the index of a command's file word
+abbrev pub file_index : Command → ℕ
+file_index (Run file) = file
+file_index (Project file) = file
+
+-- the word is that of this command, whose file is the word after it
+abbrev pub IsCommand : List ℕ → Command → Type 0
+IsCommand word command = (word ≡ command_word command) × (file_index command ≡ 1)
+
+-- the word is that of no command
+abbrev pub IsNoCommand : List ℕ → Type 0
+IsNoCommand word = (command : Command) → IsCommand word command → ⊥
+
+-- the words are this command's word and then this file word
+abbrev pub AreForm : List (List ℕ) → Command → List ℕ → Type 0
+AreForm (word ∷ file ∷ []) command name = IsCommand word command × (file ≡ name) × IsFileWord name
+AreForm _ command name = ⊥
+
+abbrev pub IsForm : Words → Command → List ℕ → Type 0
+IsForm words command name = AreForm words.items command name
+
+-- the words are of a form with this file word
+abbrev pub NamesFile : Words → List ℕ → Type 0
+NamesFile words name = (command : Command) × IsForm words command name
 
 -- the words are of no form
 abbrev pub HasNoForm : Words → Type 0
-HasNoForm words = (name : List ℕ) → IsRunForm words name → ⊥
+HasNoForm words = (name : List ℕ) → NamesFile words name → ⊥

@@ -2,6 +2,7 @@
 #![tactic(auto)]
 
 mod command;
+mod endpoints;
 mod output;
 mod piece;
 mod reader;

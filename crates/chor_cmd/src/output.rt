@@ -2,11 +2,11 @@
 
 ghost use Rattle.std.specs.Prelude.{◌≡◌, ℕ, List, IfOk};
 ghost use Rattle.chor_cmd.specs.declared.words.Words.{Words as CommandWords};
-ghost use Rattle.chor_cmd.specs.Endings.{Ends, HasEnded, Told, line_naming};
-ghost use Rattle.chor_cmd.specs.Words.{IsRunForm};
+ghost use Rattle.chor_cmd.specs.Endings.{Ends, HasEnded, Told, line_naming, refused_line};
+ghost use Rattle.chor_cmd.specs.Words.{NamesFile};
 
 use crate::status::Status;
-use chor_base::{Memory, Word};
+use chor_base::{Memory, Refusal, Word, put_bytes, put_number};
 use chor_io::{Put, Sink};
 use std::alloc::Global;
 
@@ -29,7 +29,7 @@ pub fn finish_naming<K: Sink>(
     name: &Word,
     status: Status,
 ) -> Status
-    ensures { (words : CommandWords) (files : Told) (before after : List ℕ → ℕ) → IsRunForm words name.now → Ends words files before after status (line_naming what.now name.now) → HasEnded words files before after (K.faults out.old) (K.faults out.new) (K.written out.old) (K.written out.new) result }
+    ensures { (words : CommandWords) (files : Told) (before after : List ℕ → ℕ) → NamesFile words name.now → Ends words files before after status (line_naming what.now name.now) → HasEnded words files before after (K.faults out.old) (K.faults out.new) (K.written out.old) (K.written out.new) result }
 {
     match naming_line(alloc, what, name) {
         Ok(line) => finish(out, line.as_slice(), status),
@@ -43,5 +43,28 @@ fn naming_line(alloc: Global, what: &[u8], name: &Word) -> Result<Vec<u8>, Memor
     let mut line = what.to_vec(alloc)?;
     line.extend_from_slice(name.as_slice())?;
     line.push(b'\n')?;
+    Ok(line)
+}
+
+/// Writes the line of a refusal, and answers the status.
+pub fn finish_refusing<K: Sink>(alloc: Global, out: &mut K, refusal: &Refusal) -> Status
+    ensures { (words : CommandWords) (files : Told) (before after : List ℕ → ℕ) (name : List ℕ) → NamesFile words name → Ends words files before after Status.Refused (refused_line refusal.now.rule refusal.now.place) → HasEnded words files before after (K.faults out.old) (K.faults out.new) (K.written out.old) (K.written out.new) result }
+{
+    match refused_line(alloc, refusal) {
+        Ok(line) => finish(out, line.as_slice(), Status::Refused),
+        Err(Memory) => Status::Memory,
+    }
+}
+
+fn refused_line(alloc: Global, refusal: &Refusal) -> Result<Vec<u8>, Memory>
+    ensures { IfOk result (λ line. line.items ≡ refused_line refusal.now.rule refusal.now.place) }
+{
+    let mut line = b"refused ".to_vec(alloc)?;
+    put_bytes(&mut line, refusal.rule.name())?;
+    put_bytes(&mut line, b" ".as_slice())?;
+    put_number(&mut line, alloc, u64::from(refusal.place.line))?;
+    put_bytes(&mut line, b":".as_slice())?;
+    put_number(&mut line, alloc, u64::from(refusal.place.col))?;
+    put_bytes(&mut line, b"\n".as_slice())?;
     Ok(line)
 }

@@ -1,13 +1,13 @@
-//! Running a thin file.
+//! Running a thin source.
 
-ghost use Rattle.std.specs.Prelude.{◌≡◌, ◌≤◌, ◌^◌, IfOk, IfSome, IfNone, length};
+ghost use Rattle.std.specs.Prelude.{◌≡◌, IfOk, length};
 ghost use Rattle.chor_cmd.specs.Shapes.{thin_of};
-ghost use Rattle.chor_cmd.specs.ThinFile.{IsNoSource, IsRunnable, plain};
-ghost use Rattle.chor_cmd.specs.Endings.{RunsThin, RunsShape, events_of, end_line};
+ghost use Rattle.chor_cmd.specs.ThinFile.{IsRunnable, plain};
+ghost use Rattle.chor_cmd.specs.Endings.{RunsShape, events_of, end_line};
 ghost use Rattle.transcript.specs.Text.{transcript};
 ghost use Rattle.transcript.specs.Books.{words};
 
-use crate::source::{Source, read};
+use crate::source::ThinSource;
 use crate::thin_endpoints::endpoints;
 use chor_base::{Entry, List, Memory, NameId};
 use chor_tree::Named;
@@ -18,24 +18,8 @@ use transcript::{Book, print_events};
 // How many events a run has at most where nothing else is asked.
 const STEPS: u64 = 100_000;
 
-/// The transcript of the scheduled run of a source; `None` where the source isn't thin.
-#[tactic(auto, using(crate::proofs::ThinTexts::runs_thin))]
-pub fn run_text(alloc: Global, bytes: &[u8]) -> Result<Option<Vec<u8>>, Memory>
-    requires { length bytes.now ≤ 2 ^ 20 }
-    ensures none { IfOk result (λ text. IfNone text (IsNoSource bytes.now)) }
-    ensures text { IfOk result (λ text. IfSome text (λ written. RunsThin bytes.now written.items)) }
-{
-    match read(alloc, bytes)? {
-        None => Ok(None),
-        Some(source) => {
-            let text = transcript_of(alloc, &source)?;
-            Ok(Some(text))
-        }
-    }
-}
-
-// The transcript of the scheduled run, whose last line says how many events it has.
-fn transcript_of(alloc: Global, source: &Source) -> Result<Vec<u8>, Memory>
+/// The transcript of the scheduled run, whose last line says how many events it has.
+pub fn transcript_of(alloc: Global, source: &ThinSource) -> Result<Vec<u8>, Memory>
     requires { IsRunnable source.now.file (thin_of source.now.shape) }
     ensures { IfOk result (λ text. RunsShape source.now.file (thin_of source.now.shape) text.items) }
 {

@@ -8,6 +8,8 @@ ghost use Rattle.chor_cmd.specs.Status.{number_of};
 pub enum Status {
     /// The command is done.
     Done,
+    /// The file violates a rule.
+    Refused,
     /// The words are of no form.
     Usage,
     /// Reading the file failed.
@@ -29,6 +31,7 @@ impl Status {
     {
         match self {
             Status::Done => 0,
+            Status::Refused => 1,
             Status::Usage => 2,
             Status::ReadFault => 3,
             Status::WriteFault => 4,

@@ -41,6 +41,25 @@ fn runs(alloc: Global, file: &[u8], text: &[u8]) -> Result<bool, Fail> {
     answers(alloc, &words, file, 20_000, Status::Done, text)
 }
 
+// Whether the projection of a file is this text.
+fn projects(alloc: Global, file: &[u8], text: &[u8]) -> Result<bool, Fail> {
+    let words = words(alloc, b"project", b"a")?;
+    answers(alloc, &words, file, 20_000, Status::Done, text)
+}
+
+// Whether both commands write this line for a file and end with this status.
+fn end(alloc: Global, file: &[u8], status: Status, line: &[u8]) -> Result<bool, Fail> {
+    let run = words(alloc, b"run", b"a")?;
+    let project = words(alloc, b"project", b"a")?;
+    let runs = answers(alloc, &run, file, 100, status, line)?;
+    Ok(runs && answers(alloc, &project, file, 100, status, line)?)
+}
+
+// Whether both commands refuse a file with this line.
+fn refuse(alloc: Global, file: &[u8], line: &[u8]) -> Result<bool, Fail> {
+    end(alloc, file, Status::Refused, line)
+}
+
 fn hello(alloc: Global) -> Result<Vec<u8>, Fail> {
     let bytes =
         b"protocol P (A, B) { s = A -> B : int then t; t = end; } service a : P (A, B); main (p, q) { start a(k): p[A], q[B]; p[A].3 -> q[B].x : k; end }".to_vec(
@@ -90,7 +109,28 @@ fn ten_messages_go_both_ways(rt: HostRuntime) -> Result<(), Fail> {
     Ok(())
 }
 
-// A file of so many exchanges from A to B.
+#[test]
+fn hello_is_projected(rt: HostRuntime) -> Result<(), Fail> {
+    let alloc = rt.alloc();
+    let text =
+        b"endpoints 1;\nchannel a (A, B);\nprocess p { join a[A](k); send k B 3; end }\nprocess q { join a[B](k); recv k A x; end }\n";
+    let source = hello(alloc)?;
+    assert!(rt; projects(alloc, source.as_slice(), text)?);
+    Ok(())
+}
+
+#[test]
+fn messages_both_ways_are_projected(rt: HostRuntime) -> Result<(), Fail> {
+    let alloc = rt.alloc();
+    let source =
+        b"protocol P (C, B) { s = C -> B : int then t; t = B -> C : int then u; u = C -> B : int then v; v = end; } service a : P (C, B); main (r, q) { start a(k): r[C], q[B]; r[C].1 -> q[B].x : k; q[B].02 -> r[C].y : k; r[C].9223372036854775807 -> q[B].x : k; end }";
+    let text =
+        b"endpoints 1;\nchannel a (C, B);\nprocess r { join a[C](k); send k B 1; recv k B y; send k B 9223372036854775807; end }\nprocess q { join a[B](k); recv k C x; send k C 2; recv k C x; end }\n";
+    assert!(rt; projects(alloc, source, text)?);
+    Ok(())
+}
+
+// A file in which A sends B the numbers from 1 to this one.
 fn many(alloc: Global, count: u16) -> Result<Vec<u8>, Fail> {
     let mut source = b"protocol P (A, B) { s0 = A -> B : int then s1; ".to_vec(alloc)?;
     let mut body = Vec::new(alloc);
@@ -99,16 +139,33 @@ fn many(alloc: Global, count: u16) -> Result<Vec<u8>, Fail> {
         source.extend_from_slice(state.as_bytes())?;
         let next = format!(in alloc; "{}; ", u32::from(number) + 1)?;
         source.extend_from_slice(next.as_bytes())?;
-        body.extend_from_slice(b"p[A].7 -> q[B].x : k; ")?;
+        let line = format!(in alloc; "p[A].{number} -> q[B].x : k; ")?;
+        body.extend_from_slice(line.as_bytes())?;
     }
     let last = format!(in alloc; "s{count} = end; ")?;
     source.extend_from_slice(last.as_bytes())?;
-    source.extend_from_slice(
-        b"} service a : P (A, B); main (p, q) { start a(k): p[A], q[B]; p[A].7 -> q[B].x : k; ",
-    )?;
+    source.extend_from_slice(b"} service a : P (A, B); main (p, q) { start a(k): p[A], q[B]; ")?;
     source.extend_from_slice(body.as_slice())?;
-    source.extend_from_slice(b"end }")?;
+    let line = format!(in alloc; "p[A].{count} -> q[B].x : k; end }}")?;
+    source.extend_from_slice(line.as_bytes())?;
     Ok(source)
+}
+
+// The text of its endpoint programs.
+fn many_projected(alloc: Global, count: u16) -> Result<Vec<u8>, Fail> {
+    let mut text = b"endpoints 1;\nchannel a (A, B);\nprocess p { join a[A](k); ".to_vec(alloc)?;
+    let mut receipts = Vec::new(alloc);
+    for number in 1..count {
+        let send = format!(in alloc; "send k B {number}; ")?;
+        text.extend_from_slice(send.as_bytes())?;
+        receipts.extend_from_slice(b"recv k A x; ")?;
+    }
+    let last = format!(in alloc; "send k B {count}; end }}\n")?;
+    text.extend_from_slice(last.as_bytes())?;
+    text.extend_from_slice(b"process q { join a[B](k); ")?;
+    text.extend_from_slice(receipts.as_slice())?;
+    text.extend_from_slice(b"recv k A x; end }\n")?;
+    Ok(text)
 }
 
 #[test]
@@ -123,20 +180,20 @@ fn at_most_255_messages(rt: HostRuntime) -> Result<(), Fail> {
     assert!(rt; ended == Status::Done);
     assert!(rt;
         out.bytes()
-            .starts_with(b"1 start a #0 A=p B=q\n2 send p #0 A>B 7\n")
+            .starts_with(b"1 start a #0 A=p B=q\n2 send p #0 A>B 1\n")
     );
-    assert!(rt; out.bytes().ends_with(b"511 recv q #0 A>B 7\nend 511\n"));
+    assert!(rt; out.bytes().ends_with(b"511 recv q #0 A>B 255\nend 511\n"));
     let more = many(alloc, 256)?;
-    assert!(rt;
-        answers(
-            alloc,
-            &words,
-            more.as_slice(),
-            20_000,
-            Status::Unbuilt,
-            b"not built\n"
-        )?
-    );
+    assert!(rt; end(alloc, more.as_slice(), Status::Unbuilt, b"not built\n")?);
+    Ok(())
+}
+
+#[test]
+fn as_many_messages_are_projected(rt: HostRuntime) -> Result<(), Fail> {
+    let alloc = rt.alloc();
+    let source = many(alloc, 255)?;
+    let text = many_projected(alloc, 255)?;
+    assert!(rt; projects(alloc, source.as_slice(), text.as_slice())?);
     Ok(())
 }
 
@@ -149,16 +206,6 @@ fn other_files_and_words_are_refused(rt: HostRuntime) -> Result<(), Fail> {
     let other = words(alloc, b"walk", b"a")?;
     let flag = words(alloc, b"run", b"-a")?;
     let file = source.as_slice();
-    assert!(rt;
-        answers(
-            alloc,
-            &run,
-            b"main () { end }",
-            100,
-            Status::Unbuilt,
-            b"not built\n"
-        )?
-    );
     assert!(rt;
         answers(
             alloc,
@@ -190,6 +237,34 @@ fn other_files_and_words_are_refused(rt: HostRuntime) -> Result<(), Fail> {
         )?
     );
     assert!(rt; answers(alloc, &run, file, 5, Status::WriteFault, b"1 sta")?);
+    Ok(())
+}
+
+#[test]
+fn what_is_no_token_is_refused(rt: HostRuntime) -> Result<(), Fail> {
+    let alloc = rt.alloc();
+    let open = b"main (p) { p show \"ab";
+    let great = b"main (p) { p show 9223372036854775808; end }";
+    let long = b"main (aaaaaaaaaaaaaaaaaaaaaaaaaaaaaaaaaaaaaaaaaaaaaaaaaaaaaaaaaaaaaaaaa) { end }";
+    assert!(rt; refuse(alloc, b"main () { $ }", b"refused L1 1:11\n")?);
+    assert!(rt; refuse(alloc, b"main ()\n\n{ $ }", b"refused L1 3:3\n")?);
+    assert!(rt; refuse(alloc, open, b"refused L2 1:19\n")?);
+    assert!(rt; refuse(alloc, great, b"refused L3 1:19\n")?);
+    assert!(rt; refuse(alloc, b"m\xff", b"refused L4 1:2\n")?);
+    assert!(rt; refuse(alloc, long, b"refused L5 1:7\n")?);
+    Ok(())
+}
+
+#[test]
+fn what_is_tokens_is_not_refused(rt: HostRuntime) -> Result<(), Fail> {
+    let alloc = rt.alloc();
+    let mut noted = b"// \xc3\xa9\n".to_vec(alloc)?;
+    noted.extend_from_slice(hello(alloc)?.as_slice())?;
+    let line = b"not built\n";
+    assert!(rt; end(alloc, b"", Status::Unbuilt, line)?);
+    assert!(rt; end(alloc, b"main () { end }", Status::Unbuilt, line)?);
+    assert!(rt; end(alloc, b"} then 3 \"a\"", Status::Unbuilt, line)?);
+    assert!(rt; end(alloc, noted.as_slice(), Status::Unbuilt, line)?);
     Ok(())
 }
 

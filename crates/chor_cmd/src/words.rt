@@ -1,7 +1,7 @@
 //! The words of the command line.
 
 ghost use Rattle.std.specs.Prelude.{◌≡◌, ◌↔◌, List, ℕ, MatchOption, IsTrue};
-ghost use Rattle.chor_cmd.specs.Words.{IsFileWord, IsRunForm, HasNoForm};
+ghost use Rattle.chor_cmd.specs.Words.{IsFileWord, IsForm, HasNoForm, IsCommand, IsNoCommand};
 
 use chor_base::{List, Word};
 
@@ -14,8 +14,10 @@ pub struct Words {
 /// What the words ask for. A file is the index of its word.
 #[derive(Clone, Copy, Debug, PartialEq, Eq)]
 pub enum Command {
-    /// `run FILE`
+    /// `run FILE`: writes the transcript of a run.
     Run(u32),
+    /// `project FILE`: writes the endpoint programs.
+    Project(u32),
 }
 
 // Whether a word names a file: it isn't empty, is UTF-8, and doesn't begin with `-`.
@@ -29,14 +31,27 @@ fn is_file_word(word: &[u8]) -> bool
     }
 }
 
-/// The file word of `run FILE`, if the words are of this form.
-pub fn run_file(words: &Words) -> Option<&Word>
-    ensures { MatchOption result (HasNoForm words.now) (λ word. IsRunForm words.now word.now) }
+// The command with this word, whose file is the word after it.
+fn command_of(word: &[u8]) -> Option<Command>
+    ensures { MatchOption result (IsNoCommand word.now) (IsCommand word.now) }
+{
+    if word == b"run".as_slice() {
+        Some(Command::Run(1))
+    } else if word == b"project".as_slice() {
+        Some(Command::Project(1))
+    } else {
+        None
+    }
+}
+
+/// The command that the words ask for, and its file word.
+pub fn form_of(words: &Words) -> Option<(Command, &Word)>
+    ensures { MatchOption result (HasNoForm words.now) (λ form. IsForm words.now form.0 form.1.now) }
 {
     match words.items.as_slice() {
-        [command, file]
-            if command.as_slice() == b"run".as_slice() && is_file_word(file.as_slice()) => {
-            Some(file)
+        [word, file] if is_file_word(file.as_slice()) => {
+            let command = command_of(word.as_slice())?;
+            Some((command, file))
         }
         _ => None,
     }
@@ -44,8 +59,8 @@ pub fn run_file(words: &Words) -> Option<&Word>
 
 /// The command that the words ask for; `None` where they are of no form. It takes no memory.
 pub fn read_words(words: &Words) -> Option<Command>
-    ensures { MatchOption result (HasNoForm words.now) (λ command. (command ≡ Command.Run 1) × ((name : List ℕ) × IsRunForm words.now name)) }
+    ensures { MatchOption result (HasNoForm words.now) (λ command. (name : List ℕ) × IsForm words.now command name) }
 {
-    run_file(words)?;
-    Some(Command::Run(1))
+    let (command, _) = form_of(words)?;
+    Some(command)
 }

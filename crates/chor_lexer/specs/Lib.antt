@@ -6,3 +6,5 @@ pub mod Tokens
 pub mod Refusal
 pub mod Scan
 pub mod Canonical
+pub mod Keywords
+pub mod Grammar

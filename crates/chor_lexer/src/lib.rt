@@ -1,6 +1,7 @@
 //! Cuts the bytes of a file into tokens: words, numbers, texts and marks.
 #![tactic(auto)]
 
+mod canonical;
 mod laws;
 mod lex;
 mod mark;
@@ -10,6 +11,7 @@ mod scan;
 mod text;
 mod token;
 
+pub use canonical::print_expr;
 pub use laws::{never_both, one_reading, one_refusal};
 pub use lex::tokens;
 pub use mark::Mark;

@@ -60,6 +60,42 @@ pub enum Mark {
     Not,
 }
 
+impl Mark {
+    /// How the mark is written.
+    pub fn spelling(self) -> &'static [u8]
+        ensures { result.now ≡ spelling self }
+    {
+        match self {
+            Mark::OpenBrace => b"{",
+            Mark::CloseBrace => b"}",
+            Mark::OpenParen => b"(",
+            Mark::CloseParen => b")",
+            Mark::OpenBracket => b"[",
+            Mark::CloseBracket => b"]",
+            Mark::Comma => b",",
+            Mark::Semicolon => b";",
+            Mark::Colon => b":",
+            Mark::Dot => b".",
+            Mark::Assign => b"=",
+            Mark::Becomes => b":=",
+            Mark::Arrow => b"->",
+            Mark::Bar => b"|",
+            Mark::At => b"@",
+            Mark::Plus => b"+",
+            Mark::Minus => b"-",
+            Mark::Star => b"*",
+            Mark::Slash => b"/",
+            Mark::Equal => b"==",
+            Mark::NotEqual => b"!=",
+            Mark::Less => b"<",
+            Mark::LessEqual => b"<=",
+            Mark::And => b"&&",
+            Mark::Or => b"||",
+            Mark::Not => b"!",
+        }
+    }
+}
+
 // The mark of two bytes.
 pub fn double_mark(first: u8, second: u8) -> Option<Mark>
     ensures { MatchOption result ((m : Mark) → spelling m ≢ first ∷ second ∷ []) (λ m. spelling m ≡ first ∷ second ∷ []) }

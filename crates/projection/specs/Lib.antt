@@ -1,3 +1,5 @@
 pub mod Codes
 pub mod Projects
+pub mod Straight
+pub mod Making
 pub mod Examples

@@ -1,0 +1,4 @@
+pub mod Ascending
+pub mod Places
+pub mod Text
+pub mod Parts

@@ -1,0 +1,1 @@
+//! The printed text, by hand from the description of the format.
