@@ -2,7 +2,6 @@ pub mod ThinItems
 pub mod ThinSteps
 pub mod ThinRuns
 pub mod ThinBegins
-pub mod Lines
 pub mod Places
 pub mod Keeping
 pub mod Comparing
@@ -12,4 +11,5 @@ pub mod Outputs
 pub mod ThinTexts
 pub mod Sources
 pub mod Calls
-pub mod Straight
+pub mod Projected
+pub mod Settled

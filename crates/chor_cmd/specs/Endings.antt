@@ -1,5 +1,5 @@
 -- How a call of the program may end, and with which text (this project's own).
-use Rattle.std.specs.Prelude.{ℕ, suc, ◌≡◌, ◌<◌, ◌≤◌, ◌*◌, List, [], ◌∷◌, ◌++◌, length, map, Option, Some, None, codes}
+use Rattle.std.specs.Prelude.{ℕ, suc, ◌≡◌, ◌≢◌, ◌<◌, ◌≤◌, ◌*◌, List, [], ◌∷◌, ◌++◌, length, map, Option, Some, None, codes}
 use Rattle.std.specs.Fmt.{decimal}
 use Rattle.chor_base.specs.declared.rule.Place.{Place}
 use Rattle.chor_base.specs.declared.rule.Rule.{Rule}
@@ -123,3 +123,11 @@ HasEnded words files before after faults faults' old new WriteFault =
     Risen faults faults' × ((status : Status) × (text : List ℕ) × Ends words files before after status text × WroteFront old new text)
 HasEnded words files before after faults faults' old new Memory = ((name : List ℕ) × NamesFile words name) × (new ≡ old)
 HasEnded words files before after faults faults' old new status = (text : List ℕ) × Ends words files before after status text × Wrote old new text
+
+-- A call for a file whose bytes the shelf tells would end so, and not because reading failed
+pub record ReadAndEnds (words : Words) (files : Told) (before after : List ℕ → ℕ) (bytes : List ℕ) (status : Status) (text : List ℕ) : Type 0 where
+  pub name : List ℕ
+  pub named : NamesFile words name
+  pub told : Tells files name bytes
+  pub read : status ≢ ReadFault
+  pub ends : Ends words files before after status text

@@ -1,5 +1,5 @@
 -- The two endpoint programs of a thin file.
-use Rattle.std.specs.Prelude.{◌≡◌, Bool, true, false, not, List, [], ◌∷◌, ◌++◌, Some, slice_get, All, ℤ}
+use Rattle.std.specs.Prelude.{◌≡◌, Bool, true, false, not, List, [], ◌∷◌, Some, slice_get, ℤ}
 use Rattle.chor_base.specs.declared.names.NameId.{NameId}
 use Rattle.chor_base.specs.declared.value.Value.TheVariants.{Int}
 use Rattle.chor_base.specs.declared.expr.Expr.TheVariants.{Lit}
@@ -7,7 +7,6 @@ use Rattle.endpoint_code.specs.declared.code.CodeId.{CodeId}
 use Rattle.endpoint_code.specs.declared.code.CodeNode.{CodeNode}
 use Rattle.endpoint_code.specs.declared.code.CodeNode.TheVariants.{Join, Send, Recv, End}
 use Rattle.endpoint_code.specs.declared.endpoints.Endpoints.{Endpoints}
-use Rattle.net_core.specs.Plain.{is_plain}
 use Rattle.chor_cmd.specs.Thin.{Exchange, Thin, role}
 
 -- what a process does in an exchange: it sends a number, or receives into a variable
@@ -55,9 +54,3 @@ pub record AreEndpointsOf (e : Endpoints) (t : Thin NameId) : Type 0 where
   pub services : e.services ≡ []
   pub processes : e.processes ≡ record { name = t.first_process; body = body true } ∷ record { name = t.second_process; body = body false } ∷ []
   pub bodies : (d : Bool) → IsBody e.code.nodes t d (body d)
-
--- a table with more nodes after the old ones, all of which the network runs
-pub record Grows (old new : List CodeNode) : Type 0 where
-  pub more : List CodeNode
-  pub is : new ≡ old ++ more
-  pub plain : All (λ n. is_plain n ≡ true) more

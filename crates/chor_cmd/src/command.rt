@@ -7,7 +7,7 @@ ghost use Rattle.chor_cmd.specs.Shapes.{thin_of};
 ghost use Rattle.chor_cmd.specs.ThinFile.{IsSourceOf, IsRunnable};
 ghost use Rattle.chor_cmd.specs.Endings.{HasEnded, IsOutput, Told, TellsOnly, source_limit};
 
-use crate::endpoints::projection_text;
+use crate::endpoints::{endpoints_of, text_of_endpoints};
 use crate::output::{finish, finish_naming, finish_refusing};
 use crate::run::transcript_of;
 use crate::source::{Source, ThinSource, read};
@@ -116,8 +116,12 @@ fn text_of(alloc: Global, command: Command, source: &ThinSource) -> Result<Vec<u
     requires { IsRunnable source.now.file (thin_of source.now.shape) }
     ensures { IfOk result (λ text. IsOutput command source.now.file (thin_of source.now.shape) text.items) }
 {
+    let endpoints = endpoints_of(alloc, source)?;
     match command {
-        Command::Run(_) => transcript_of(alloc, source),
-        Command::Project(_) => projection_text(alloc, &source.file),
+        Command::Run(_) => transcript_of(alloc, source, &endpoints),
+        Command::Project(_) => {
+            let text = text_of_endpoints(alloc, &endpoints)?;
+            Ok(text)
+        }
     }
 }

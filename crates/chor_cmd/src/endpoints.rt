@@ -1,22 +1,36 @@
-//! The endpoint programs of a file, as text.
+//! The endpoint programs of a thin source, and their text.
 
-ghost use Rattle.std.specs.Prelude.{IfOk};
-ghost use Rattle.projection.specs.Straight.{IsStraight};
-ghost use Rattle.chor_cmd.specs.Endings.{IsProjectionText};
+ghost use Rattle.std.specs.Prelude.{◌≡◌, IfOk};
+ghost use Rattle.projection.specs.Projects.{Projects};
+ghost use Rattle.net_core.specs.Plain.{IsPlain};
+ghost use Rattle.endpoint_text.specs.Text.{endpoints_text};
+ghost use Rattle.chor_cmd.specs.Shapes.{thin_of};
+ghost use Rattle.chor_cmd.specs.ThinCode.{AreEndpointsOf};
+ghost use Rattle.chor_cmd.specs.ThinFile.{IsRunnable};
 
+use crate::source::ThinSource;
 use chor_base::Memory;
-use chor_tree::File;
+use endpoint_code::Endpoints;
 use endpoint_text::print_endpoints;
 use projection::project;
 use std::alloc::Global;
 
-/// The text of the endpoint programs that are the projection of a file.
-pub fn projection_text(alloc: Global, file: &File) -> Result<Vec<u8>, Memory>
-    requires { IsStraight file.now }
-    ensures { IfOk result (λ text. IsProjectionText file.now text.items) }
+/// The endpoint programs of a thin source, which are its projection.
+pub fn endpoints_of(alloc: Global, source: &ThinSource) -> Result<Endpoints, Memory>
+    requires { IsRunnable source.now.file (thin_of source.now.shape) }
+    ensures projects { IfOk result (Projects source.now.file) }
+    ensures are { IfOk result (λ e. AreEndpointsOf e (thin_of source.now.shape)) }
+    ensures plain { IfOk result IsPlain }
 {
-    let endpoints = project(alloc, file)?;
+    let endpoints = project(alloc, &source.file)?;
+    Ok(endpoints)
+}
+
+/// The text of endpoint programs.
+pub fn text_of_endpoints(alloc: Global, endpoints: &Endpoints) -> Result<Vec<u8>, Memory>
+    ensures { IfOk result (λ text. text.items ≡ endpoints_text endpoints.now) }
+{
     let mut text = Vec::new(alloc);
-    print_endpoints(alloc, &endpoints, &mut text)?;
+    print_endpoints(alloc, endpoints, &mut text)?;
     Ok(text)
 }

@@ -3,6 +3,7 @@
 
 mod command;
 mod endpoints;
+mod laws;
 mod output;
 mod piece;
 mod reader;
@@ -10,12 +11,12 @@ mod run;
 mod shape;
 mod source;
 mod status;
-mod thin_endpoints;
 mod thin_file;
 mod words;
 mod written;
 
 pub use command::chor;
+pub use laws::{no_form, what_a_file_gets};
 pub use status::Status;
 pub use words::{Command, Words, read_words};
 

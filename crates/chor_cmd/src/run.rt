@@ -3,14 +3,16 @@
 ghost use Rattle.std.specs.Prelude.{◌≡◌, IfOk, length};
 ghost use Rattle.chor_cmd.specs.Shapes.{thin_of};
 ghost use Rattle.chor_cmd.specs.ThinFile.{IsRunnable, plain};
+ghost use Rattle.chor_cmd.specs.ThinCode.{AreEndpointsOf};
+ghost use Rattle.net_core.specs.Plain.{IsPlain};
 ghost use Rattle.chor_cmd.specs.Endings.{RunsShape, events_of, end_line};
 ghost use Rattle.transcript.specs.Text.{transcript};
 ghost use Rattle.transcript.specs.Books.{words};
 
 use crate::source::ThinSource;
-use crate::thin_endpoints::endpoints;
 use chor_base::{Entry, List, Memory, NameId};
 use chor_tree::Named;
+use endpoint_code::Endpoints;
 use net_core::{Network, Picked};
 use std::alloc::Global;
 use transcript::{Book, print_events};
@@ -18,14 +20,20 @@ use transcript::{Book, print_events};
 // How many events a run has at most where nothing else is asked.
 const STEPS: u64 = 100_000;
 
-/// The transcript of the scheduled run, whose last line says how many events it has.
-pub fn transcript_of(alloc: Global, source: &ThinSource) -> Result<Vec<u8>, Memory>
-    requires { IsRunnable source.now.file (thin_of source.now.shape) }
+/// The transcript of the scheduled run of a source's endpoint programs. Its last line says how many
+/// events it has.
+pub fn transcript_of(
+    alloc: Global,
+    source: &ThinSource,
+    endpoints: &Endpoints,
+) -> Result<Vec<u8>, Memory>
+    requires runnable { IsRunnable source.now.file (thin_of source.now.shape) }
+    requires endpoints { AreEndpointsOf endpoints.now (thin_of source.now.shape) }
+    requires plain { IsPlain endpoints.now }
     ensures { IfOk result (λ text. RunsShape source.now.file (thin_of source.now.shape) text.items) }
 {
     let file = &source.file;
-    let endpoints = endpoints(alloc, &source.shape, &file.names, &file.texts)?;
-    let mut network = Network::new(alloc, &endpoints)?;
+    let mut network = Network::new(alloc, endpoints)?;
     match network.run_picked(0, STEPS) {
         Picked::Ended => {}
         Picked::Memory => return Err(Memory),

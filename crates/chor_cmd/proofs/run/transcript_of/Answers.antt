@@ -8,25 +8,25 @@ use Rattle.chor_cmd.proofs.ThinTexts.{Begins, ends_so, prints_so}
 use Rattle.chor_cmd.proofs.run.transcript_of.Goals as goal
 
 pub new-requires-clause-faultless : goal.new-requires-clause-faultless
-new-requires-clause-faultless c = faultless c.in_ok-endpoints.endpoints (thin_of c.args.source.now.shape) c.in_ok-endpoints.ensures.are c.requires.roles c.requires.processes
+new-requires-clause-faultless c = faultless c.args.endpoints.now (thin_of c.args.source.now.shape) c.requires.endpoints c.requires.runnable.roles c.requires.runnable.processes
 
 pub unreachable-requires : goal.unreachable-requires
 unreachable-requires c =
-    let b : Begins c.in_ok-network.network c.in_ok-endpoints.endpoints = record { endpoints = c.in_ok-network.ensures.endpoints; state = c.in_ok-network.ensures.state; history = c.in_ok-network.ensures.history } in
-    let e = ends_so c.args.source.now.file (thin_of c.args.source.now.shape) c.requires c.in_ok-endpoints.endpoints c.in_ok-endpoints.ensures.are c.in_ok-network.network c.run_picked.new.self b _ c.in-Limit.ensures in
+    let b : Begins c.in_ok-network.network c.args.endpoints.now = record { endpoints = c.in_ok-network.ensures.endpoints; state = c.in_ok-network.ensures.state; history = c.in_ok-network.ensures.history } in
+    let e = ends_so c.args.source.now.file (thin_of c.args.source.now.shape) c.requires.runnable c.args.endpoints.now c.requires.endpoints c.in_ok-network.network c.run_picked.new.self b _ c.in-Limit.ensures in
     cc
 
 pub unreachable-requires-in-Stuck : goal.unreachable-requires-in-Stuck
 unreachable-requires-in-Stuck c =
-    let b : Begins c.in_ok-network.network c.in_ok-endpoints.endpoints = record { endpoints = c.in_ok-network.ensures.endpoints; state = c.in_ok-network.ensures.state; history = c.in_ok-network.ensures.history } in
-    let e = ends_so c.args.source.now.file (thin_of c.args.source.now.shape) c.requires c.in_ok-endpoints.endpoints c.in_ok-endpoints.ensures.are c.in_ok-network.network c.run_picked.new.self b _ c.in-Stuck.ensures in
+    let b : Begins c.in_ok-network.network c.args.endpoints.now = record { endpoints = c.in_ok-network.ensures.endpoints; state = c.in_ok-network.ensures.state; history = c.in_ok-network.ensures.history } in
+    let e = ends_so c.args.source.now.file (thin_of c.args.source.now.shape) c.requires.runnable c.args.endpoints.now c.requires.endpoints c.in_ok-network.network c.run_picked.new.self b _ c.in-Stuck.ensures in
     cc
 
 pub returns : goal.returns
 returns c =
-    let b : Begins c.in_ok-network.network c.in_ok-endpoints.endpoints = record { endpoints = c.in_ok-network.ensures.endpoints; state = c.in_ok-network.ensures.state; history = c.in_ok-network.ensures.history } in
+    let b : Begins c.in_ok-network.network c.args.endpoints.now = record { endpoints = c.in_ok-network.ensures.endpoints; state = c.in_ok-network.ensures.state; history = c.in_ok-network.ensures.history } in
     let f = c.args.source.now.file in
     let ps : c.in_ok-processes.processes ≡ plain f.processes = c.in_ok-processes.ensures ∙ ap plain c.as_slice.ensures in
     let h : c.history.result.now ≡ c.run_picked.new.self.history = c.history.ensures in
-    prints_so f (thin_of c.args.source.now.shape) c.requires c.in_ok-endpoints.endpoints c.in_ok-endpoints.ensures.are c.in_ok-network.network c.run_picked.new.self b c.in_ok-text.text.items c.in-Ended.ensures
+    prints_so f (thin_of c.args.source.now.shape) c.requires.runnable c.args.endpoints.now c.requires.endpoints c.in_ok-network.network c.run_picked.new.self b c.in_ok-text.text.items c.in-Ended.ensures
     (c.in_ok-text.ensures ∙ (λ i. transcript (record { names = f.names; texts = f.texts; processes = ps i }) (events_of (h i)) (end_line (length (h i)))))
