@@ -12,3 +12,4 @@ pub mod Outputs
 pub mod ThinTexts
 pub mod Sources
 pub mod Calls
+pub mod Projected
