@@ -4,6 +4,7 @@ pub mod Shapes
 pub mod Pieces
 pub mod Reading
 pub mod ThinFile
+pub mod Following
 pub mod Words
 pub mod Status
 pub mod Endings
