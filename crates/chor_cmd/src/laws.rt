@@ -1,4 +1,5 @@
-//! What holds of all calls: the words, and the file that was read, settle how a call ends.
+//! What holds of all calls: the words, and the file that was read, settle how a call ends. And what
+//! the projection of a thin file means.
 
 ghost use Rattle.std.specs.Prelude.{◌≡◌, ◌<◌, ◌≤◌, ℕ, List, length};
 ghost use Rattle.chor_base.specs.declared.rule.Place.{Place};
@@ -11,6 +12,7 @@ ghost use Rattle.chor_cmd.specs.Words.{HasNoForm};
 ghost use Rattle.chor_cmd.specs.ThinFile.{IsThinSource, IsNoSource};
 ghost use Rattle.chor_cmd.specs.Source.{HasTokens};
 ghost use Rattle.chor_cmd.specs.Endings.{Ends, Told, ReadAndEnds, refused_line, source_limit};
+ghost use Rattle.chor_cmd.specs.Following.{ProjectionsFollow};
 
 use crate::status::Status;
 
@@ -25,4 +27,10 @@ pub fn what_a_file_gets()
     ensures refused { (words : CommandWords) (files : Told) (before after : List ℕ → ℕ) (bytes text : List ℕ) (status : Ending) (rule : Rule) (place : Place) → ReadAndEnds words files before after bytes status text → length bytes ≤ source_limit → Refuses bytes rule place → (status ≡ Status.Refused) × (text ≡ refused_line rule place) }
     ensures unbuilt { (words : CommandWords) (files : Told) (before after : List ℕ → ℕ) (bytes text : List ℕ) (status : Ending) → ReadAndEnds words files before after bytes status text → length bytes ≤ source_limit → HasTokens bytes → IsNoSource bytes → status ≡ Status.Unbuilt }
     ensures done { (words : CommandWords) (files : Told) (before after : List ℕ → ℕ) (bytes text : List ℕ) (status : Ending) (f : File) → ReadAndEnds words files before after bytes status text → length bytes ≤ source_limit → IsThinSource bytes f → status ≡ Status.Done }
+{}
+
+/// The projection of a thin file of two different processes follows it: each process's code does
+/// what the choreography has that process do, with any fuel.
+pub fn thin_projections_follow()
+    ensures { ProjectionsFollow }
 {}

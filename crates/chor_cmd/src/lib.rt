@@ -16,7 +16,7 @@ mod words;
 mod written;
 
 pub use command::chor;
-pub use laws::{no_form, what_a_file_gets};
+pub use laws::{no_form, thin_projections_follow, what_a_file_gets};
 pub use status::Status;
 pub use words::{Command, Words, read_words};
 
