@@ -10,3 +10,4 @@ pub mod Progress
 pub mod Keywords
 pub mod Levels
 pub mod Operands
+pub mod Derivations
