@@ -11,3 +11,4 @@ pub mod Keywords
 pub mod Levels
 pub mod Operands
 pub mod Derivations
+pub mod Viable

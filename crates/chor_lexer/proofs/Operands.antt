@@ -107,7 +107,7 @@ run_no_close names b ss vs (t ∷ ts) e = run_turn names b (close ∷ ss) vs t t
 
 -- ---- the operand that a token alone is
 
-abbrev IsOperand : List (List ℕ) → Token → Term → Type 0
+abbrev pub IsOperand : List (List ℕ) → Token → Term → Type 0
 IsOperand names t x = (rest : List Token) → UnIs names (t ∷ rest) x rest
 
 truth_is : (names : List (List ℕ)) (t : Token) (x : NameId) (w : List ℕ) → t.kind ≡ Word x → slice_get names x.0 ≡ Some w → (b : Bool) (y : Term) → w ≡ truth_text b → Constant (value.Bool b) ≡ y → IsOperand names t y
@@ -130,7 +130,7 @@ word_is names t x w k s y e = first (bytes_eq w (codes "true")) refl
     first true h = let same : Constant (value.Bool true) ≡ y = cc in truth_is names t x w k s true y ((bytes_eq-Decides w (codes "true")).0 h) same
     first false h = second (bytes_eq w (codes "false")) refl h
 
-operand_is : (names : List (List ℕ)) (t : Token) (x : Term) → operand_of names t.kind ≡ Some x → IsOperand names t x
+pub operand_is : (names : List (List ℕ)) (t : Token) (x : Term) → operand_of names t.kind ≡ Some x → IsOperand names t x
 operand_is names t x e = go t.kind refl (ap (operand_of names) refl ∙ e)
   where
     go : (k : Kind) → t.kind ≡ k → operand_of names k ≡ Some x → IsOperand names t x
