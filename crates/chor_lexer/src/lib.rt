@@ -11,6 +11,8 @@ mod mark;
 mod number;
 mod place;
 mod scan;
+#[cfg(test)]
+mod tests;
 mod text;
 mod token;
 
