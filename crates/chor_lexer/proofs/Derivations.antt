@@ -2,6 +2,7 @@
 use Rattle.std.proofs.Common.{◌≡◌, ◌<◌, ◌+◌, ◌==◌, ℕ, Bool, true, false, List, [], ◌∷◌, ◌++◌, Option, Some, None, refl, sym, ap, ◌∙◌, subst, arith, append_assoc, bytes_eq, codes}
 use Rattle.std.specs.Prelude.{if◌then◌else◌}
 use Rattle.std.specs.List.{list_any}
+use Rattle.std.proofs.lemmas.List.{append-nil}
 use Rattle.std.proofs.lemmas.Bool.Decides.{Decides-eqb}
 use Rattle.std.proofs.lemmas.Slice.Eq.{bytes_eq-Decides}
 use Rattle.chor_base.specs.declared.names.NameId.{NameId}
@@ -17,8 +18,8 @@ use Rattle.chor_lexer.specs.declared.level.Level.TheVariants as level
 use Rattle.chor_lexer.specs.Keywords.{keywords, IsName, HasMark}
 use Rattle.chor_lexer.specs.Canonical.{unary_mark, binary_mark, strength}
 use Rattle.chor_lexer.specs.Grammar.{OrIs, OrGoes, AndIs, AndGoes, CmpIs, CmpGoes, SumIs, SumGoes, ProdIs, ProdGoes, UnIs, IsExpr, a_disjunction, or_done, or_more, a_conjunction, and_done, and_more, a_comparison, cmp_done, cmp_once, a_sum, sum_done, sum_more, a_product, prod_done, prod_more, a_unary, a_number, a_text, a_truth, a_name, in_parens}
-use Rattle.chor_lexer.specs.Turns.{strength_at, front, word_operand, named_operand, operand_of, unary_of, binary_of, of_level, operator_at, is_open, is_close, wrap, join, Due, operand, more, close, act, Ends, run}
-use Rattle.chor_lexer.proofs.Levels.{is_binary}
+use Rattle.chor_lexer.specs.Turns.{strength_at, front, word_operand, named_operand, operand_of, unary_of, binary_of, of_level, operator_at, is_open, is_close, wrap, join, Due, operand, more, close, act, Ends, Stops, run}
+use Rattle.chor_lexer.proofs.Levels.{is_binary, binary_is}
 use Rattle.chor_lexer.proofs.Operands.{run_begins, run_act, run_wrap, run_operator, run_no_operator, run_operand, run_unary, run_open, run_close}
 
 -- ---- what follows is left as it is
@@ -289,3 +290,12 @@ whole_runs names ts x p = or_runs names false ts x [] p (λ op e. absurd cc) [] 
 -- one list of tokens is one expression at most
 pub one_expression : (names : List (List ℕ)) (ts : List Token) (x y : Term) → IsExpr names ts x → IsExpr names ts y → x ≡ y
 one_expression names ts x y p q = let same : Ends (x ∷ []) ≡ Ends (y ∷ []) = sym (whole_runs names ts x p) ∙ whole_runs names ts y q in cc
+
+-- an expression is run up to a token that is no operator of two operands
+pub expr_runs : (names : List (List ℕ)) (w : List Token) (t : Token) (rest : List Token) (x : Term) → IsExpr names w x → ((op : BinOp) → HasMark (binary_mark op) t → ⊥) → run names false (operand level.Or ∷ []) [] (w ++ t ∷ rest) ≡ Stops (t ∷ rest)
+unfolding run
+expr_runs names w t rest x p no_op =
+    let cut = or_cut names w x [] p in
+    let same : w ≡ cut.written = cut.parts ∙ append-nil cut.written in
+    let here : OrIs names (w ++ t ∷ rest) x (t ∷ rest) = subst (λ l. OrIs names (l ++ t ∷ rest) x (t ∷ rest)) (sym same) (cut.moves (t ∷ rest)) in
+    or_runs names false (w ++ t ∷ rest) x (t ∷ rest) here (λ op e. absurd (no_op op (binary_is t.kind op e))) [] [] ∙ refl

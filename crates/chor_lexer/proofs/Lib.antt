@@ -13,3 +13,4 @@ pub mod Operands
 pub mod Derivations
 pub mod Viable
 pub mod Longest
+pub mod Spelling

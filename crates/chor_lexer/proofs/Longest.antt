@@ -13,12 +13,14 @@ use Rattle.chor_lexer.specs.declared.token.Token.{Token}
 use Rattle.chor_lexer.specs.declared.level.Level.TheVariants as level
 use Rattle.chor_lexer.specs.declared.expression.Stop.{Stop}
 use Rattle.chor_lexer.specs.declared.expression.Stop.TheVariants.{Memory, Wrong}
+use Rattle.chor_lexer.specs.Keywords.{HasMark}
+use Rattle.chor_lexer.specs.Canonical.{binary_mark}
 use Rattle.chor_lexer.specs.Tokens.{is_last, is_ended}
 use Rattle.chor_lexer.specs.Grammar.{IsExpr, IsExprFront, IsLongestFront}
 use Rattle.chor_lexer.specs.Turns.{stronger, repeats, operator_at, begins, is_close, effect, Due, operand, more, close, act, again, State, state, began, went, taken, after, Outcome, Ends, Stops, finish, run, join}
 use Rattle.chor_lexer.specs.Reading.{IsRead, too_long, no_expr, IsRefusal, WrongAt, HasPlace, IsRefusalAt, Reads, StopsAt, IsHalt, IsFound, IsMissed, Misses}
 use Rattle.chor_lexer.proofs.Operands.{run_turn}
-use Rattle.chor_lexer.proofs.Derivations.{expr_cut, whole_runs}
+use Rattle.chor_lexer.proofs.Derivations.{expr_cut, whole_runs, expr_runs}
 use Rattle.chor_lexer.proofs.Viable.{reached, ended, all_is, reached_begins}
 
 -- ---- fronts
@@ -31,7 +33,7 @@ front_of names v w f = (w ++ f.0, f.1, subst (λ l. IsExpr names l f.1) (append_
 pub whole_front : (names : List (List ℕ)) (v : List Token) (x : Term) → IsExpr names v x → IsExprFront names v
 whole_front names v x e = ([], x, subst (λ l. IsExpr names l x) (sym (append-nil v)) e)
 
-by_contradiction : (a b : ℕ) → (b < a → ⊥) → a ≤ b
+pub by_contradiction : (a b : ℕ) → (b < a → ⊥) → a ≤ b
 by_contradiction a b h = go (nat_lt b a) refl
   where
     go : (t : Bool) → nat_lt b a ≡ t → a ≤ b
@@ -338,3 +340,10 @@ is_none n b e t = (Decides-eqb n 0).0 (sym e ∙ t)
 
 pub is_some : (n : ℕ) (b : Bool) → b ≡ (n == 0) → b ≡ false → n ≡ 0 → ⊥
 is_some n b e f z = let t : (n == 0) ≡ true = (Decides-eqb n 0).1 z in let g : true ≡ false = sym t ∙ sym e ∙ f in absurd cc
+
+-- an expression before a token that is no operator of two operands
+pub derived_is_longest : (names : List (List ℕ)) (w : List Token) (t : Token) (rest : List Token) (x : Term) → IsExpr names w x → ((op : BinOp) → HasMark (binary_mark op) t → ⊥) → IsLongestFront names w (t ∷ rest) (w ++ t ∷ rest)
+derived_is_longest names w t rest x p none =
+    let halt = halted names (w ++ t ∷ rest) (t ∷ rest) (expr_runs names w t rest x p none) in
+    let same : w ≡ halt.written = append_cancel_right w halt.written (t ∷ rest) halt.parts in
+    longest_before names (w ++ t ∷ rest) w rest t refl (whole_front names w x p) (λ f. halt.halts t rest refl (subst (λ l. IsExprFront names (l ++ t ∷ [])) same f))

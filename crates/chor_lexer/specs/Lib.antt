@@ -10,3 +10,4 @@ pub mod Keywords
 pub mod Grammar
 pub mod Turns
 pub mod Reading
+pub mod Spelling

@@ -19,7 +19,9 @@ mod token;
 pub use canonical::print_expr;
 pub use expression::read_expr;
 pub use keyword::is_keyword;
-pub use laws::{never_both, one_reading, one_refusal};
+pub use laws::{
+    derived_is_longest, never_both, one_expression, one_reading, one_refusal, symbols_read_back,
+};
 pub use lex::tokens;
 pub use mark::Mark;
 pub use token::{Kind, Token, Tokens};
