@@ -1,11 +1,19 @@
 //! What holds of all bytes.
 
-ghost use Rattle.std.specs.Prelude.{◌≡◌, ℕ, List};
+ghost use Rattle.std.specs.Prelude.{◌≡◌, ℕ, List, ◌∷◌, ◌++◌};
+ghost use Rattle.chor_base.specs.Words.{AllDistinct};
+ghost use Rattle.chor_base.specs.Expr.{Term};
+ghost use Rattle.chor_base.specs.declared.expr.BinOp.{BinOp};
 ghost use Rattle.chor_base.specs.declared.rule.Place.{Place};
 ghost use Rattle.chor_base.specs.declared.rule.Rule.{Rule};
 ghost use Rattle.chor_lexer.specs.Lexeme.{Lexeme};
 ghost use Rattle.chor_lexer.specs.Tokens.{IsTokens};
 ghost use Rattle.chor_lexer.specs.Refusal.{Refuses};
+ghost use Rattle.chor_lexer.specs.declared.token.Token.{Token};
+ghost use Rattle.chor_lexer.specs.Keywords.{HasMark};
+ghost use Rattle.chor_lexer.specs.Canonical.{binary_mark};
+ghost use Rattle.chor_lexer.specs.Grammar.{IsExpr, IsLongestFront};
+ghost use Rattle.chor_lexer.specs.Spelling.{IsSource, expr_symbols, SpellAll};
 
 /// Bytes have one list of tokens at most.
 pub fn one_reading()
@@ -20,4 +28,20 @@ pub fn never_both()
 /// Bytes are refused by one rule at most, and at one place.
 pub fn one_refusal()
     ensures { (bytes : List ℕ) (r s : Rule) (p q : Place) → Refuses bytes r p → Refuses bytes s q → (r ≡ s) × (p ≡ q) }
+{}
+
+/// Tokens are one expression at most.
+pub fn one_expression()
+    ensures { (names : List (List ℕ)) (ts : List Token) (x y : Term) → IsExpr names ts x → IsExpr names ts y → x ≡ y }
+{}
+
+/// An expression after which no operator of two operands follows is the longest front: nothing
+/// more belongs to it.
+pub fn derived_is_longest()
+    ensures { (names : List (List ℕ)) (w : List Token) (t : Token) (rest : List Token) (x : Term) → IsExpr names w x → ((op : BinOp) → HasMark (binary_mark op) t → ⊥) → IsLongestFront names w (t ∷ rest) (w ++ t ∷ rest) }
+{}
+
+/// What the canonical text of an expression spells is that expression.
+pub fn symbols_read_back()
+    ensures { (names texts : List (List ℕ)) (x : Term) (ts : List Token) → AllDistinct names → AllDistinct texts → IsSource names texts x → SpellAll names texts ts (expr_symbols names texts x) → IsExpr names ts x }
 {}
