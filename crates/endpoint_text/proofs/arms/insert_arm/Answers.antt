@@ -1,4 +1,4 @@
-use Rattle.std.proofs.Common.{◌≡◌, ℕ, List, ap, ◌∙◌, sym}
+use Rattle.std.proofs.Common.{◌≡◌, ℕ, List, ap, ◌∙◌}
 use Rattle.std.specs.List.{insert}
 use Rattle.endpoint_text.specs.Places.{place_in, label_in}
 use Rattle.endpoint_text.proofs.Ascents.{put_place}
