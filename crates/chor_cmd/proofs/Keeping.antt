@@ -11,7 +11,8 @@ use Rattle.chor_cmd.specs.declared.shape.Exchange.{Exchange as Held}
 use Rattle.chor_cmd.specs.Shapes.{exchange_of, thin_of}
 use Rattle.chor_cmd.specs.declared.shape.Shape.{Shape}
 use Rattle.chor_cmd.specs.Thin.{Exchange, Thin}
-use Rattle.chor_cmd.specs.Pieces.{map_exchange, map_thin, word_of, in_words, IsName, keywords, states_of, names_of, IsProper}
+use Rattle.chor_lexer.specs.Keywords.{IsName}
+use Rattle.chor_cmd.specs.Pieces.{map_exchange, map_thin, word_of, in_words, states_of, names_of, IsProper}
 use Rattle.chor_cmd.specs.Reading.{IsNameIn, AllApart, AreNatural, ArePlain, IsFine}
 
 -- ---- lists
@@ -198,20 +199,6 @@ natural_is s ns b e h = (
     from [] h i x l = absurd (omega arith)
     from (m ∷ ms) h zero x l = h 0 (exchange_of m) (omega arith)
     from (m ∷ ms) h (suc i) x l = from ms (λ j y k. h (suc j) y (omega arith)) i x (omega arith)
-
-any_of_both : (p : List ℕ → Bool) (xs ys : List (List ℕ)) → list_any p (xs ++ ys) ≡ (list_any p xs || list_any p ys)
-any_of_both p [] ys = refl
-any_of_both p (x ∷ xs) ys = ap (λ b. p x || b) (any_of_both p xs ys) ∙ turn (p x) (list_any p xs) (list_any p ys)
-  where
-    turn : (a b c : Bool) → (a || (b || c)) ≡ ((a || b) || c)
-    turn true b c = refl
-    turn false b c = refl
-
-pub keywords_are : (w : List ℕ) → list_any (bytes_eq w) keywords ≡ (list_any (bytes_eq w) (take 5 keywords) || (list_any (bytes_eq w) (take 5 (drop 5 keywords)) || (list_any (bytes_eq w) (take 5 (drop 10 keywords)) || list_any (bytes_eq w) (drop 15 keywords))))
-keywords_are w =
-    any_of_both (bytes_eq w) (take 5 keywords) (drop 5 keywords)
-    ∙ ap (λ b. list_any (bytes_eq w) (take 5 keywords) || b) (any_of_both (bytes_eq w) (take 5 (drop 5 keywords)) (drop 10 keywords)
-    ∙ ap (λ b. list_any (bytes_eq w) (take 5 (drop 5 keywords)) || b) (any_of_both (bytes_eq w) (take 5 (drop 10 keywords)) (drop 15 keywords)))
 
 pub states_are : (ms : List Held) (i : ℕ) → length ms ≤ i → map (λ m. m.state) (take i ms) ≡ map (λ m. m.state) (map exchange_of ms)
 states_are [] zero h = refl

@@ -1,11 +1,11 @@
 -- How a thin file is written, token by token.
-use Rattle.std.specs.Prelude.{ℕ, ℤ, pos, ◌≡◌, ◌≢◌, ◌≤◌, ◌≤ℤ◌, false, not, List, [], ◌∷◌, ◌++◌, length, map, All, codes, unsigned_abs, bytes_eq, slice_index_or}
-use Rattle.std.specs.List.{list_any}
+use Rattle.std.specs.Prelude.{ℕ, ℤ, pos, ◌≡◌, ◌≢◌, ◌≤◌, ◌≤ℤ◌, false, not, List, [], ◌∷◌, ◌++◌, length, map, All, codes, unsigned_abs, slice_index_or}
 use Rattle.chor_base.specs.declared.names.NameId.{NameId}
 use Rattle.chor_base.specs.Words.{AllDistinct}
 use Rattle.chor_lexer.specs.declared.mark.Mark.{Mark}
 use Rattle.chor_lexer.specs.declared.mark.Mark.TheVariants.{OpenBrace, CloseBrace, OpenParen, CloseParen, OpenBracket, CloseBracket, Comma, Semicolon, Colon, Dot, Assign, Arrow}
 use Rattle.chor_lexer.specs.Lexeme.{Symbol, word, number, mark, last, Lexeme}
+use Rattle.chor_lexer.specs.Keywords.{IsName}
 use Rattle.chor_cmd.specs.declared.piece.Keyword.{Keyword}
 use Rattle.chor_cmd.specs.declared.piece.Keyword.TheVariants.{Protocol, Int, Then, End, Service, Main, Start}
 use Rattle.chor_cmd.specs.Thin.{Exchange, Thin, role, process}
@@ -110,15 +110,6 @@ symbol_of (Sign m) = mark m
 symbol_of Last = last
 
 -- ---- what a thin file keeps
-
--- the words that are no names
-abbrev pub keywords : List (List ℕ)
-keywords =
-    codes "protocol" ∷ codes "service" ∷ codes "proc" ∷ codes "main" ∷ codes "start" ∷ codes "new" ∷ codes "if" ∷ codes "else" ∷ codes "call" ∷ codes "end"
-    ∷ codes "show" ∷ codes "host" ∷ codes "then" ∷ codes "int" ∷ codes "bool" ∷ codes "text" ∷ codes "true" ∷ codes "false" ∷ codes "chor" ∷ codes "capacity" ∷ []
-
-abbrev pub IsName : List ℕ → Type 0
-IsName w = list_any (bytes_eq w) keywords ≡ false
 
 -- the states of the protocol, in order
 abbrev pub states_of : {N : Type 0} → Thin N → List N

@@ -13,7 +13,8 @@ use Rattle.chor_cmd.specs.declared.piece.Piece.TheVariants as piece
 use Rattle.chor_cmd.specs.declared.shape.Exchange.{Exchange as Held}
 use Rattle.chor_cmd.specs.Shapes.{exchange_of}
 use Rattle.chor_cmd.specs.Thin.{Exchange, Thin}
-use Rattle.chor_cmd.specs.Pieces.{Written, Key, Name, Number, Sign, Last, state_written, states_written, exchange_written, exchanges_written, thin_written, map_exchange, map_thin, in_words, spelled, symbol_of, IsName, states_of, names_of, IsProper, AreThin}
+use Rattle.chor_lexer.specs.Keywords.{IsName}
+use Rattle.chor_cmd.specs.Pieces.{Written, Key, Name, Number, Sign, Last, state_written, states_written, exchange_written, exchanges_written, thin_written, map_exchange, map_thin, in_words, spelled, symbol_of, states_of, names_of, IsProper, AreThin}
 
 -- ---- what the reader finds
 

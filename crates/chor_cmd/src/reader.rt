@@ -1,16 +1,15 @@
 //! Reads the tokens of thin files.
 
-ghost use Rattle.std.specs.Prelude.{ℕ, ◌≡◌, ◌∷◌, [], ◌+◌, ◌*◌, ◌↔◌, ◌≤◌, ◌≤ℤ◌, pos, IfOk, OnOk, IfSome, IfNone, IsTrue, All, drop, length, bytes_eq, slice_get};
-ghost use Rattle.std.specs.List.{list_any};
+ghost use Rattle.std.specs.Prelude.{ℕ, ◌≡◌, ◌∷◌, [], ◌+◌, ◌*◌, ◌↔◌, ◌≤◌, ◌≤ℤ◌, pos, IfOk, OnOk, IfSome, IfNone, IsTrue, All, drop, length, slice_get};
 ghost use Rattle.chor_base.specs.Words.{AllDistinct};
 ghost use Rattle.chor_cmd.specs.Shapes.{thin_of, exchange_of};
-ghost use Rattle.chor_cmd.specs.Pieces.{states_of, names_of, keywords};
+ghost use Rattle.chor_cmd.specs.Pieces.{states_of, names_of};
 ghost use Rattle.chor_cmd.specs.Reading.{kind_in, name_in, number_in, IsRead, IsNoThin, IsNameIn, IsWordAt, IsNumberAt, IsExchangeOf, AreExchangesOf, Adds, IsGuess, AreFew, AreNatural, AreApart, AllApart, ArePlain, IsFine};
 
 use crate::shape::{Exchange, Shape};
 use crate::written::{all_fit, word_of, written};
 use chor_base::{List, Memory, NameId, Names};
-use chor_lexer::{Kind, Token};
+use chor_lexer::{Kind, Token, is_keyword};
 use std::alloc::Global;
 
 #[tactic(auto, using(crate::proofs::Comparing::read_is, crate::proofs::Comparing::none_fine, crate::proofs::Comparing::none_fits))]
@@ -271,24 +270,6 @@ fn is_name(names: &Names, name: NameId) -> bool
         None => false,
         Some(word) => !is_keyword(word),
     }
-}
-
-// Whether it's a word of the language.
-#[tactic(auto, using(crate::proofs::Keeping::keywords_are))]
-fn is_keyword(word: &[u8]) -> bool
-    ensures { result ≡ list_any (bytes_eq word.now) keywords }
-{
-    is_any(word, b"protocol", b"service", b"proc", b"main", b"start")
-        || is_any(word, b"new", b"if", b"else", b"call", b"end")
-        || is_any(word, b"show", b"host", b"then", b"int", b"bool")
-        || is_any(word, b"text", b"true", b"false", b"chor", b"capacity")
-}
-
-// Whether it's one of these.
-fn is_any(word: &[u8], a: &[u8], b: &[u8], c: &[u8], d: &[u8], e: &[u8]) -> bool
-    ensures { result ≡ list_any (bytes_eq word.now) (a.now ∷ b.now ∷ c.now ∷ d.now ∷ e.now ∷ []) }
-{
-    word == a || word == b || word == c || word == d || word == e
 }
 
 #[cfg(test)]
