@@ -172,7 +172,7 @@ fault_no_next bs rule k t v q (long_text {body = body} rest e i l) n =
     let few = text_within t v x.meant n.within x.is_symbol in
     absurd (omega (arith, ap length same, x.len))
 
-lexeme_no_blank : (s : Symbol) (w r bs : List ℕ) → IsLexeme s w → bs ≡ w ++ r → symbol_class s < 3 → NoBlank bs
+pub lexeme_no_blank : (s : Symbol) (w r bs : List ℕ) → IsLexeme s w → bs ≡ w ++ r → symbol_class s < 3 → NoBlank bs
 lexeme_no_blank s w r [] l e c = let n = lexeme_long s w l in absurd (omega (arith, ap length e, length-append w r))
 lexeme_no_blank s w r (b ∷ bs) l e c = let k = lexeme_class s w b bs r l (sym e) in class_no_blank b bs (omega arith)
 

@@ -14,3 +14,4 @@ pub mod Derivations
 pub mod Viable
 pub mod Longest
 pub mod Spelling
+pub mod Printed

@@ -55,13 +55,13 @@ begun p bs rest b n e h r = let l = r.most (b ∷ []) rest e (h, tt) in omega (a
 class_of : (bs rest v u : List ℕ) (b : ℕ) (t : Symbol) → bs ≡ b ∷ rest → bs ≡ v ++ u → IsLexeme t v → byte_class b ≡ symbol_class t
 class_of bs rest v u b t e q l = lexeme_class t v b rest u l (sym q ∙ e)
 
-word_passes : (t : Symbol) (v : List ℕ) → IsLexeme t v → 0 ≡ symbol_class t → Passes is_word_byte v
+pub word_passes : (t : Symbol) (v : List ℕ) → IsLexeme t v → 0 ≡ symbol_class t → Passes is_word_byte v
 word_passes t v (is_word {c = c} s h) e = (letter_is_word_byte c s, h)
 word_passes t v (is_number s h) e = absurd (omega arith)
 word_passes t v (is_text s h) e = absurd (omega arith)
 word_passes t v (is_mark s) e = absurd (omega arith)
 
-digit_passes : (t : Symbol) (v : List ℕ) → IsLexeme t v → 1 ≡ symbol_class t → Passes is_ascii_digit v
+pub digit_passes : (t : Symbol) (v : List ℕ) → IsLexeme t v → 1 ≡ symbol_class t → Passes is_ascii_digit v
 digit_passes t v (is_word s h) e = absurd (omega arith)
 digit_passes t v (is_number s h) e = (s, h)
 digit_passes t v (is_text s h) e = absurd (omega arith)
@@ -186,7 +186,7 @@ closed_same bs body rest v u e k q h =
 quoted_length : (body : List ℕ) → length (34 ∷ body ++ 34 ∷ []) ≡ length body + 2
 quoted_length body = omega (arith, length-append body (34 ∷ []))
 
-text_longest : (bs body rest t : List ℕ) → bs ≡ 34 ∷ body ++ 34 ∷ rest → IsTextOf body t → IsLongest (text t) (34 ∷ body ++ 34 ∷ []) rest bs
+pub text_longest : (bs body rest t : List ℕ) → bs ≡ 34 ∷ body ++ 34 ∷ rest → IsTextOf body t → IsLongest (text t) (34 ∷ body ++ 34 ∷ []) rest bs
 text_longest bs body rest t e h = record {
   parts = e ∙ ap (λ (l : List ℕ). 34 ∷ l) (sym (append_assoc body (34 ∷ []) rest));
   is = is_text refl h;
@@ -245,7 +245,7 @@ escape_fault bs after body n k b a c few e f =
 abbrev pub IsOther : ℕ → Type 0
 IsOther b = (is_space b ≡ false) × (is_letter b ≡ false) × (is_ascii_digit b ≡ false) × (b ≢ 34)
 
-other_no_blank : (bs : List ℕ) → Begins bs IsOther → ((rest : List ℕ) → bs ≢ 47 ∷ 47 ∷ rest) → NoBlank bs
+pub other_no_blank : (bs : List ℕ) → Begins bs IsOther → ((rest : List ℕ) → bs ≢ 47 ∷ 47 ∷ rest) → NoBlank bs
 other_no_blank bs b not w u q (space {b = c} s) = let same : b.first ≡ c = heads _ _ _ _ (sym b.parts ∙ q) in let no : is_space c ≡ false = subst (λ (x : ℕ). is_space x ≡ false) same b.holds.0 in absurd cc
 other_no_blank bs b not w u q (comment {line = line} h k) = not (line ++ u) q
 
@@ -263,14 +263,14 @@ has_mark t v (is_mark {m = m} s) e = record { mark = m; is = s }
 mark_at_front : (bs v u : List ℕ) (t : Symbol) → Begins bs IsOther → bs ≡ v ++ u → IsLexeme t v → HasMark v
 mark_at_front bs v u t b q l = has_mark t v l (sym (other_class b.first b.holds.1 b.holds.2 b.holds.3) ∙ class_of bs b.rest v u b.first t b.parts q l)
 
-mark_longest : (bs rest : List ℕ) (m : Mark) → Begins bs IsOther → bs ≡ spelling m ++ rest → ((j : Mark) (u : List ℕ) → bs ≡ spelling j ++ u → length (spelling j) ≤ length (spelling m)) → IsLongest (mark m) (spelling m) rest bs
+pub mark_longest : (bs rest : List ℕ) (m : Mark) → Begins bs IsOther → bs ≡ spelling m ++ rest → ((j : Mark) (u : List ℕ) → bs ≡ spelling j ++ u → length (spelling j) ≤ length (spelling m)) → IsLongest (mark m) (spelling m) rest bs
 mark_longest bs rest m b e most = record {
   parts = e;
   is = is_mark refl;
   longest = λ t v u q l. let k = mark_at_front bs v u t b q l in let n = most k.mark u (q ∙ ap (λ (x : List ℕ). x ++ u) k.is) in omega (arith, n, ap length k.is);
 }
 
-mark_few : (w : List ℕ) → IsMark w → length w ≤ 2
+pub mark_few : (w : List ℕ) → IsMark w → length w ≤ 2
 mark_few w (single b h) = omega arith
 mark_few w (double a b h) = omega arith
 

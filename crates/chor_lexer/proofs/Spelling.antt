@@ -256,7 +256,7 @@ text_is names texts Last b t d s h = absurd h
 
 -- ---- one expression
 
-name_of : (names : List (List ℕ)) (x : NameId) (w : List ℕ) → slice_get names x.0 ≡ Some w → name_in names x ≡ w
+pub name_of : (names : List (List ℕ)) (x : NameId) (w : List ℕ) → slice_get names x.0 ≡ Some w → name_in names x ≡ w
 name_of names x w e = go names x.0 w e
   where
     go : (ws : List (List ℕ)) (i : ℕ) (w : List ℕ) → slice_get ws i ≡ Some w → slice_index_or ws i [] ≡ w

@@ -9,6 +9,7 @@ use Rattle.chor_lexer.specs.declared.mark.Mark.TheVariants.{OpenParen, ClosePare
 use Rattle.chor_lexer.specs.declared.token.Token.{Token}
 use Rattle.chor_lexer.specs.Lexeme.{Symbol, word, number, text, mark, IsLexeme}
 use Rattle.chor_lexer.specs.Tokens.{Spells}
+use Rattle.chor_lexer.specs.Grammar.{IsExpr}
 use Rattle.chor_lexer.specs.Keywords.{IsName}
 use Rattle.chor_lexer.specs.Canonical.{unary_mark, binary_mark, strength_of, left_needs, right_needs}
 
@@ -59,3 +60,10 @@ expr_symbols names texts (Binary op e f) =
 -- token by token
 abbrev pub SpellAll : List (List ℕ) → List (List ℕ) → List Token → List Symbol → Type 0
 SpellAll names texts ts ss = AllZip (λ t s. Spells names texts t.kind s) ts ss
+
+-- all tokens but the last one are this expression
+pub record IsAllButLast (names : List (List ℕ)) (ts : List Token) (x : Term) : Type 0 where
+  pub written : List Token
+  pub end : Token
+  pub parts : ts ≡ written ++ end ∷ []
+  pub is : IsExpr names written x

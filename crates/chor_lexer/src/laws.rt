@@ -7,13 +7,13 @@ ghost use Rattle.chor_base.specs.declared.expr.BinOp.{BinOp};
 ghost use Rattle.chor_base.specs.declared.rule.Place.{Place};
 ghost use Rattle.chor_base.specs.declared.rule.Rule.{Rule};
 ghost use Rattle.chor_lexer.specs.Lexeme.{Lexeme};
-ghost use Rattle.chor_lexer.specs.Tokens.{IsTokens};
+ghost use Rattle.chor_lexer.specs.Tokens.{IsTokens, AreSpelled};
 ghost use Rattle.chor_lexer.specs.Refusal.{Refuses};
 ghost use Rattle.chor_lexer.specs.declared.token.Token.{Token};
 ghost use Rattle.chor_lexer.specs.Keywords.{HasMark};
-ghost use Rattle.chor_lexer.specs.Canonical.{binary_mark};
+ghost use Rattle.chor_lexer.specs.Canonical.{binary_mark, expr_text};
 ghost use Rattle.chor_lexer.specs.Grammar.{IsExpr, IsLongestFront};
-ghost use Rattle.chor_lexer.specs.Spelling.{IsSource, expr_symbols, SpellAll};
+ghost use Rattle.chor_lexer.specs.Spelling.{IsSource, IsAllButLast, expr_symbols, SpellAll};
 
 /// Bytes have one list of tokens at most.
 pub fn one_reading()
@@ -44,4 +44,10 @@ pub fn derived_is_longest()
 /// What the canonical text of an expression spells is that expression.
 pub fn symbols_read_back()
     ensures { (names texts : List (List ℕ)) (x : Term) (ts : List Token) → AllDistinct names → AllDistinct texts → IsSource names texts x → SpellAll names texts ts (expr_symbols names texts x) → IsExpr names ts x }
+{}
+
+/// The canonical text of an expression reads back: where it has tokens, they are the expression,
+/// and then the end.
+pub fn text_reads_back()
+    ensures { (names texts : List (List ℕ)) (x : Term) (ls : List Lexeme) (ts : List Token) → AllDistinct names → AllDistinct texts → IsSource names texts x → IsTokens (expr_text names texts x) ls → AreSpelled names texts ts ls → IsAllButLast names ts x }
 {}

@@ -21,6 +21,7 @@ pub use expression::read_expr;
 pub use keyword::is_keyword;
 pub use laws::{
     derived_is_longest, never_both, one_expression, one_reading, one_refusal, symbols_read_back,
+    text_reads_back,
 };
 pub use lex::tokens;
 pub use mark::Mark;
