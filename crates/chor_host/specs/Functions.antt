@@ -1,8 +1,9 @@
 -- What contracts see of host functions. X and g stand for what a function pointer calls.
-use Rattle.std.specs.Prelude.{ℕ, ℤ, Bool, List, map, bytes_eq}
+use Rattle.std.specs.Prelude.{ℕ, ℤ, Bool, List, [], ◌∷◌, ◌++◌, map, Option, Some, None, position, bytes_eq}
 use Rattle.std.specs.List.{list_any}
 use denote.Param.Members.{Mut}
 use Rattle.chor_base.specs.declared.meaning.Meaning.{Meaning}
+use Rattle.chor_base.specs.Meaning.{Hosts}
 use Rattle.chor_host.specs.declared.function.HostFn.{HostFn}
 
 -- a host function by its name, with what it may answer
@@ -18,3 +19,12 @@ is_named fs w = list_any (bytes_eq w) (names_of fs)
 
 abbrev pub function_of : {X : Type 0} {g : Mut X (ℤ × (ℤ × Unit {0})) ℤ} → HostFn X g → Function
 function_of f = (f.name, f.meaning)
+
+abbrev pub numbered : Option ℕ → Meaning → Hosts
+numbered None m = []
+numbered (Some n) m = (record { 0 = n }, m) ∷ []
+
+-- The functions by the numbers that their names have in a table of names. No program can call one whose name isn't there
+abbrev pub hosts_in : List (List ℕ) → List Function → Hosts
+hosts_in names [] = []
+hosts_in names (f ∷ fs) = numbered (position (bytes_eq f.0) names) f.1 ++ hosts_in names fs

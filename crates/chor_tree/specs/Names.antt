@@ -102,7 +102,8 @@ step_faults f p (Choice a b arms) = unknown (names_in p.roles) a ++ unknown (nam
 abbrev pub protocol_faults : File → Protocol → List NameFault
 protocol_faults f p = repeated [] p.roles ++ repeated [] (map (λ s. s.name) p.states) ++ flat_map (λ s. step_faults f p s.step) p.states
 
--- N3, at the name of a channel whose roles, active ones and service roles together, aren't its protocol's roles, each once
+-- N3, at the name of a channel whose roles, active ones and service roles together, aren't its protocol's roles, each once.
+-- So a role that the protocol hasn't, or one that stands twice, is told at the channel's name
 abbrev pub wrong_roles : Option Protocol → Service → List NameFault
 wrong_roles None s = []
 wrong_roles (Some p) s = fault_if (not (has_each_once (names_in p.roles) (names_in (s.active ++ s.serve)))) N3 s.name
