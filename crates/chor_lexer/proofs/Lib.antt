@@ -15,3 +15,4 @@ pub mod Viable
 pub mod Longest
 pub mod Spelling
 pub mod Printed
+pub mod Total

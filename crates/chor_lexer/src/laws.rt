@@ -8,7 +8,7 @@ ghost use Rattle.chor_base.specs.declared.rule.Place.{Place};
 ghost use Rattle.chor_base.specs.declared.rule.Rule.{Rule};
 ghost use Rattle.chor_lexer.specs.Lexeme.{Lexeme};
 ghost use Rattle.chor_lexer.specs.Tokens.{IsTokens, AreSpelled};
-ghost use Rattle.chor_lexer.specs.Refusal.{Refuses};
+ghost use Rattle.chor_lexer.specs.Refusal.{Refuses, HasNeither};
 ghost use Rattle.chor_lexer.specs.declared.token.Token.{Token};
 ghost use Rattle.chor_lexer.specs.Keywords.{HasMark};
 ghost use Rattle.chor_lexer.specs.Canonical.{binary_mark, expr_text};
@@ -28,6 +28,11 @@ pub fn never_both()
 /// Bytes are refused by one rule at most, and at one place.
 pub fn one_refusal()
     ensures { (bytes : List ℕ) (r s : Rule) (p q : Place) → Refuses bytes r p → Refuses bytes s q → (r ≡ s) × (p ≡ q) }
+{}
+
+/// No bytes have neither tokens nor a refusal.
+pub fn never_neither()
+    ensures { (bytes : List ℕ) → HasNeither bytes → ⊥ }
 {}
 
 /// Tokens are one expression at most.
