@@ -1,9 +1,8 @@
 -- The canonical text of an expression is cut into the tokens that it spells.
-use Rattle.std.proofs.Common.{◌≡◌, ◌≢◌, ◌<◌, ◌≤◌, ◌+◌, ◌^◌, ◌==◌, ◌||◌, ◌&&◌, not, ℕ, ℤ, pos, suc, zero, Bool, true, false, List, [], ◌∷◌, ◌++◌, length, map, Option, Some, None, refl, sym, ap, ◌∙◌, subst, arith, append_assoc, length-append, nat_lt, slice_get, ◌⊎◌, inl, inr, codes, rules}
+use Rattle.std.proofs.Common.{◌≡◌, ◌≢◌, ◌<◌, ◌≤◌, ◌^◌, ◌==◌, ◌||◌, ◌&&◌, not, ℕ, ℤ, Bool, true, false, List, [], ◌∷◌, ◌++◌, length, map, Option, refl, sym, ap, ◌∙◌, subst, arith, append_assoc, length-append, nat_lt, ◌⊎◌, inl, inr, codes, rules}
 use Rattle.std.specs.Prelude.{if◌then◌else◌}
 use Rattle.std.specs.Char.{is_ascii_digit}
 use Rattle.std.specs.Fmt.{decimal, signed_decimal}
-use Rattle.std.specs.List.{AllByRecursion}
 use Rattle.std.specs.Str.Parse.{digits_value}
 use Rattle.std.proofs.lemmas.Bool.Decides.{nat_tests, Decides-eqb}
 use Rattle.std.proofs.lemmas.Fmt.{decimal_nonempty, digits_decimal, digits_value-decimal}
@@ -21,17 +20,16 @@ use Rattle.chor_base.specs.Words.{AllDistinct}
 use Rattle.chor_base.specs.Writing.{name_in, truth_text, escaped_byte, literal, literal_in}
 use Rattle.chor_base.specs.Writing as writing
 use Rattle.chor_lexer.specs.declared.mark.Mark.{Mark}
-use Rattle.chor_lexer.specs.declared.mark.Mark.TheVariants.{OpenBrace, CloseBrace, OpenParen, CloseParen, OpenBracket, CloseBracket, Comma, Semicolon, Colon, Dot, Assign, Becomes, Arrow, Bar, At, Plus, Minus, Star, Slash, Equal, NotEqual, Less, LessEqual, And, Or, Not}
+use Rattle.chor_lexer.specs.declared.mark.Mark.TheVariants.{OpenParen, CloseParen, Becomes, Arrow, Plus, Minus, Star, Slash, Equal, NotEqual, Less, LessEqual, And, Or, Not}
 use Rattle.chor_lexer.specs.declared.token.Token.{Token}
 use Rattle.chor_lexer.specs.Mark.{spelling}
 use Rattle.chor_lexer.specs.Text.{is_plain, IsTextOf, nothing, plain, escape}
 use Rattle.chor_lexer.specs.Lexeme.{Symbol, word, number, text, mark, last, Lexeme, is_letter, is_word_byte, IsLexeme, is_word, is_number, is_text, is_mark, IsLongest}
-use Rattle.chor_lexer.specs.Cut.{start, place_after, IsBlank, space, NoBlank, IsNext, IsCut, here, blank, token}
-use Rattle.chor_lexer.specs.Tokens.{IsTokens, Spells, AreSpelled}
+use Rattle.chor_lexer.specs.Cut.{start, place_after, space, IsNext, IsCut, here, blank, token}
+use Rattle.chor_lexer.specs.Tokens.{IsTokens, AreSpelled}
 use Rattle.chor_lexer.specs.Scan.{Begins}
 use Rattle.chor_lexer.specs.Canonical.{unary_mark, binary_mark, strength_of, left_needs, right_needs, enclosed, operand_text, constant_text, expr_text}
-use Rattle.chor_lexer.specs.Grammar.{IsExpr}
-use Rattle.chor_lexer.specs.Spelling.{IsLiteral, IsSource, enclosed_symbols, operand_symbols, text_symbols, constant_symbols, expr_symbols, SpellAll, IsAllButLast}
+use Rattle.chor_lexer.specs.Spelling.{IsLiteral, IsSource, enclosed_symbols, text_symbols, constant_symbols, expr_symbols, SpellAll, IsAllButLast}
 use Rattle.chor_lexer.proofs.Texts.{heads, tails}
 use Rattle.chor_lexer.proofs.Runs.{Passes}
 use Rattle.chor_lexer.proofs.Fronts.{IsMark, single, double, mark_is, lexeme_long, lexeme_class, symbol_class}
