@@ -20,6 +20,7 @@ is_named fs w = list_any (bytes_eq w) (names_of fs)
 abbrev pub function_of : {X : Type 0} {g : Mut X (ℤ × (ℤ × Unit {0})) ℤ} → HostFn X g → Function
 function_of f = (f.name, f.meaning)
 
+-- what a function with this meaning gives, where its name has a number or none
 abbrev pub numbered : Option ℕ → Meaning → Hosts
 numbered None m = []
 numbered (Some n) m = (record { 0 = n }, m) ∷ []
