@@ -1,3 +1,4 @@
 pub mod Ascents
 pub mod ArmLists
 pub mod Lines
+pub mod Sorting

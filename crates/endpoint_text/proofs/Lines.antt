@@ -1,6 +1,6 @@
 -- How the text of a node's code is made of the texts of those that follow it.
-use Rattle.std.proofs.Common.{◌≡◌, ℕ, zero, suc, ◌+◌, ◌<◌, List, [], ◌∷◌, ◌++◌, length, map, Some, None, refl, sym, ap, subst, ◌∙◌, arith, append_assoc, codes}
-use Rattle.std.specs.Prelude.{All, slice_index_or}
+use Rattle.std.proofs.Common.{◌≡◌, ℕ, ◌+◌, ◌<◌, List, [], ◌∷◌, ◌++◌, map, Some, refl, sym, ap, subst, ◌∙◌, arith, codes}
+use Rattle.std.specs.Prelude.{All}
 use Rattle.std.specs.List.{flat_map}
 use Rattle.std.proofs.lemmas.List.Elements.{All-nil, All-cons, All-head, All-tail}
 use Rattle.chor_base.specs.declared.names.NameId.{NameId}
@@ -11,7 +11,7 @@ use Rattle.endpoint_code.specs.declared.code.CodeNode.TheVariants.{Join, Send, R
 use Rattle.endpoint_code.specs.declared.endpoints.Endpoints.{Endpoints}
 use Rattle.endpoint_code.specs.Code.{children_of}
 use Rattle.endpoint_code.specs.Heads.{head_of, next_of}
-use Rattle.endpoint_code.specs.Trees.{CodeTree, Arms, tree_in, arms_in, node_tree, trees_of}
+use Rattle.endpoint_code.specs.Trees.{CodeTree, tree_in, arms_in, node_tree, trees_of}
 use Rattle.endpoint_code.proofs.Sizes.{size}
 use Rattle.endpoint_text.specs.Ascending.{ascending}
 use Rattle.endpoint_text.specs.Places.{label_in}

@@ -3,9 +3,11 @@
 
 mod arms;
 mod code;
+mod laws;
 mod print;
 #[cfg(test)]
 mod tests;
 mod words;
 
+pub use laws::labels_ascend;
 pub use print::print_endpoints;

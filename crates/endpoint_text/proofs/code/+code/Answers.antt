@@ -1,4 +1,4 @@
-use Rattle.std.proofs.Common.{◌≡◌, ◌<◌, arith}
+use Rattle.std.proofs.Common.{arith}
 use Rattle.endpoint_text.proofs.ArmLists.{above_here, above_least}
 use Rattle.std.proofs.lemmas.Grind.{common_steps}
 use Rattle.endpoint_text.proofs.Lines.{if_below, branch_below, branch_text, sorted_below}

@@ -1,0 +1,14 @@
+//! Host functions: functions of the program that choreographies call by name.
+#![tactic(auto)]
+
+mod fault;
+mod function;
+mod operations;
+mod table;
+#[cfg(test)]
+mod tests;
+
+pub use fault::AddFault;
+pub use function::HostFn;
+pub use operations::{host_gap, host_max, host_min};
+pub use table::HostTable;

@@ -1,0 +1,93 @@
+//! What a table of host functions does.
+
+ghost use Rattle.std.specs.Prelude.{◌≡◌, ◌<◌, ◌+◌, ◌^◌, ◌++◌, ◌∷◌, [], ◌↔◌, false, length, slice_get, OnOk, OnErr, IfErr, IfSome, IfNone, IsTrue};
+ghost use Rattle.chor_host.specs.Functions.{function_of, is_named, names_of};
+ghost use Rattle.chor_host.specs.Tables.{functions_of};
+
+use crate::fault::AddFault;
+use crate::function::HostFn;
+use crate::table::HostTable;
+use chor_base::Names;
+use std::alloc::Global;
+
+impl HostTable {
+    /// No functions. It takes no memory.
+    pub fn new(alloc: Global) -> Self
+        ensures { functions_of result ≡ [] }
+    {
+        HostTable {
+            names: Names::new(alloc),
+            functions: Vec::new(alloc),
+        }
+    }
+
+    /// How many functions there are.
+    pub fn len(&self) -> usize
+        ensures { result ≡ length (functions_of self.now) }
+    {
+        self.functions.len()
+    }
+
+    /// Adds a function after all others. A table of 2^32 - 1 functions answers `Memory`.
+    pub fn add(&mut self, f: HostFn) -> Result<(), AddFault>
+        ensures ok { OnOk result (functions_of self.new ≡ functions_of self.old ++ function_of f ∷ []) }
+        ensures twice { (result ≡ Err AddFault.Twice) ↔ IsTrue (is_named (functions_of self.old) f.name) }
+        ensures err { OnErr result (functions_of self.new ≡ functions_of self.old) }
+    {
+        if self.has(f.name.as_slice()) {
+            return Err(AddFault::Twice);
+        }
+        if self.functions.len() >= u32::MAX as usize {
+            return Err(AddFault::Memory);
+        }
+        self.push(f)
+    }
+
+    // Whether a function has this name.
+    #[tactic(auto, using(crate::proofs::Named::named_at))]
+    fn has(&self, name: &[u8]) -> bool
+        ensures { result ≡ is_named (functions_of self.now) name.now }
+    {
+        match self.find(name) {
+            Some(_) => true,
+            None => false,
+        }
+    }
+
+    // One more function, of a name that isn't there.
+    fn push(&mut self, f: HostFn) -> Result<(), AddFault>
+        requires absent { is_named (functions_of self.old) f.name ≡ false }
+        requires room { length (functions_of self.old) + 1 < 2 ^ 32 }
+        ensures ok { OnOk result (functions_of self.new ≡ functions_of self.old ++ function_of f ∷ []) }
+        ensures memory { IfErr result (λ fault. fault ≡ AddFault.Memory) }
+        ensures err { OnErr result (functions_of self.new ≡ functions_of self.old) }
+    {
+        self.functions.reserve(1).map_err(|_| AddFault::Memory)?;
+        self.names
+            .intern(f.name.as_slice())
+            .map_err(|_| AddFault::Memory)?;
+        match self.functions.push(f) {
+            Ok(()) => Ok(()),
+            Err(_) => unreachable!(),
+        }
+    }
+
+    /// The number of the function of this name. It takes no memory.
+    pub fn find(&self, name: &[u8]) -> Option<u32>
+        ensures found { IfSome result (λ index. slice_get (names_of (functions_of self.now)) index ≡ Some name.now) }
+        ensures absent { IfNone result (is_named (functions_of self.now) name.now ≡ false) }
+    {
+        match self.names.find(name) {
+            Some(name) => Some(name.0),
+            None => None,
+        }
+    }
+
+    /// The function of this number. It takes no memory.
+    pub fn at(&self, index: u32) -> &HostFn
+        requires { index < length (functions_of self.now) }
+        ensures { slice_get (functions_of self.now) index ≡ Some (function_of result.now) }
+    {
+        &self.functions[index as usize]
+    }
+}
