@@ -13,3 +13,4 @@ pub mod Sources
 pub mod Calls
 pub mod Projected
 pub mod Settled
+pub mod Followed

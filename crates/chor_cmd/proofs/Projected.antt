@@ -312,18 +312,18 @@ no_pairs R (x ∷ xs) ys e z = absurd (clash x xs e)
 
 -- ---- the projection of a thin file is its endpoints
 
-pub projected_are : (f : File) (e : Endpoints) (t : Thin NameId) → IsRunnable f t → Projects f e → AreEndpointsOf e t
-projected_are f e t h p = record {
-  channels = p.channels ∙ channels_of f t h.shape;
-  procedures = no_pairs (IsProcedureOf f e) (parameters_of f.procs) e.procedures (ap parameters_of h.shape.procs) p.procedures;
-  services = no_pairs (IsServiceOf f e) (service_roles (started_services f)) e.services (no_service_roles f t h.shape) p.services;
+pub apart_are : (f : File) (e : Endpoints) (t : Thin NameId) → HasShape f t → t.first_process.0 ≢ t.second_process.0 → Projects f e → AreEndpointsOf e t
+apart_are f e t h apart p = record {
+  channels = p.channels ∙ channels_of f t h;
+  procedures = no_pairs (IsProcedureOf f e) (parameters_of f.procs) e.procedures (ap parameters_of h.procs) p.procedures;
+  services = no_pairs (IsServiceOf f e) (service_roles (started_services f)) e.services (no_service_roles f t h) p.services;
   body = λ d. if d then two.one else two.other;
   processes = two.are;
   bodies = bodies;
 }
   where
     two : Two f e t e.processes
-    two = two_of f e t f.processes e.processes h.shape.processes p.processes
+    two = two_of f e t f.processes e.processes h.processes p.processes
 
     Within : Process → Type 0
     Within q = q.body.0 < length e.code.nodes
@@ -338,8 +338,11 @@ projected_are f e t h p = record {
     inside = subst (All Within) two.are e.inside.in_processes
 
     bodies : (d : Bool) → IsBody e.code.nodes t d (if d then two.one else two.other)
-    bodies true = body_at t h.processes e.code.nodes e.code.closed f.procs true two.one (All-head Within first (second ∷ []) inside) (subst (λ (c : Choreography). IsCodeOf f.procs t.first_process c (code_at e.code.nodes two.one)) h.shape.tree two.of_one)
-    bodies false = body_at t h.processes e.code.nodes e.code.closed f.procs false two.other (All-head Within second [] (All-tail Within first (second ∷ []) inside)) (subst (λ (c : Choreography). IsCodeOf f.procs t.second_process c (code_at e.code.nodes two.other)) h.shape.tree two.of_other)
+    bodies true = body_at t apart e.code.nodes e.code.closed f.procs true two.one (All-head Within first (second ∷ []) inside) (subst (λ (c : Choreography). IsCodeOf f.procs t.first_process c (code_at e.code.nodes two.one)) h.tree two.of_one)
+    bodies false = body_at t apart e.code.nodes e.code.closed f.procs false two.other (All-head Within second [] (All-tail Within first (second ∷ []) inside)) (subst (λ (c : Choreography). IsCodeOf f.procs t.second_process c (code_at e.code.nodes two.other)) h.tree two.of_other)
+
+pub projected_are : (f : File) (e : Endpoints) (t : Thin NameId) → IsRunnable f t → Projects f e → AreEndpointsOf e t
+projected_are f e t h p = apart_are f e t h.shape h.processes p
 
 -- ---- the network runs them
 

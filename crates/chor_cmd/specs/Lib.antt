@@ -5,6 +5,7 @@ pub mod Pieces
 pub mod Reading
 pub mod ThinFile
 pub mod Source
+pub mod Following
 pub mod Words
 pub mod Status
 pub mod Endings

@@ -1,4 +1,4 @@
-//! What holds of all calls: the words, and the file that was read, settle how a call ends.
+//! What the projection of a thin file means, and how the words and the file settle how a call ends.
 
 ghost use Rattle.std.specs.Prelude.{◌≡◌, ◌<◌, ◌≤◌, ℕ, List, length};
 ghost use Rattle.chor_base.specs.declared.rule.Place.{Place};
@@ -7,12 +7,19 @@ ghost use Rattle.chor_tree.specs.declared.file.File.{File};
 ghost use Rattle.chor_lexer.specs.Refusal.{Refuses};
 ghost use Rattle.chor_cmd.specs.declared.status.Status.{Status as Ending};
 ghost use Rattle.chor_cmd.specs.declared.words.Words.{Words as CommandWords};
+ghost use Rattle.chor_cmd.specs.Following.{ProjectionsFollow};
 ghost use Rattle.chor_cmd.specs.Words.{HasNoForm};
 ghost use Rattle.chor_cmd.specs.ThinFile.{IsThinSource, IsNoSource};
 ghost use Rattle.chor_cmd.specs.Source.{HasTokens};
 ghost use Rattle.chor_cmd.specs.Endings.{Ends, Told, ReadAndEnds, refused_line, source_limit};
 
 use crate::status::Status;
+
+/// The projection of a thin file of two different processes follows it: each process's code does
+/// what the choreography has that process do, with any fuel.
+pub fn thin_projections_follow()
+    ensures { ProjectionsFollow }
+{}
 
 /// Where the words are of no form, this is the answer.
 pub fn no_form()

@@ -3,7 +3,7 @@
 
 mod command;
 mod endpoints;
-mod laws;
+pub mod laws;
 mod output;
 mod piece;
 mod reader;
@@ -16,7 +16,6 @@ mod words;
 mod written;
 
 pub use command::chor;
-pub use laws::{no_form, what_a_file_gets};
 pub use status::Status;
 pub use words::{Command, Words, read_words};
 

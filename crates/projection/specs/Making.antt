@@ -90,6 +90,7 @@ pub record Puts (old new : List CodeNode) (part : Part) (next id : CodeId) : Typ
   pub is : new ≡ old ++ more
   pub only : All (IsStep next part) more
 
+-- the process stands in the list
 pub record IsDeclared (processes : List Written) (p : Written) : Type 0 where
   pub place : ℕ
   pub is : slice_get processes place ≡ Some p

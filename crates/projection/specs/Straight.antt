@@ -57,6 +57,7 @@ pub record IsPartOf (processes : List Written) (main : Choreography) (n : CodeNo
   pub next : CodeId
   pub does : IsStep next (part_in process.name node) n
 
+-- the node is an end, or what one of these processes does
 pub data IsPartOrEnd (processes : List Written) (main : Choreography) (n : CodeNode) : Type 0 where
   is_end : n ≡ End → IsPartOrEnd processes main n
   is_part : IsPartOf processes main n → IsPartOrEnd processes main n

@@ -9,5 +9,7 @@ pub mod examples;
 mod line;
 mod part;
 mod straight;
+#[cfg(test)]
+mod tests;
 
 pub use straight::project;
