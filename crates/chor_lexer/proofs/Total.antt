@@ -1,16 +1,14 @@
 -- No bytes have neither tokens nor a refusal. Where nothing is to be proved, each statement may be taken to hold or not.
 use Rattle.std.proofs.Common.{◌≡◌, ◌≢◌, ◌<◌, ◌≤◌, ◌+◌, ◌^◌, suc, zero, ℕ, Bool, true, false, List, [], ◌∷◌, ◌++◌, length, Option, Some, None, refl, sym, ap, ◌∙◌, subst, arith, append_assoc, length-append, nat_lt}
 use Rattle.std.proofs.lemmas.Bool.Decides.{nat_tests}
-use Rattle.std.proofs.lemmas.List.{append-nil}
 use Rattle.std.specs.Str.{IsUtf8}
 use Rattle.chor_base.specs.declared.rule.Place.{Place}
 use Rattle.chor_base.specs.declared.rule.Rule.{Rule}
 use Rattle.chor_base.specs.declared.rule.Rule.TheVariants.{L1, L2, L3, L4, L5}
-use Rattle.chor_lexer.specs.Text.{escaped, IsTextOf, nothing, plain, escape, IsBody, empty, one, two, IsUnclosed}
+use Rattle.chor_lexer.specs.Text.{escaped, IsTextOf, nothing, plain, escape, IsBody, empty, one, two}
 use Rattle.chor_lexer.specs.Lexeme.{Symbol, word, number, text, mark, last, Lexeme, IsLexeme, is_word, is_number, is_text, is_mark, IsLongest, NoLexeme, IsWithin}
-use Rattle.chor_lexer.specs.Cut.{start, place_after, IsBlank, space, comment, NoBlank, IsNext, IsCut, here, blank, token}
-use Rattle.chor_lexer.specs.Tokens.{IsTokens}
-use Rattle.chor_lexer.specs.Refusal.{IsFault, no_token, wrong_escape, open_text, great_number, long_word, long_text, Refuses, malformed, faulty, HasNeither}
+use Rattle.chor_lexer.specs.Cut.{start, place_after, IsBlank, space, comment, NoBlank, IsCut, here, blank, token}
+use Rattle.chor_lexer.specs.Refusal.{IsFault, no_token, wrong_escape, open_text, great_number, long_word, long_text, malformed, faulty, HasNeither}
 use Rattle.chor_lexer.proofs.Texts.{text_body}
 use Rattle.chor_lexer.proofs.Fronts.{lexeme_long}
 use Rattle.chor_lexer.proofs.Cuts.{cut_on}
