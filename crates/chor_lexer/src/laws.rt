@@ -1,4 +1,4 @@
-//! What holds of all bytes.
+//! What holds of all bytes, and of all expressions.
 
 ghost use Rattle.std.specs.Prelude.{◌≡◌, ℕ, List, ◌∷◌, ◌++◌};
 ghost use Rattle.chor_base.specs.Words.{AllDistinct};

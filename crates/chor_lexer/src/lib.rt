@@ -1,4 +1,4 @@
-//! Cuts the bytes of a file into tokens: words, numbers, texts and marks.
+//! Cuts the bytes of a file into tokens, and reads and writes expressions.
 #![tactic(auto)]
 
 mod canonical;
