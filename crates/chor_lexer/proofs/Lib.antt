@@ -7,3 +7,8 @@ pub mod Spelled
 pub mod Cuts
 pub mod Faults
 pub mod Progress
+pub mod Keywords
+pub mod Levels
+pub mod Operands
+pub mod Derivations
+pub mod Viable

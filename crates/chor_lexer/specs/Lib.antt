@@ -8,3 +8,5 @@ pub mod Scan
 pub mod Canonical
 pub mod Keywords
 pub mod Grammar
+pub mod Turns
+pub mod Reading

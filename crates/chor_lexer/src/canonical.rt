@@ -126,7 +126,7 @@ fn binary_mark(op: BinOp) -> Mark
 }
 
 // How strongly an operator binds.
-fn strength(op: BinOp) -> u8
+pub fn strength(op: BinOp) -> u8
     ensures { result ≡ strength op }
 {
     match op {

@@ -2,7 +2,10 @@
 #![tactic(auto)]
 
 mod canonical;
+mod expression;
+mod keyword;
 mod laws;
+mod level;
 mod lex;
 mod mark;
 mod number;
