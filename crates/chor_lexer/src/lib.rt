@@ -15,6 +15,7 @@ mod text;
 mod token;
 
 pub use canonical::print_expr;
+pub use keyword::is_keyword;
 pub use laws::{never_both, one_reading, one_refusal};
 pub use lex::tokens;
 pub use mark::Mark;

@@ -1,10 +1,13 @@
 -- What the readers answer, in the words of the grammar.
-use Rattle.std.specs.Prelude.{◌≡◌, ℕ, List, [], ◌∷◌, ◌++◌, drop, codes}
+use Rattle.std.specs.Prelude.{◌≡◌, ◌<◌, ℕ, List, [], ◌∷◌, ◌++◌, length, drop, map, codes}
+use Rattle.std.specs.List.{AllByRecursion}
 use Rattle.chor_base.specs.declared.rule.Place.{Place}
 use Rattle.chor_base.specs.Expr.{term_of}
 use Rattle.chor_lexer.specs.declared.mark.Mark.TheVariants.{OpenBracket, Colon, Dot, Becomes, Arrow}
+use Rattle.chor_lexer.specs.declared.token.Kind.TheVariants as kind
 use Rattle.chor_lexer.specs.declared.token.Token.{Token}
 use Rattle.chor_tree.specs.declared.file.Named.{Named}
+use Rattle.chor_tree.specs.declared.file.Proc.{Proc}
 use Rattle.chor_tree.specs.declared.file.Service.{Service}
 use Rattle.chor_tree.specs.declared.protocol.Protocol.{Protocol}
 use Rattle.chor_tree.specs.declared.protocol.ProtoStep.{ProtoStep}
@@ -15,18 +18,26 @@ use Rattle.chor_tree.specs.declared.tree.Form.{Form}
 use Rattle.chor_tree.specs.declared.tree.Form.TheVariants as form
 use Rattle.chor_parser.specs.declared.input.Input.{Input}
 use Rattle.chor_parser.specs.declared.block.Line.{Line}
+use Rattle.chor_parser.specs.declared.source.Declared.{Declared}
 use Rattle.chor_parser.specs.declared.statement.Statement.{Statement as Read}
 use Rattle.chor_parser.specs.declared.statement.Statement.TheVariants as read
-use Rattle.chor_parser.specs.Source.{Statement, Starts, Sends, Selects, Gives, Sets, Asks, Shows, Block, Then}
-use Rattle.chor_parser.specs.Grammar.{MarkIs, WordIs, NameIs, StandsAt, PartIs, ProtocolIs, ServiceIs, StepIs, StatementIs, LinesAre, TailIs}
+use Rattle.chor_parser.specs.Source.{Statement, Starts, Sends, Selects, Gives, Sets, Asks, Shows, Block, Then, Procedure, Items, procedure_of}
+use Rattle.chor_parser.specs.Grammar.{MarkIs, WordIs, NameIs, StandsAt, PartIs, ProtocolIs, ServiceIs, StepIs, StatementIs, LinesAre, TailIs, ProcedureIs, ItemsAre, EndIs, FileIs}
 
 -- the words by their numbers
 abbrev pub names_of : Input → List (List ℕ)
 names_of input = input.names.now
 
 -- the tokens from a place on
-abbrev pub from : Input → ℕ → List Token
-from input at = drop at input.tokens.now
+abbrev pub tokens_from : Input → ℕ → List Token
+tokens_from input at = drop at input.tokens.now
+
+-- the next token is the end of the file
+pub record Ends (ts : List Token) : Type 0 where
+  pub token : Token
+  pub rest : List Token
+  pub parts : ts ≡ token ∷ rest
+  pub last : token.kind ≡ kind.Last
 
 -- ---- what is left of a production, where its front is known
 
@@ -125,3 +136,40 @@ LinesGo names ts ls rest = (b : Block) (end : List Token) → LinesAre names res
 -- a table has grown
 abbrev pub Grows : List Node → List Node → Type 0
 Grows old new = (more : List Node) × (new ≡ old ++ more)
+
+-- ---- what stands before main
+
+-- what was read so far
+abbrev pub items_of : Declared → Items
+items_of d = record { protocols = d.protocols; services = d.services; procedures = map (procedure_of d.tree.nodes) d.procs }
+
+-- the one and then the other
+abbrev pub joined : Items → Items → Items
+joined is js = record {
+  protocols = is.protocols ++ js.protocols;
+  services = is.services ++ js.services;
+  procedures = is.procedures ++ js.procedures;
+}
+
+-- the bodies begin at nodes of the table
+abbrev pub AreThere : List Node → List Proc → Type 0
+AreThere nodes ps = AllByRecursion (λ p. p.body.0 < length nodes) ps
+
+-- after "proc"
+abbrev pub IsRestOfProcedure : List (List ℕ) → List Token → Procedure → List Token → Type 0
+IsRestOfProcedure names ts p rest = (t0 : List Token) → WordIs names (codes "proc") t0 ts → ProcedureIs names t0 p rest
+
+-- main, after what is declared
+abbrev pub IsRestOfMain : List (List ℕ) → List Token → List Named → Block → List Token → Type 0
+IsRestOfMain names ts ps b rest =
+    (t0 : List Token) (is : Items) → ItemsAre names t0 is ts → EndIs rest → FileIs names t0 (record { items = is; processes = ps; body = b })
+
+-- with one item more, what follows it is all that follows what was read before
+pub record ItemGoes (names : List (List ℕ)) (ts : List Token) (old new : Declared) (rest : List Token) : Type 0 where
+  pub shorter : length rest < length ts
+  pub reads : (is : Items) (end : List Token) → ItemsAre names rest is end
+      → (js : Items) × ItemsAre names ts js end × (joined (items_of old) js ≡ joined (items_of new) is)
+
+-- these are the items before the rest
+pub record ItemsGo (names : List (List ℕ)) (ts : List Token) (d : Declared) (rest : List Token) : Type 0 where
+  pub reads : (is : Items) (end : List Token) → ItemsAre names rest is end → ItemsAre names ts (joined (items_of d) is) end

@@ -3,7 +3,7 @@
 ghost use Rattle.std.specs.Prelude.{◌≡◌, ◌<◌, ◌≤◌, ◌++◌, ◌∷◌, [], length, IfOk, IfSome, OnOk};
 ghost use Rattle.chor_parser.specs.Source.{block_in, blocks_of};
 ghost use Rattle.chor_parser.specs.Grammar.{MarkIs, StandsAt, BlockIs, TailIs, PassedAre, PassedSessionsAre};
-ghost use Rattle.chor_parser.specs.Reading.{names_of, from, with_lines, LinesGo, Grows, IsRestOfCall, IsRestOfConditional};
+ghost use Rattle.chor_parser.specs.Reading.{names_of, tokens_from, with_lines, LinesGo, Grows, IsRestOfCall, IsRestOfConditional};
 
 use crate::expression::read_expression;
 use crate::input::Input;
@@ -36,7 +36,7 @@ pub fn read_body(
     at: usize,
     tree: &mut Tree,
 ) -> Result<(NodeId, usize), Denied>
-    ensures read { IfOk result (λ x. BlockIs (names_of input.now) (from input.now at) (block_in (blocks_of tree.new.nodes) x.0) (from input.now x.1)) }
+    ensures read { IfOk result (λ x. BlockIs (names_of input.now) (tokens_from input.now at) (block_in (blocks_of tree.new.nodes) x.0) (tokens_from input.now x.1)) }
     ensures there { IfOk result (λ x. x.0.0 < length tree.new.nodes) }
     ensures grows { OnOk result (Grows tree.old.nodes tree.new.nodes) }
 {
@@ -57,7 +57,7 @@ fn read_block(
     tree: &mut Tree,
     room: Room,
 ) -> Result<(NodeId, usize), Denied>
-    ensures read { IfOk result (λ x. BlockIs (names_of input.now) (from input.now at) (block_in (blocks_of tree.new.nodes) x.0) (from input.now x.1)) }
+    ensures read { IfOk result (λ x. BlockIs (names_of input.now) (tokens_from input.now at) (block_in (blocks_of tree.new.nodes) x.0) (tokens_from input.now x.1)) }
     ensures there { IfOk result (λ x. x.0.0 < length tree.new.nodes) }
     ensures grows { OnOk result (Grows tree.old.nodes tree.new.nodes) }
 {
@@ -75,7 +75,7 @@ fn read_block(
 
 // The place after the brace that opens a block, where so many blocks may be opened.
 fn open_block(input: &Input, at: usize, blocks: usize) -> Result<usize, Denied>
-    ensures after { IfOk result (λ after. MarkIs Mark.OpenBrace (from input.now at) (from input.now after)) }
+    ensures after { IfOk result (λ after. MarkIs Mark.OpenBrace (tokens_from input.now at) (tokens_from input.now after)) }
     ensures room { OnOk result (0 < blocks) }
 {
     let after = input.take_mark(at, Mark::OpenBrace)?;
@@ -92,7 +92,8 @@ fn read_lines(
     at: usize,
     statements: usize,
 ) -> Result<(Vec<Line>, usize), Denied>
-    ensures read { IfOk result (λ x. LinesGo (names_of input.now) (from input.now at) x.0.items (from input.now x.1)) }
+    ensures read { IfOk result (λ x. LinesGo (names_of input.now) (tokens_from input.now at) x.0.items (tokens_from input.now x.1)) }
+    ensures shorter { IfOk result (λ x. length (tokens_from input.now x.1) ≤ length (tokens_from input.now at)) }
     ensures few { IfOk result (λ x. length x.0.items ≤ statements) }
 {
     let mut lines = Vec::new(alloc);
@@ -115,13 +116,13 @@ fn push_line(lines: &mut Vec<Line>, line: Line) -> Result<(), Memory>
 
 // Where the statement stands in the file that begins here, if one does.
 fn statement_at(input: &Input, at: usize) -> Option<Place>
-    ensures { IfSome result (λ place. StandsAt place (from input.now at)) }
+    ensures { IfSome result (λ place. StandsAt place (tokens_from input.now at)) }
 {
-    if input.name_at(at).is_some() || input.after_word(at, b"start".as_slice()).is_some() {
-        Some(input.place_of(at))
-    } else {
-        None
+    if let Some((name, _)) = input.name_at(at) {
+        return Some(name.place);
     }
+    let _after = input.after_word(at, b"start")?;
+    Some(input.place_of(at))
 }
 
 // A statement or tail may stand here, where so many may.
@@ -161,12 +162,12 @@ fn read_tail(
     tree: &mut Tree,
     room: Room,
 ) -> Result<(NodeId, usize), Denied>
-    ensures read { IfOk result (λ x. TailIs (names_of input.now) (from input.now at) (block_in (blocks_of tree.new.nodes) x.0) (from input.now x.1)) }
+    ensures read { IfOk result (λ x. TailIs (names_of input.now) (tokens_from input.now at) (block_in (blocks_of tree.new.nodes) x.0) (tokens_from input.now x.1)) }
     ensures there { IfOk result (λ x. x.0.0 < length tree.new.nodes) }
     ensures grows { OnOk result (Grows tree.old.nodes tree.new.nodes) }
 {
     let place = input.place_of(at);
-    if let Some(after) = input.after_word(at, b"end".as_slice()) {
+    if let Some(after) = input.after_word(at, b"end") {
         room_for_statement(input, at, room.statements)?;
         let end = tree.push(Node {
             place,
@@ -174,11 +175,11 @@ fn read_tail(
         })?;
         return Ok((end, after));
     }
-    if let Some(after) = input.after_word(at, b"call".as_slice()) {
+    if let Some(after) = input.after_word(at, b"call") {
         room_for_statement(input, at, room.statements)?;
         return read_call(alloc, input, after, tree, place);
     }
-    let after = input.take_word(at, b"if".as_slice())?;
+    let after = input.take_word(at, b"if")?;
     room_for_statement(input, at, room.statements)?;
     let left = Room {
         blocks: room.blocks,
@@ -195,7 +196,7 @@ fn read_call(
     tree: &mut Tree,
     place: Place,
 ) -> Result<(NodeId, usize), Denied>
-    ensures read { IfOk result (λ x. IsRestOfCall (names_of input.now) place (from input.now at) (block_in (blocks_of tree.new.nodes) x.0) (from input.now x.1)) }
+    ensures read { IfOk result (λ x. IsRestOfCall (names_of input.now) place (tokens_from input.now at) (block_in (blocks_of tree.new.nodes) x.0) (tokens_from input.now x.1)) }
     ensures there { IfOk result (λ x. x.0.0 < length tree.new.nodes) }
     ensures grows { OnOk result (Grows tree.old.nodes tree.new.nodes) }
 {
@@ -221,7 +222,7 @@ struct Passed {
 
 // [ names [ ";" names ] ]
 fn read_passed(alloc: Global, input: &Input, at: usize) -> Result<(Passed, usize), Denied>
-    ensures { IfOk result (λ x. PassedAre (names_of input.now) (from input.now at) x.0.processes x.0.sessions (from input.now x.1)) }
+    ensures read { IfOk result (λ x. PassedAre (names_of input.now) (tokens_from input.now at) x.0.processes x.0.sessions (tokens_from input.now x.1)) }
 {
     if input.name_at(at).is_none() {
         let passed = Passed {
@@ -245,7 +246,7 @@ fn read_passed_sessions(
     input: &Input,
     at: usize,
 ) -> Result<(List<Named>, usize), Denied>
-    ensures { IfOk result (λ x. PassedSessionsAre (names_of input.now) (from input.now at) x.0 (from input.now x.1)) }
+    ensures read { IfOk result (λ x. PassedSessionsAre (names_of input.now) (tokens_from input.now at) x.0 (tokens_from input.now x.1)) }
 {
     match input.after_mark(at, Mark::Semicolon) {
         Some(after) => read_names(alloc, input, after, UNLIMITED),
@@ -263,7 +264,7 @@ fn read_if(
     room: Room,
     place: Place,
 ) -> Result<(NodeId, usize), Denied>
-    ensures read { IfOk result (λ x. IsRestOfConditional (names_of input.now) place (from input.now at) (block_in (blocks_of tree.new.nodes) x.0) (from input.now x.1)) }
+    ensures read { IfOk result (λ x. IsRestOfConditional (names_of input.now) place (tokens_from input.now at) (block_in (blocks_of tree.new.nodes) x.0) (tokens_from input.now x.1)) }
     ensures there { IfOk result (λ x. x.0.0 < length tree.new.nodes) }
     ensures grows { OnOk result (Grows tree.old.nodes tree.new.nodes) }
 {
@@ -271,7 +272,7 @@ fn read_if(
     let at = input.take_mark(at, Mark::Dot)?;
     let (expr, at) = read_expression(alloc, input, at)?;
     let (first, at) = read_block(alloc, input, at, tree, room)?;
-    let at = input.take_word(at, b"else".as_slice())?;
+    let at = input.take_word(at, b"else")?;
     let (second, at) = read_block(alloc, input, at, tree, room)?;
     let form = Form::If {
         process,

@@ -3,7 +3,7 @@
 ghost use Rattle.std.specs.Prelude.{IfOk};
 ghost use Rattle.chor_base.specs.Expr.{term_of};
 ghost use Rattle.chor_lexer.specs.Grammar.{ExprIs};
-ghost use Rattle.chor_parser.specs.Reading.{names_of, from};
+ghost use Rattle.chor_parser.specs.Reading.{names_of, tokens_from};
 
 use crate::input::Input;
 use chor_base::{Denied, Expr, Rule, Value};
@@ -12,15 +12,15 @@ use std::alloc::Global;
 
 // expr
 pub fn read_expression(_alloc: Global, input: &Input, at: usize) -> Result<(Expr, usize), Denied>
-    ensures { IfOk result (λ x. ExprIs (names_of input.now) (from input.now at) (term_of x.0) (from input.now x.1)) }
+    ensures read { IfOk result (λ x. ExprIs (names_of input.now) (tokens_from input.now at) (term_of x.0) (tokens_from input.now x.1)) }
 {
     if let Some((name, after)) = input.name_at(at) {
         return Ok((Expr::Var(name.name), after));
     }
-    if let Some(after) = input.after_word(at, b"true".as_slice()) {
+    if let Some(after) = input.after_word(at, b"true") {
         return Ok((Expr::Lit(Value::Bool(true)), after));
     }
-    if let Some(after) = input.after_word(at, b"false".as_slice()) {
+    if let Some(after) = input.after_word(at, b"false") {
         return Ok((Expr::Lit(Value::Bool(false)), after));
     }
     let Some(token) = input.tokens.get(at) else {

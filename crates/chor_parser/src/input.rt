@@ -1,15 +1,14 @@
 //! Tokens, one by one.
 
-ghost use Rattle.std.specs.Prelude.{◌≡◌, ◌↔◌, ◌∷◌, ℕ, List, Some, IfSome, IfNone, IfOk, IfErr, OnOk, IsTrue, slice_get, bytes_eq};
-ghost use Rattle.std.specs.List.{list_any};
+ghost use Rattle.std.specs.Prelude.{◌≡◌, ◌↔◌, ◌∷◌, ℕ, List, Some, IfSome, IfNone, IfOk, IsTrue, slice_get};
 ghost use Rattle.chor_lexer.specs.declared.token.Token.{Token};
-ghost use Rattle.chor_lexer.specs.Keywords.{keywords, IsName};
+ghost use Rattle.chor_lexer.specs.Keywords.{IsName};
 ghost use Rattle.chor_tree.specs.declared.file.Named.{Named};
-ghost use Rattle.chor_parser.specs.Grammar.{NameIs, WordIs, MarkIs, EndIs};
-ghost use Rattle.chor_parser.specs.Reading.{names_of, from};
+ghost use Rattle.chor_parser.specs.Grammar.{NameIs, WordIs, MarkIs};
+ghost use Rattle.chor_parser.specs.Reading.{names_of, tokens_from, Ends};
 
 use chor_base::{Denied, NameId, Names, Place, Refusal, Rule};
-use chor_lexer::{Kind, Mark, Token};
+use chor_lexer::{Kind, Mark, Token, is_keyword};
 use chor_tree::Named;
 
 // The tokens of a file, and the table in which its words have their numbers. A place in them is
@@ -23,8 +22,8 @@ pub struct Input<'a> {
 impl Input<'_> {
     // The name that stands here, and the place after it.
     pub fn name_at(&self, at: usize) -> Option<(Named, usize)>
-        ensures found { IfSome result (λ x. NameIs (names_of self.now) (from self.now at) x.0 (from self.now x.1)) }
-        ensures none { IfNone result ((n : Named) (rest : List Token) → NameIs (names_of self.now) (from self.now at) n rest → ⊥) }
+        ensures found { IfSome result (λ x. NameIs (names_of self.now) (tokens_from self.now at) x.0 (tokens_from self.now x.1)) }
+        ensures none { IfNone result ((n : Named) (rest : List Token) → NameIs (names_of self.now) (tokens_from self.now at) n rest → ⊥) }
     {
         let token = *self.tokens.get(at)?;
         let Kind::Word(name) = token.kind else {
@@ -42,8 +41,8 @@ impl Input<'_> {
 
     // Where this word stands, if here, and the place after it.
     pub fn after_word(&self, at: usize, word: &[u8]) -> Option<usize>
-        ensures found { IfSome result (λ after. WordIs (names_of self.now) word.now (from self.now at) (from self.now after)) }
-        ensures none { IfNone result ((rest : List Token) → WordIs (names_of self.now) word.now (from self.now at) rest → ⊥) }
+        ensures found { IfSome result (λ after. WordIs (names_of self.now) word.now (tokens_from self.now at) (tokens_from self.now after)) }
+        ensures none { IfNone result ((rest : List Token) → WordIs (names_of self.now) word.now (tokens_from self.now at) rest → ⊥) }
     {
         let token = *self.tokens.get(at)?;
         match token.kind {
@@ -54,8 +53,8 @@ impl Input<'_> {
 
     // The place after this mark, if it stands here.
     pub fn after_mark(&self, at: usize, mark: Mark) -> Option<usize>
-        ensures found { IfSome result (λ after. MarkIs mark (from self.now at) (from self.now after)) }
-        ensures none { IfNone result ((rest : List Token) → MarkIs mark (from self.now at) rest → ⊥) }
+        ensures found { IfSome result (λ after. MarkIs mark (tokens_from self.now at) (tokens_from self.now after)) }
+        ensures none { IfNone result ((rest : List Token) → MarkIs mark (tokens_from self.now at) rest → ⊥) }
     {
         let token = *self.tokens.get(at)?;
         match token.kind {
@@ -66,7 +65,7 @@ impl Input<'_> {
 
     // The name that has to stand here, and the place after it.
     pub fn take_name(&self, at: usize) -> Result<(Named, usize), Denied>
-        ensures read { IfOk result (λ x. NameIs (names_of self.now) (from self.now at) x.0 (from self.now x.1)) }
+        ensures read { IfOk result (λ x. NameIs (names_of self.now) (tokens_from self.now at) x.0 (tokens_from self.now x.1)) }
     {
         match self.name_at(at) {
             Some(found) => Ok(found),
@@ -76,7 +75,7 @@ impl Input<'_> {
 
     // The place after this word, which has to stand here.
     pub fn take_word(&self, at: usize, word: &[u8]) -> Result<usize, Denied>
-        ensures read { IfOk result (λ after. WordIs (names_of self.now) word.now (from self.now at) (from self.now after)) }
+        ensures read { IfOk result (λ after. WordIs (names_of self.now) word.now (tokens_from self.now at) (tokens_from self.now after)) }
     {
         match self.after_word(at, word) {
             Some(after) => Ok(after),
@@ -86,7 +85,7 @@ impl Input<'_> {
 
     // The place after this mark, which has to stand here.
     pub fn take_mark(&self, at: usize, mark: Mark) -> Result<usize, Denied>
-        ensures read { IfOk result (λ after. MarkIs mark (from self.now at) (from self.now after)) }
+        ensures read { IfOk result (λ after. MarkIs mark (tokens_from self.now at) (tokens_from self.now after)) }
     {
         match self.after_mark(at, mark) {
             Some(after) => Ok(after),
@@ -113,7 +112,7 @@ impl Input<'_> {
 
     // Where a token stands in the file. There is none after the last one, which ends the file.
     pub fn place_of(&self, at: usize) -> Place
-        ensures { (t : Token) (rest : List Token) → from self.now at ≡ t ∷ rest → result ≡ t.place }
+        ensures { (t : Token) (rest : List Token) → tokens_from self.now at ≡ t ∷ rest → result ≡ t.place }
     {
         match self.tokens.get(at) {
             Some(token) => token.place,
@@ -123,7 +122,7 @@ impl Input<'_> {
 
     // Whether the file ends here.
     pub fn is_end(&self, at: usize) -> bool
-        ensures { IsTrue result ↔ EndIs (from self.now at) }
+        ensures { IsTrue result → Ends (tokens_from self.now at) }
     {
         match self.tokens.get(at) {
             Some(token) => matches!(token.kind, Kind::Last),
@@ -144,32 +143,4 @@ impl Input<'_> {
     {
         (name.0 as usize) < self.names.len() && !is_keyword(self.names.at(name))
     }
-}
-
-fn is_keyword(word: &[u8]) -> bool
-    ensures { result ≡ list_any (bytes_eq word.now) keywords }
-{
-    matches!(
-        word,
-        b"protocol"
-            | b"service"
-            | b"proc"
-            | b"main"
-            | b"start"
-            | b"new"
-            | b"if"
-            | b"else"
-            | b"call"
-            | b"end"
-            | b"show"
-            | b"host"
-            | b"then"
-            | b"int"
-            | b"bool"
-            | b"text"
-            | b"true"
-            | b"false"
-            | b"chor"
-            | b"capacity"
-    )
 }

@@ -2,7 +2,7 @@
 
 ghost use Rattle.std.specs.Prelude.{IfOk};
 ghost use Rattle.chor_parser.specs.Grammar.{ListIs, NamesAre, AnyNamesAre, PartIs};
-ghost use Rattle.chor_parser.specs.Reading.{names_of, from};
+ghost use Rattle.chor_parser.specs.Reading.{names_of, tokens_from};
 
 use crate::input::Input;
 use chor_base::{Denied, List};
@@ -17,7 +17,7 @@ pub fn read_names(
     at: usize,
     limit: usize,
 ) -> Result<(List<Named>, usize), Denied>
-    ensures { IfOk result (λ x. NamesAre (names_of input.now) (from input.now at) x.0 (from input.now x.1)) }
+    ensures read { IfOk result (λ x. NamesAre (names_of input.now) (tokens_from input.now at) x.0 (tokens_from input.now x.1)) }
 {
     input.room_for_name(at, 0, limit)?;
     let (first, mut at) = input.take_name(at)?;
@@ -39,7 +39,7 @@ pub fn read_any_names(
     at: usize,
     limit: usize,
 ) -> Result<(List<Named>, usize), Denied>
-    ensures { IfOk result (λ x. AnyNamesAre (names_of input.now) (from input.now at) x.0 (from input.now x.1)) }
+    ensures read { IfOk result (λ x. AnyNamesAre (names_of input.now) (tokens_from input.now at) x.0 (tokens_from input.now x.1)) }
 {
     if input.name_at(at).is_some() {
         read_names(alloc, input, at, limit)
@@ -50,7 +50,7 @@ pub fn read_any_names(
 
 // part = NAME "[" NAME "]"
 pub fn read_part(input: &Input, at: usize) -> Result<(Part, usize), Denied>
-    ensures { IfOk result (λ x. PartIs (names_of input.now) (from input.now at) x.0 (from input.now x.1)) }
+    ensures read { IfOk result (λ x. PartIs (names_of input.now) (tokens_from input.now at) x.0 (tokens_from input.now x.1)) }
 {
     let (process, at) = input.take_name(at)?;
     let at = input.take_mark(at, Mark::OpenBracket)?;
@@ -61,7 +61,7 @@ pub fn read_part(input: &Input, at: usize) -> Result<(Part, usize), Denied>
 
 // part { "," part }
 pub fn read_parts(alloc: Global, input: &Input, at: usize) -> Result<(List<Part>, usize), Denied>
-    ensures { IfOk result (λ x. ListIs (PartIs (names_of input.now)) (from input.now at) x.0 (from input.now x.1)) }
+    ensures read { IfOk result (λ x. ListIs (PartIs (names_of input.now)) (tokens_from input.now at) x.0 (tokens_from input.now x.1)) }
 {
     let (first, mut at) = read_part(input, at)?;
     let mut parts = List::new(alloc);

@@ -2,7 +2,7 @@
 
 ghost use Rattle.std.specs.Prelude.{IfOk};
 ghost use Rattle.chor_parser.specs.Grammar.{ListIs, VariableIs, VariablesAre, ProcParamIs, HolderIs, SessionParamIs, SessionsAre, ParamsAre};
-ghost use Rattle.chor_parser.specs.Reading.{names_of, from};
+ghost use Rattle.chor_parser.specs.Reading.{names_of, tokens_from};
 
 use crate::input::Input;
 use crate::limits::{PARAMETERS, VARIABLES};
@@ -25,7 +25,7 @@ pub fn read_parameters(
     input: &Input,
     at: usize,
 ) -> Result<(Parameters, usize), Denied>
-    ensures { IfOk result (λ x. ParamsAre (names_of input.now) (from input.now at) x.0.params x.0.sessions (from input.now x.1)) }
+    ensures read { IfOk result (λ x. ParamsAre (names_of input.now) (tokens_from input.now at) x.0.params x.0.sessions (tokens_from input.now x.1)) }
 {
     if input.name_at(at).is_none() {
         let parameters = Parameters {
@@ -45,7 +45,7 @@ fn read_process_params(
     input: &Input,
     at: usize,
 ) -> Result<(List<ProcParam>, usize), Denied>
-    ensures { IfOk result (λ x. ListIs (ProcParamIs (names_of input.now)) (from input.now at) x.0 (from input.now x.1)) }
+    ensures read { IfOk result (λ x. ListIs (ProcParamIs (names_of input.now)) (tokens_from input.now at) x.0 (tokens_from input.now x.1)) }
 {
     let (first, mut at) = read_process_param(alloc, input, at)?;
     let mut params = List::new(alloc);
@@ -61,7 +61,7 @@ fn read_process_params(
 
 // pparam = NAME [ "(" NAME ":" sort { "," NAME ":" sort } ")" ]
 fn read_process_param(alloc: Global, input: &Input, at: usize) -> Result<(ProcParam, usize), Denied>
-    ensures { IfOk result (λ x. ProcParamIs (names_of input.now) (from input.now at) x.0 (from input.now x.1)) }
+    ensures read { IfOk result (λ x. ProcParamIs (names_of input.now) (tokens_from input.now at) x.0 (tokens_from input.now x.1)) }
 {
     let (name, at) = input.take_name(at)?;
     let (vars, at) = read_any_vars(alloc, input, at)?;
@@ -74,7 +74,7 @@ fn read_any_vars(
     input: &Input,
     at: usize,
 ) -> Result<(List<(Named, Sort)>, usize), Denied>
-    ensures { IfOk result (λ x. VariablesAre (names_of input.now) (from input.now at) x.0 (from input.now x.1)) }
+    ensures read { IfOk result (λ x. VariablesAre (names_of input.now) (tokens_from input.now at) x.0 (tokens_from input.now x.1)) }
 {
     let Some(after) = input.after_mark(at, Mark::OpenParen) else {
         return Ok((List::new(alloc), at));
@@ -90,7 +90,7 @@ fn read_vars(
     input: &Input,
     at: usize,
 ) -> Result<(List<(Named, Sort)>, usize), Denied>
-    ensures { IfOk result (λ x. ListIs (VariableIs (names_of input.now)) (from input.now at) x.0 (from input.now x.1)) }
+    ensures read { IfOk result (λ x. ListIs (VariableIs (names_of input.now)) (tokens_from input.now at) x.0 (tokens_from input.now x.1)) }
 {
     let (first, mut at) = read_var(input, at)?;
     let mut vars = List::new(alloc);
@@ -106,7 +106,7 @@ fn read_vars(
 
 // NAME ":" sort
 fn read_var(input: &Input, at: usize) -> Result<((Named, Sort), usize), Denied>
-    ensures { IfOk result (λ x. VariableIs (names_of input.now) (from input.now at) x.0 (from input.now x.1)) }
+    ensures read { IfOk result (λ x. VariableIs (names_of input.now) (tokens_from input.now at) x.0 (tokens_from input.now x.1)) }
 {
     let (name, at) = input.take_name(at)?;
     let at = input.take_mark(at, Mark::Colon)?;
@@ -120,7 +120,7 @@ fn read_sessions(
     input: &Input,
     at: usize,
 ) -> Result<(List<SessionParam>, usize), Denied>
-    ensures { IfOk result (λ x. SessionsAre (names_of input.now) (from input.now at) x.0 (from input.now x.1)) }
+    ensures read { IfOk result (λ x. SessionsAre (names_of input.now) (tokens_from input.now at) x.0 (tokens_from input.now x.1)) }
 {
     match input.after_mark(at, Mark::Semicolon) {
         Some(at) => read_session_params(alloc, input, at),
@@ -134,7 +134,7 @@ fn read_session_params(
     input: &Input,
     at: usize,
 ) -> Result<(List<SessionParam>, usize), Denied>
-    ensures { IfOk result (λ x. ListIs (SessionParamIs (names_of input.now)) (from input.now at) x.0 (from input.now x.1)) }
+    ensures read { IfOk result (λ x. ListIs (SessionParamIs (names_of input.now)) (tokens_from input.now at) x.0 (tokens_from input.now x.1)) }
 {
     let (first, mut at) = read_session_param(alloc, input, at)?;
     let mut sessions = List::new(alloc);
@@ -154,7 +154,7 @@ fn read_session_param(
     input: &Input,
     at: usize,
 ) -> Result<(SessionParam, usize), Denied>
-    ensures { IfOk result (λ x. SessionParamIs (names_of input.now) (from input.now at) x.0 (from input.now x.1)) }
+    ensures read { IfOk result (λ x. SessionParamIs (names_of input.now) (tokens_from input.now at) x.0 (tokens_from input.now x.1)) }
 {
     let (name, at) = input.take_name(at)?;
     let at = input.take_mark(at, Mark::Colon)?;
@@ -179,7 +179,7 @@ fn read_holders(
     input: &Input,
     at: usize,
 ) -> Result<(List<(Named, Named)>, usize), Denied>
-    ensures { IfOk result (λ x. ListIs (HolderIs (names_of input.now)) (from input.now at) x.0 (from input.now x.1)) }
+    ensures read { IfOk result (λ x. ListIs (HolderIs (names_of input.now)) (tokens_from input.now at) x.0 (tokens_from input.now x.1)) }
 {
     let (first, mut at) = read_holder(input, at)?;
     let mut holders = List::new(alloc);
@@ -194,7 +194,7 @@ fn read_holders(
 
 // NAME "=" NAME
 fn read_holder(input: &Input, at: usize) -> Result<((Named, Named), usize), Denied>
-    ensures { IfOk result (λ x. HolderIs (names_of input.now) (from input.now at) x.0 (from input.now x.1)) }
+    ensures read { IfOk result (λ x. HolderIs (names_of input.now) (tokens_from input.now at) x.0 (tokens_from input.now x.1)) }
 {
     let (role, at) = input.take_name(at)?;
     let at = input.take_mark(at, Mark::Assign)?;

@@ -4,7 +4,7 @@ ghost use Rattle.std.specs.Prelude.{List, IfOk, IfSome, IfNone};
 ghost use Rattle.chor_base.specs.declared.value.Sort.{Sort};
 ghost use Rattle.chor_lexer.specs.declared.token.Token.{Token};
 ghost use Rattle.chor_parser.specs.Grammar.{ListIs, SortIs, PayloadIs, ArmIs, StepIs, StateIs, StatesAre, ServedAre};
-ghost use Rattle.chor_parser.specs.Reading.{names_of, from, IsRestOfProtocol, IsRestOfStep, IsRestOfService};
+ghost use Rattle.chor_parser.specs.Reading.{names_of, tokens_from, IsRestOfProtocol, IsRestOfStep, IsRestOfService};
 
 use crate::input::Input;
 use crate::limits::{LABELS, ROLES, STATES};
@@ -16,7 +16,7 @@ use std::alloc::Global;
 
 // protocol = "protocol" NAME "(" names ")" "{" state { state } "}", after its keyword
 pub fn read_protocol(alloc: Global, input: &Input, at: usize) -> Result<(Protocol, usize), Denied>
-    ensures { IfOk result (λ x. IsRestOfProtocol (names_of input.now) (from input.now at) x.0 (from input.now x.1)) }
+    ensures read { IfOk result (λ x. IsRestOfProtocol (names_of input.now) (tokens_from input.now at) x.0 (tokens_from input.now x.1)) }
 {
     let (name, at) = input.take_name(at)?;
     let at = input.take_mark(at, Mark::OpenParen)?;
@@ -37,7 +37,7 @@ pub fn read_protocol(alloc: Global, input: &Input, at: usize) -> Result<(Protoco
 
 // state { state }
 fn read_states(alloc: Global, input: &Input, at: usize) -> Result<(List<State>, usize), Denied>
-    ensures { IfOk result (λ x. StatesAre (names_of input.now) (from input.now at) x.0 (from input.now x.1)) }
+    ensures read { IfOk result (λ x. StatesAre (names_of input.now) (tokens_from input.now at) x.0 (tokens_from input.now x.1)) }
 {
     let (first, mut at) = read_state(alloc, input, at)?;
     let mut states = List::new(alloc);
@@ -53,7 +53,7 @@ fn read_states(alloc: Global, input: &Input, at: usize) -> Result<(List<State>, 
 
 // state = NAME "=" step ";"
 fn read_state(alloc: Global, input: &Input, at: usize) -> Result<(State, usize), Denied>
-    ensures { IfOk result (λ x. StateIs (names_of input.now) (from input.now at) x.0 (from input.now x.1)) }
+    ensures read { IfOk result (λ x. StateIs (names_of input.now) (tokens_from input.now at) x.0 (tokens_from input.now x.1)) }
 {
     let (name, at) = input.take_name(at)?;
     let at = input.take_mark(at, Mark::Assign)?;
@@ -64,9 +64,9 @@ fn read_state(alloc: Global, input: &Input, at: usize) -> Result<(State, usize),
 
 // step = "end" | NAME "->" NAME ":" payload "then" NAME | NAME "->" NAME "{" arm { "," arm } "}"
 fn read_step(alloc: Global, input: &Input, at: usize) -> Result<(ProtoStep, usize), Denied>
-    ensures { IfOk result (λ x. StepIs (names_of input.now) (from input.now at) x.0 (from input.now x.1)) }
+    ensures read { IfOk result (λ x. StepIs (names_of input.now) (tokens_from input.now at) x.0 (tokens_from input.now x.1)) }
 {
-    if let Some(at) = input.after_word(at, b"end".as_slice()) {
+    if let Some(at) = input.after_word(at, b"end") {
         return Ok((ProtoStep::End, at));
     }
     let (from, at) = input.take_name(at)?;
@@ -88,10 +88,10 @@ fn read_value_step(
     input: &Input,
     at: usize,
 ) -> Result<(ProtoStep, usize), Denied>
-    ensures { IfOk result (λ x. IsRestOfStep (names_of input.now) from to (from input.now at) x.0 (from input.now x.1)) }
+    ensures read { IfOk result (λ x. IsRestOfStep (names_of input.now) from to (tokens_from input.now at) x.0 (tokens_from input.now x.1)) }
 {
     let (payload, at) = read_payload(input, at)?;
-    let at = input.take_word(at, b"then".as_slice())?;
+    let at = input.take_word(at, b"then")?;
     let (next, at) = input.take_name(at)?;
     let step = ProtoStep::Value {
         from,
@@ -104,7 +104,7 @@ fn read_value_step(
 
 // arm { "," arm }
 fn read_arms(alloc: Global, input: &Input, at: usize) -> Result<(List<ProtoArm>, usize), Denied>
-    ensures { IfOk result (λ x. ListIs (ArmIs (names_of input.now)) (from input.now at) x.0 (from input.now x.1)) }
+    ensures read { IfOk result (λ x. ListIs (ArmIs (names_of input.now)) (tokens_from input.now at) x.0 (tokens_from input.now x.1)) }
 {
     let (first, mut at) = read_arm(input, at)?;
     let mut arms = List::new(alloc);
@@ -120,17 +120,17 @@ fn read_arms(alloc: Global, input: &Input, at: usize) -> Result<(List<ProtoArm>,
 
 // arm = NAME "then" NAME
 fn read_arm(input: &Input, at: usize) -> Result<(ProtoArm, usize), Denied>
-    ensures { IfOk result (λ x. ArmIs (names_of input.now) (from input.now at) x.0 (from input.now x.1)) }
+    ensures read { IfOk result (λ x. ArmIs (names_of input.now) (tokens_from input.now at) x.0 (tokens_from input.now x.1)) }
 {
     let (label, at) = input.take_name(at)?;
-    let at = input.take_word(at, b"then".as_slice())?;
+    let at = input.take_word(at, b"then")?;
     let (next, at) = input.take_name(at)?;
     Ok((ProtoArm { label, next }, at))
 }
 
 // payload = sort | NAME "." NAME "@" NAME
 fn read_payload(input: &Input, at: usize) -> Result<(Payload, usize), Denied>
-    ensures { IfOk result (λ x. PayloadIs (names_of input.now) (from input.now at) x.0 (from input.now x.1)) }
+    ensures read { IfOk result (λ x. PayloadIs (names_of input.now) (tokens_from input.now at) x.0 (tokens_from input.now x.1)) }
 {
     if let Some((sort, at)) = sort_at(input, at) {
         return Ok((Payload::Plain(sort), at));
@@ -150,22 +150,22 @@ fn read_payload(input: &Input, at: usize) -> Result<(Payload, usize), Denied>
 
 // sort = "int" | "bool" | "text", if it stands here
 fn sort_at(input: &Input, at: usize) -> Option<(Sort, usize)>
-    ensures found { IfSome result (λ x. SortIs (names_of input.now) (from input.now at) x.0 (from input.now x.1)) }
-    ensures none { IfNone result ((s : Sort) (rest : List Token) → SortIs (names_of input.now) (from input.now at) s rest → ⊥) }
+    ensures found { IfSome result (λ x. SortIs (names_of input.now) (tokens_from input.now at) x.0 (tokens_from input.now x.1)) }
+    ensures none { IfNone result ((s : Sort) (rest : List Token) → SortIs (names_of input.now) (tokens_from input.now at) s rest → ⊥) }
 {
-    if let Some(after) = input.after_word(at, b"int".as_slice()) {
+    if let Some(after) = input.after_word(at, b"int") {
         return Some((Sort::Int, after));
     }
-    if let Some(after) = input.after_word(at, b"bool".as_slice()) {
+    if let Some(after) = input.after_word(at, b"bool") {
         return Some((Sort::Bool, after));
     }
-    let after = input.after_word(at, b"text".as_slice())?;
+    let after = input.after_word(at, b"text")?;
     Some((Sort::Text, after))
 }
 
 // sort
 pub fn take_sort(input: &Input, at: usize) -> Result<(Sort, usize), Denied>
-    ensures { IfOk result (λ x. SortIs (names_of input.now) (from input.now at) x.0 (from input.now x.1)) }
+    ensures read { IfOk result (λ x. SortIs (names_of input.now) (tokens_from input.now at) x.0 (tokens_from input.now x.1)) }
 {
     match sort_at(input, at) {
         Some(found) => Ok(found),
@@ -175,7 +175,7 @@ pub fn take_sort(input: &Input, at: usize) -> Result<(Sort, usize), Denied>
 
 // service = "service" NAME ":" NAME "(" names [ "|" names ] ")" ";", after its keyword
 pub fn read_service(alloc: Global, input: &Input, at: usize) -> Result<(Service, usize), Denied>
-    ensures { IfOk result (λ x. IsRestOfService (names_of input.now) (from input.now at) x.0 (from input.now x.1)) }
+    ensures read { IfOk result (λ x. IsRestOfService (names_of input.now) (tokens_from input.now at) x.0 (tokens_from input.now x.1)) }
 {
     let (name, at) = input.take_name(at)?;
     let at = input.take_mark(at, Mark::Colon)?;
@@ -201,7 +201,7 @@ fn read_serve(
     at: usize,
     active: usize,
 ) -> Result<(List<Named>, usize), Denied>
-    ensures { IfOk result (λ x. ServedAre (names_of input.now) (from input.now at) x.0 (from input.now x.1)) }
+    ensures read { IfOk result (λ x. ServedAre (names_of input.now) (tokens_from input.now at) x.0 (tokens_from input.now x.1)) }
 {
     match input.after_mark(at, Mark::Bar) {
         Some(at) => read_names(alloc, input, at, ROLES.saturating_sub(active)),

@@ -1,5 +1,10 @@
 //! Whole sources.
 
+ghost use Rattle.std.specs.Prelude.{◌≡◌, ◌<◌, length, IfOk, OnOk, IfSome, IfNone};
+ghost use Rattle.chor_parser.specs.Source.{block_in, blocks_of, procedure_of, source_of};
+ghost use Rattle.chor_parser.specs.Grammar.{FileIs};
+ghost use Rattle.chor_parser.specs.Reading.{names_of, tokens_from, Grows, AreThere, IsRestOfProcedure, IsRestOfMain, ItemGoes, ItemsGo};
+
 use crate::block::read_body;
 use crate::input::Input;
 use crate::limits::PROCESSES;
@@ -16,34 +21,43 @@ use std::alloc::Global;
 /// It is refused by P1 at the first token that no file has there after those before it, by P2 where
 /// blocks stand too deep or an expression is too long, and by P3 at the first item that is one too
 /// many in its list or on its path.
-pub fn parse(alloc: Global, tokens: &Tokens, names: Names, texts: Texts) -> Result<File, Denied> {
+pub fn parse(alloc: Global, tokens: &Tokens, names: Names, texts: Texts) -> Result<File, Denied>
+    ensures found { IfOk result (λ file. FileIs names tokens.now.items (source_of file)) }
+    ensures names { IfOk result (λ file. file.names ≡ names) }
+    ensures texts { IfOk result (λ file. file.texts ≡ texts) }
+    ensures body { IfOk result (λ file. file.body.0 < length file.tree.nodes) }
+    ensures bodies { IfOk result (λ file. AreThere file.tree.nodes file.procs) }
+{
     let input = Input {
         tokens: tokens.items.as_slice(),
         names: &names,
     };
     let (items, at) = read_items(alloc, &input)?;
-    let Items {
+    let Declared {
         protocols,
         services,
         procs,
         mut tree,
     } = items;
-    let (processes, body) = read_main(alloc, &input, at, &mut tree)?;
+    let (main, at) = read_main(alloc, &input, at, &mut tree)?;
+    if !input.is_end(at) {
+        return Err(input.refused(Rule::P1, at));
+    }
     Ok(File {
         names,
         texts,
         protocols,
         services,
         procs,
-        processes,
+        processes: main.processes,
         tree,
-        body,
+        body: main.body,
     })
 }
 
 // What is declared before main, and the nodes of its bodies.
 #[derive(Drop)]
-struct Items {
+struct Declared {
     protocols: List<Protocol>,
     services: List<Service>,
     procs: List<Proc>,
@@ -51,8 +65,11 @@ struct Items {
 }
 
 // { protocol | service | proc }
-fn read_items(alloc: Global, input: &Input) -> Result<(Items, usize), Denied> {
-    let mut items = Items {
+fn read_items(alloc: Global, input: &Input) -> Result<(Declared, usize), Denied>
+    ensures read { IfOk result (λ x. ItemsGo (names_of input.now) (tokens_from input.now 0) x.0 (tokens_from input.now x.1)) }
+    ensures there { IfOk result (λ x. AreThere x.0.tree.nodes x.0.procs) }
+{
+    let mut items = Declared {
         protocols: List::new(alloc),
         services: List::new(alloc),
         procs: List::new(alloc),
@@ -70,19 +87,24 @@ fn read_item(
     alloc: Global,
     input: &Input,
     at: usize,
-    items: &mut Items,
-) -> Result<Option<usize>, Denied> {
-    if let Some(at) = input.after_word(at, b"protocol".as_slice()) {
+    items: &mut Declared,
+) -> Result<Option<usize>, Denied>
+    requires { AreThere items.old.tree.nodes items.old.procs }
+    ensures some { IfOk result (λ found. IfSome found (λ next. ItemGoes (names_of input.now) (tokens_from input.now at) items.old items.new (tokens_from input.now next))) }
+    ensures none { IfOk result (λ found. IfNone found (items.new ≡ items.old)) }
+    ensures there { OnOk result (AreThere items.new.tree.nodes items.new.procs) }
+{
+    if let Some(at) = input.after_word(at, b"protocol") {
         let (protocol, at) = read_protocol(alloc, input, at)?;
         items.protocols.push(protocol)?;
         return Ok(Some(at));
     }
-    if let Some(at) = input.after_word(at, b"service".as_slice()) {
+    if let Some(at) = input.after_word(at, b"service") {
         let (service, at) = read_service(alloc, input, at)?;
         items.services.push(service)?;
         return Ok(Some(at));
     }
-    if let Some(at) = input.after_word(at, b"proc".as_slice()) {
+    if let Some(at) = input.after_word(at, b"proc") {
         let (procedure, at) = read_procedure(alloc, input, at, &mut items.tree)?;
         items.procs.push(procedure)?;
         return Ok(Some(at));
@@ -96,7 +118,11 @@ fn read_procedure(
     input: &Input,
     at: usize,
     tree: &mut Tree,
-) -> Result<(Proc, usize), Denied> {
+) -> Result<(Proc, usize), Denied>
+    ensures read { IfOk result (λ x. IsRestOfProcedure (names_of input.now) (tokens_from input.now at) (procedure_of tree.new.nodes x.0) (tokens_from input.now x.1)) }
+    ensures there { IfOk result (λ x. x.0.body.0 < length tree.new.nodes) }
+    ensures grows { OnOk result (Grows tree.old.nodes tree.new.nodes) }
+{
     let (name, at) = input.take_name(at)?;
     let at = input.take_mark(at, Mark::OpenParen)?;
     let (parameters, at) = read_parameters(alloc, input, at)?;
@@ -111,20 +137,28 @@ fn read_procedure(
     Ok((procedure, at))
 }
 
-// main = "main" "(" [ names ] ")" block, and the end of the file
+// The processes of main and where its body begins.
+#[derive(Drop)]
+struct Main {
+    processes: List<Named>,
+    body: NodeId,
+}
+
+// main = "main" "(" [ names ] ")" block
 fn read_main(
     alloc: Global,
     input: &Input,
     at: usize,
     tree: &mut Tree,
-) -> Result<(List<Named>, NodeId), Denied> {
-    let at = input.take_word(at, b"main".as_slice())?;
+) -> Result<(Main, usize), Denied>
+    ensures read { IfOk result (λ x. IsRestOfMain (names_of input.now) (tokens_from input.now at) x.0.processes (block_in (blocks_of tree.new.nodes) x.0.body) (tokens_from input.now x.1)) }
+    ensures there { IfOk result (λ x. x.0.body.0 < length tree.new.nodes) }
+    ensures grows { OnOk result (Grows tree.old.nodes tree.new.nodes) }
+{
+    let at = input.take_word(at, b"main")?;
     let at = input.take_mark(at, Mark::OpenParen)?;
     let (processes, at) = read_any_names(alloc, input, at, PROCESSES)?;
     let at = input.take_mark(at, Mark::CloseParen)?;
     let (body, at) = read_body(alloc, input, at, tree)?;
-    if !input.is_end(at) {
-        return Err(input.refused(Rule::P1, at));
-    }
-    Ok((processes, body))
+    Ok((Main { processes, body }, at))
 }

@@ -2,7 +2,7 @@
 
 ghost use Rattle.std.specs.Prelude.{◌≡◌, IfOk};
 ghost use Rattle.chor_parser.specs.Grammar.{NewPartsAre, StatementIs};
-ghost use Rattle.chor_parser.specs.Reading.{names_of, from, form_of, statement_of, IsRestOfStart, IsRestOfSending, IsRestOfValue, IsRestOfLabel, IsRestOfDelegation, IsRestOfSetting, IsRestOfHostCall};
+ghost use Rattle.chor_parser.specs.Reading.{names_of, tokens_from, form_of, statement_of, IsRestOfStart, IsRestOfSending, IsRestOfValue, IsRestOfLabel, IsRestOfDelegation, IsRestOfSetting, IsRestOfHostCall};
 
 use crate::expression::read_expression;
 use crate::input::Input;
@@ -143,9 +143,9 @@ pub fn form_of(statement: Statement, next: NodeId) -> Form
 
 // stmt
 pub fn read_statement(alloc: Global, input: &Input, at: usize) -> Result<(Statement, usize), Denied>
-    ensures { IfOk result (λ x. StatementIs (names_of input.now) (from input.now at) (statement_of x.0) (from input.now x.1)) }
+    ensures read { IfOk result (λ x. StatementIs (names_of input.now) (tokens_from input.now at) (statement_of x.0) (tokens_from input.now x.1)) }
 {
-    if let Some(at) = input.after_word(at, b"start".as_slice()) {
+    if let Some(at) = input.after_word(at, b"start") {
         return read_start(alloc, input, at);
     }
     let (process, at) = input.take_name(at)?;
@@ -155,14 +155,14 @@ pub fn read_statement(alloc: Global, input: &Input, at: usize) -> Result<(Statem
     if let Some(at) = input.after_mark(at, Mark::Dot) {
         return read_setting(alloc, process, input, at);
     }
-    let at = input.take_word(at, b"show".as_slice())?;
+    let at = input.take_word(at, b"show")?;
     let (expr, at) = read_expression(alloc, input, at)?;
     Ok((Statement::Show { process, expr }, at))
 }
 
 // "start" NAME "(" NAME ")" ":" part { "," part } [ "new" part { "," part } ], after its keyword
 fn read_start(alloc: Global, input: &Input, at: usize) -> Result<(Statement, usize), Denied>
-    ensures { IfOk result (λ x. IsRestOfStart (names_of input.now) (from input.now at) (statement_of x.0) (from input.now x.1)) }
+    ensures read { IfOk result (λ x. IsRestOfStart (names_of input.now) (tokens_from input.now at) (statement_of x.0) (tokens_from input.now x.1)) }
 {
     let (channel, at) = input.take_name(at)?;
     let at = input.take_mark(at, Mark::OpenParen)?;
@@ -182,9 +182,9 @@ fn read_start(alloc: Global, input: &Input, at: usize) -> Result<(Statement, usi
 
 // [ "new" part { "," part } ]
 fn read_new_parts(alloc: Global, input: &Input, at: usize) -> Result<(List<Part>, usize), Denied>
-    ensures { IfOk result (λ x. NewPartsAre (names_of input.now) (from input.now at) x.0 (from input.now x.1)) }
+    ensures read { IfOk result (λ x. NewPartsAre (names_of input.now) (tokens_from input.now at) x.0 (tokens_from input.now x.1)) }
 {
-    match input.after_word(at, b"new".as_slice()) {
+    match input.after_word(at, b"new") {
         Some(at) => read_parts(alloc, input, at),
         None => Ok((List::new(alloc), at)),
     }
@@ -197,7 +197,7 @@ fn read_sending(
     input: &Input,
     at: usize,
 ) -> Result<(Statement, usize), Denied>
-    ensures { IfOk result (λ x. IsRestOfSending (names_of input.now) process (from input.now at) (statement_of x.0) (from input.now x.1)) }
+    ensures read { IfOk result (λ x. IsRestOfSending (names_of input.now) process (tokens_from input.now at) (statement_of x.0) (tokens_from input.now x.1)) }
 {
     let (role, at) = input.take_name(at)?;
     let at = input.take_mark(at, Mark::CloseBracket)?;
@@ -222,7 +222,7 @@ fn read_value(
     input: &Input,
     at: usize,
 ) -> Result<(Statement, usize), Denied>
-    ensures { IfOk result (λ x. IsRestOfValue (names_of input.now) from (from input.now at) (statement_of x.0) (from input.now x.1)) }
+    ensures read { IfOk result (λ x. IsRestOfValue (names_of input.now) from (tokens_from input.now at) (statement_of x.0) (tokens_from input.now x.1)) }
 {
     let (expr, at) = read_expression(alloc, input, at)?;
     let at = input.take_mark(at, Mark::Arrow)?;
@@ -249,7 +249,7 @@ fn read_label(
     input: &Input,
     at: usize,
 ) -> Result<(Statement, usize), Denied>
-    ensures { IfOk result (λ x. IsRestOfLabel (names_of input.now) from to session (from input.now at) (statement_of x.0) (from input.now x.1)) }
+    ensures read { IfOk result (λ x. IsRestOfLabel (names_of input.now) from to session (tokens_from input.now at) (statement_of x.0) (tokens_from input.now x.1)) }
 {
     let (label, at) = input.take_name(at)?;
     let statement = Statement::Label {
@@ -269,7 +269,7 @@ fn read_give(
     input: &Input,
     at: usize,
 ) -> Result<(Statement, usize), Denied>
-    ensures { IfOk result (λ x. IsRestOfDelegation (names_of input.now) from to session (from input.now at) (statement_of x.0) (from input.now x.1)) }
+    ensures read { IfOk result (λ x. IsRestOfDelegation (names_of input.now) from to session (tokens_from input.now at) (statement_of x.0) (tokens_from input.now x.1)) }
 {
     let at = input.take_mark(at, Mark::OpenParen)?;
     let (given, at) = read_part(input, at)?;
@@ -290,11 +290,11 @@ fn read_setting(
     input: &Input,
     at: usize,
 ) -> Result<(Statement, usize), Denied>
-    ensures { IfOk result (λ x. IsRestOfSetting (names_of input.now) process (from input.now at) (statement_of x.0) (from input.now x.1)) }
+    ensures read { IfOk result (λ x. IsRestOfSetting (names_of input.now) process (tokens_from input.now at) (statement_of x.0) (tokens_from input.now x.1)) }
 {
     let (var, at) = input.take_name(at)?;
     let at = input.take_mark(at, Mark::Becomes)?;
-    if let Some(at) = input.after_word(at, b"host".as_slice()) {
+    if let Some(at) = input.after_word(at, b"host") {
         return read_host(alloc, process, var, input, at);
     }
     let (expr, at) = read_expression(alloc, input, at)?;
@@ -314,7 +314,7 @@ fn read_host(
     input: &Input,
     at: usize,
 ) -> Result<(Statement, usize), Denied>
-    ensures { IfOk result (λ x. IsRestOfHostCall (names_of input.now) process var (from input.now at) (statement_of x.0) (from input.now x.1)) }
+    ensures read { IfOk result (λ x. IsRestOfHostCall (names_of input.now) process var (tokens_from input.now at) (statement_of x.0) (tokens_from input.now x.1)) }
 {
     let (name, at) = input.take_name(at)?;
     let at = input.take_mark(at, Mark::OpenParen)?;
