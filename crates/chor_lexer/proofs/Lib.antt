@@ -12,3 +12,4 @@ pub mod Levels
 pub mod Operands
 pub mod Derivations
 pub mod Viable
+pub mod Longest

@@ -1,5 +1,5 @@
 -- What is read of a list of tokens.
-use Rattle.std.specs.Prelude.{◌≡◌, ◌+◌, ◌<◌, ◌≤◌, ℕ, Bool, List, ◌∷◌, length, Some, None, slice_get}
+use Rattle.std.specs.Prelude.{◌≡◌, ◌+◌, ◌<◌, ◌≤◌, ℕ, Bool, List, [], ◌∷◌, ◌++◌, length, Some, None, slice_get}
 use Rattle.chor_base.specs.declared.rule.Place.{Place}
 use Rattle.chor_base.specs.declared.rule.Rule.{Rule}
 use Rattle.chor_base.specs.declared.rule.Rule.TheVariants.{P1, P2}
@@ -10,7 +10,7 @@ use Rattle.chor_lexer.specs.declared.token.Token.{Token}
 use Rattle.chor_lexer.specs.declared.level.Level.{Level}
 use Rattle.chor_lexer.specs.declared.expression.Stop.{Stop}
 use Rattle.chor_lexer.specs.declared.expression.Stop.TheVariants.{Memory, Wrong}
-use Rattle.chor_lexer.specs.Grammar.{IsExpr, IsLongestFront}
+use Rattle.chor_lexer.specs.Grammar.{IsExpr, IsExprFront, IsLongestFront}
 use Rattle.chor_lexer.specs.Turns.{LevelIs, Due, operand, Stops, run}
 
 -- the longest list of tokens with which some expression begins, where ts begins, is this expression, has at most 255
@@ -50,3 +50,41 @@ pub record Reads (names : List (List ℕ)) (l : Level) (ts : List Token) (x : Te
 abbrev pub StopsAt : List (List ℕ) → Level → List Token → Stop → Type 0
 StopsAt names l ts Memory = Unit {0}
 StopsAt names l ts (Wrong at) = (b : Bool) (ss : List Due) (vs : List Term) → run names b (operand l ∷ ss) vs ts ≡ Stops at.now
+
+-- ---- an expression at the front of a list of tokens
+
+-- no expression has the first of the tokens `at` there; those before are a front of one
+pub record IsHalt (names : List (List ℕ)) (ts at : List Token) : Type 0 where
+  pub written : List Token
+  pub parts : ts ≡ written ++ at
+  pub begins : IsExprFront names written
+  pub halts : (t : Token) (rest : List Token) → at ≡ t ∷ rest → IsExprFront names (written ++ t ∷ []) → ⊥
+
+-- the tokens before are the expression x, and there is one after it
+pub record IsFound (names : List (List ℕ)) (ts : List Token) (x : Term) (at : List Token) : Type 0 where
+  pub halt : IsHalt names ts at
+  pub is : IsExpr names halt.written x
+  pub some : 1 ≤ length at
+
+-- the tokens before are no expression, or none is after them
+pub record IsMissed (names : List (List ℕ)) (ts at : List Token) : Type 0 where
+  pub halt : IsHalt names ts at
+  pub incomplete : 1 ≤ length at → (x : Term) → IsExpr names halt.written x → ⊥
+
+abbrev pub Misses : List (List ℕ) → List Token → Stop → Type 0
+Misses names ts Memory = Unit {0}
+Misses names ts (Wrong at) = IsMissed names ts at.now
+
+-- where none of the first tokens are left, there is a 256th
+abbrev pub HasPlace : List Token → Stop → Type 0
+HasPlace ts Memory = Unit {0}
+HasPlace ts (Wrong at) = length at.now ≡ 0 → 255 < length ts
+
+abbrev pub WrongAt : List Token → List Token → Denied → Type 0
+WrongAt ts (t ∷ rest) d = d ≡ Refused (record { rule = P1; place = t.place; who = None })
+WrongAt ts [] d = (t : Token) × (slice_get ts 255 ≡ Some t) × (d ≡ Refused (record { rule = P2; place = t.place; who = None }))
+
+-- the refusal at the first token that is left of the first 256, or at the 256th where none is left
+abbrev pub IsRefusalAt : List Token → Stop → Denied → Type 0
+IsRefusalAt ts Memory d = d ≡ NoMemory
+IsRefusalAt ts (Wrong at) d = WrongAt ts at.now d

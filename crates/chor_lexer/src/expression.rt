@@ -3,14 +3,15 @@
 ghost use Rattle.std.specs.Prelude.{◌≡◌, ◌+◌, ◌<◌, ◌^◌, length, drop, IfOk, IfErr, MatchOption, slice_get, Some, None};
 ghost use Rattle.chor_base.specs.Expr.{term_of};
 ghost use Rattle.chor_lexer.specs.Turns.{front, tail, operand_of, word_operand, unary_of, binary_of, operator_at, is_open, is_close};
-ghost use Rattle.chor_lexer.specs.Reading.{IsRead, IsRefusal, Reads, StopsAt};
+ghost use Rattle.chor_lexer.specs.Reading.{IsRead, IsRefusal, HasPlace, IsRefusalAt, IsFound, Misses, Reads, StopsAt};
 
 use crate::canonical::strength;
 use crate::keyword::is_keyword;
 use crate::level::Level;
+use crate::lex::refused;
 use crate::mark::Mark;
 use crate::token::{Kind, Token, Tokens};
-use chor_base::{BinOp, Denied, Expr, Memory, NameId, Names, Place, Refusal, Rule, UnOp, Value};
+use chor_base::{BinOp, Denied, Expr, Memory, NameId, Names, Rule, UnOp, Value};
 use std::alloc::{AllocError, AllocFailed, Global};
 
 /// The most tokens that an expression may have.
@@ -43,6 +44,60 @@ impl<T: Drop> From<AllocFailed<T>> for Stop<'_> {
     fn from(_error: AllocFailed<T>) -> Self {
         Stop::Memory
     }
+}
+
+/// The expression that begins with the token of number `at`, and the number of the token after it.
+/// The table is that in which the words of the tokens have their numbers.
+///
+/// It takes as many tokens as some expression begins with. It is refused by P2 at the 256th of
+/// them, where there are more than 255, and else by P1 at the token after them, where they are no
+/// expression yet. Parentheses count as tokens.
+pub fn read_expr(
+    alloc: Global,
+    tokens: &Tokens,
+    names: &Names,
+    at: u32,
+) -> Result<(Expr, u32), Denied>
+    requires { at < length tokens.now.items }
+    ensures found { IfOk result (λ x. IsRead names.now (drop at tokens.now.items) (term_of x.0) at x.1) }
+    ensures denied { IfErr result (IsRefusal names.now (drop at tokens.now.items)) }
+{
+    let (_, rest) = tokens.items.as_slice().split_at(at as usize);
+    let (window, _) = rest.split_at(rest.len().min(LONGEST + 1));
+    match read_front(alloc, window, names) {
+        Ok((expr, after)) => Ok((expr, at + (window.len() - after.len()) as u32)),
+        Err(stop) => Err(refusal(rest, stop)),
+    }
+}
+
+// The refusal of tokens of which the first 256 stop so.
+fn refusal(tokens: &[Token], stop: Stop<'_>) -> Denied
+    requires { HasPlace tokens.now stop }
+    ensures { IsRefusalAt tokens.now stop.entry result }
+{
+    match stop {
+        Stop::Memory => Denied::Memory,
+        Stop::Wrong(after) => match after {
+            [token, ..] => refused(Rule::P1, token.place),
+            [] => refused(Rule::P2, tokens[LONGEST].place),
+        },
+    }
+}
+
+// The expression with which the tokens begin, and the tokens after it, of which there is one.
+fn read_front<'a>(
+    alloc: Global,
+    tokens: &'a [Token],
+    names: &Names,
+) -> Result<(Expr, &'a [Token]), Stop<'a>>
+    ensures ok { IfOk result (λ x. IsFound names.now tokens.now (term_of x.0) x.1.now) }
+    ensures err { IfErr result (λ e. Misses names.now tokens.now e) }
+{
+    let (expr, after) = read_level(alloc, tokens, names, Level::Or)?;
+    if after.is_empty() {
+        return Err(Stop::Wrong(after));
+    }
+    Ok((expr, after))
 }
 
 // An operand of a level, and the tokens after it.

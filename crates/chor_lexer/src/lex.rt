@@ -105,7 +105,7 @@ fn between_quotes(written: &[u8]) -> &[u8]
 }
 
 // The refusal by a rule at a place.
-fn refused(rule: Rule, place: Place) -> Denied
+pub fn refused(rule: Rule, place: Place) -> Denied
     ensures { result ≡ Denied.Refused (record { rule = rule; place = place; who = None }) }
 {
     Denied::Refused(Refusal {

@@ -11,10 +11,13 @@ mod mark;
 mod number;
 mod place;
 mod scan;
+#[cfg(test)]
+mod tests;
 mod text;
 mod token;
 
 pub use canonical::print_expr;
+pub use expression::read_expr;
 pub use keyword::is_keyword;
 pub use laws::{never_both, one_reading, one_refusal};
 pub use lex::tokens;
