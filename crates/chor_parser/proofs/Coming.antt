@@ -1,6 +1,8 @@
 -- Lists that are read item by item.
 use Rattle.std.proofs.Common.{◌≡◌, ◌<◌, ◌≤◌, ◌+◌, ℕ, List, [], ◌∷◌, ◌++◌, length, ap, refl, sym, ◌∙◌, subst, append_assoc, arith}
 use Rattle.std.proofs.lemmas.List.{append-nil}
+use Rattle.std.proofs.lemmas.Result.{IfOk-weaker}
+use Rattle.std.proofs.Common.{Result, IfOk}
 use Rattle.chor_lexer.specs.declared.mark.Mark.TheVariants.{Comma, Semicolon}
 use Rattle.chor_lexer.specs.declared.token.Token.{Token}
 use Rattle.chor_tree.specs.declared.protocol.State.{State}
@@ -78,3 +80,7 @@ more_lines {names} {ts} {t1} {t2} {t3} {ls} {ks} l c p s m h e = record {
 -- the place of a token that is read
 pub stands_by_word : {names : List (List ℕ)} {w : List ℕ} {ts rest : List Token} {p : Place} → WordIs names w ts rest → ((t : Token) (r : List Token) → ts ≡ t ∷ r → p ≡ t.place) → StandsAt p ts
 stands_by_word h f = record { token = h.token; rest = _; parts = h.parts; place = f h.token _ h.parts }
+
+-- what holds of a value that a call answers
+pub ok_then : {X Y : Type 0} (r : Result X Y) (P Q : X → Type 0) → IfOk r P → ((x : X) → P x → Q x) → IfOk r Q
+ok_then r P Q h f = IfOk-weaker r P Q f h

@@ -1,5 +1,6 @@
 -- The end of a file.
-use Rattle.std.proofs.Common.{◌≡◌, ℕ, Bool, true, false, ◌&&◌, not, List, [], ◌∷◌, drop, ap, refl, sym, ◌∙◌, subst}
+use Rattle.std.specs.Prelude.{IsTrue}
+use Rattle.std.proofs.Common.{suc, zero, ◌≡◌, ℕ, Bool, true, false, ◌&&◌, not, List, [], ◌∷◌, drop, ap, refl, sym, ◌∙◌, subst}
 use Rattle.chor_lexer.specs.declared.token.Kind.{Kind}
 use Rattle.chor_lexer.specs.declared.token.Kind.TheVariants.{Last}
 use Rattle.chor_lexer.specs.declared.token.Token.{Token}
@@ -27,7 +28,7 @@ left_ended (suc n) (u ∷ []) t rest e d = left_ended n [] t rest (absurd_end n 
     absurd_end (suc n) t rest d = absurd cc
 left_ended (suc n) (u ∷ v ∷ ts) t rest e d = left_ended n (v ∷ ts) t rest (both_true (not (is_last u.kind)) (is_ended (v ∷ ts)) e) d
 
-pub end_is : (tokens : List Token) (n : ℕ) → is_ended tokens ≡ true → Ends (drop n tokens) → EndIs (drop n tokens)
+pub end_is : (tokens : List Token) (n : ℕ) → IsTrue (is_ended tokens) → Ends (drop n tokens) → EndIs (drop n tokens)
 end_is tokens n e h =
     let ended : is_ended (h.token ∷ h.rest) ≡ true = left_ended n tokens h.token h.rest e h.parts in
     let none : h.rest ≡ [] = alone h.token h.rest ended h.last in

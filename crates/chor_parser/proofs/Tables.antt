@@ -88,15 +88,22 @@ pub record Pushes (first : List Node) (lines : List Line) (tail : NodeId) (nodes
 pub pushes_none : (nodes : List Node) (lines : List Line) (tail : NodeId) → tail.0 < length nodes → Pushes nodes lines tail nodes lines tail
 pushes_none nodes lines tail lt = record { block = refl; there = lt; grows = grows_none nodes }
 
-pub pushes_line : {first nodes new : List Node} {lines left rest : List Line} {tail next id : NodeId} {l : Line} {n : Node} → Pushes first lines tail nodes left next → left ≡ rest ++ l ∷ [] → n ≡ record { place = l.place; form = form_of l.statement next } → new ≡ nodes ++ n ∷ [] → id.0 ≡ length nodes → Pushes first lines tail new rest id
-pushes_line {first} {nodes} {new} {lines} {left} {rest} {tail} {next} {id} {l} {n} p e is made at =
+pub pushes_line : {first nodes : List Node} {lines left : List Line} {tail next : NodeId} (l : Line) (n : Node) (rest : List Line) (new : List Node) (id : NodeId) → Pushes first lines tail nodes left next → left ≡ rest ++ l ∷ [] → n.place ≡ l.place → n.form ≡ form_of l.statement next → new ≡ nodes ++ n ∷ [] → id.0 ≡ length nodes → Pushes first lines tail new rest id
+pushes_line {first} {nodes} {lines} {left} {tail} {next} l n rest new id p e place form made at =
     let here : block_in (blocks_of new) id ≡ Then l.place (statement_of l.statement) (block_in (blocks_of nodes) next) =
-    block_pushed nodes new n id made at ∙ ap (λ (k : Node). block_of (blocks_of nodes) k.place k.form) is ∙ block_of_form (blocks_of nodes) l.place l.statement next in
+    block_pushed nodes new n id made at ∙ (λ i. block_of (blocks_of nodes) (place i) (form i)) ∙ block_of_form (blocks_of nodes) l.place l.statement next in
     record {
       block = ap (with_lines rest) here ∙ sym (with_last rest l (block_in (blocks_of nodes) next)) ∙ ap (λ (ls : List Line). with_lines ls (block_in (blocks_of nodes) next)) (sym e) ∙ p.block;
       there = last_there nodes new n id made at;
       grows = grows_on first nodes new p.grows (grows_by nodes new n made);
     }
+
+no_line : (ls : List Line) (b : Block) → length ls ≡ 0 → b ≡ with_lines ls b
+no_line [] b e = refl
+no_line (l ∷ ls) b e = absurd (omega arith)
+
+pub all_pushed : {first nodes : List Node} {lines left : List Line} {tail next : NodeId} → Pushes first lines tail nodes left next → length left ≡ 0 → block_in (blocks_of nodes) next ≡ with_lines lines (block_in (blocks_of first) tail)
+all_pushed {nodes = nodes} {left = left} {next = next} p e = no_line left (block_in (blocks_of nodes) next) e ∙ p.block
 
 -- ---- procedures
 
@@ -113,3 +120,6 @@ all_there old new (p ∷ ps) g h = (still_there old new p.body g h.0, all_there 
 pub last_is_there : (nodes : List Node) (ps : List Proc) (p : Proc) → AreThere nodes ps → p.body.0 < length nodes → AreThere nodes (ps ++ p ∷ [])
 last_is_there nodes [] p h lt = (lt, tt)
 last_is_there nodes (q ∷ ps) p h lt = (h.0, last_is_there nodes ps p h.1 lt)
+
+pub none_there : (nodes : List Node) (ps : List Proc) → ps ≡ [] → AreThere nodes ps
+none_there nodes ps e = subst (λ (l : List Proc). AreThere nodes l) (sym e) tt

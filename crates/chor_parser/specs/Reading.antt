@@ -30,7 +30,7 @@ names_of input = input.names.now
 
 -- the tokens from a place on
 abbrev pub tokens_from : Input → ℕ → List Token
-tokens_from input at = drop at input.tokens.now
+tokens_from input at = drop at input.tokens.now.items
 
 -- the next token is the end of the file
 pub record Ends (ts : List Token) : Type 0 where
@@ -169,6 +169,10 @@ pub record ItemGoes (names : List (List ℕ)) (ts : List Token) (old new : Decla
   pub shorter : length rest < length ts
   pub reads : (is : Items) (end : List Token) → ItemsAre names rest is end
       → (js : Items) × ItemsAre names ts js end × (joined (items_of old) js ≡ joined (items_of new) is)
+
+-- after the keyword of an item
+abbrev pub IsRestOfItem : List (List ℕ) → List ℕ → List Token → Declared → Declared → List Token → Type 0
+IsRestOfItem names w ts old new rest = (t0 : List Token) → WordIs names w t0 ts → ItemGoes names t0 old new rest
 
 -- these are the items before the rest
 pub record ItemsGo (names : List (List ℕ)) (ts : List Token) (d : Declared) (rest : List Token) : Type 0 where

@@ -29,6 +29,13 @@ struct Line {
     statement: Statement,
 }
 
+// Statements, and how many more may stand after them.
+#[derive(Drop)]
+struct Lines {
+    items: Vec<Line>,
+    left: usize,
+}
+
 // The block that is a body.
 pub fn read_body(
     alloc: Global,
@@ -65,11 +72,11 @@ fn read_block(
     let (lines, at) = read_lines(alloc, input, at, room.statements)?;
     let left = Room {
         blocks: room.blocks - 1,
-        statements: room.statements - lines.len(),
+        statements: lines.left,
     };
     let (tail, at) = read_tail(alloc, input, at, tree, left)?;
     let at = input.take_mark(at, Mark::CloseBrace)?;
-    let first = push_lines(tree, lines, tail)?;
+    let first = push_lines(tree, lines.items, tail)?;
     Ok((first, at))
 }
 
@@ -91,20 +98,21 @@ fn read_lines(
     input: &Input,
     at: usize,
     statements: usize,
-) -> Result<(Vec<Line>, usize), Denied>
-    ensures read { IfOk result (λ x. LinesGo (names_of input.now) (tokens_from input.now at) x.0.items (tokens_from input.now x.1)) }
+) -> Result<(Lines, usize), Denied>
+    ensures read { IfOk result (λ x. LinesGo (names_of input.now) (tokens_from input.now at) x.0.items.items (tokens_from input.now x.1)) }
     ensures shorter { IfOk result (λ x. length (tokens_from input.now x.1) ≤ length (tokens_from input.now at)) }
-    ensures few { IfOk result (λ x. length x.0.items ≤ statements) }
 {
     let mut lines = Vec::new(alloc);
+    let mut left = statements;
     let mut at = at;
     while let Some(place) = statement_at(input, at) {
-        room_for_statement(input, at, statements - lines.len())?;
+        room_for_statement(input, at, left)?;
         let (statement, after) = read_statement(alloc, input, at)?;
         push_line(&mut lines, Line { place, statement })?;
         at = input.take_mark(after, Mark::Semicolon)?;
+        left -= 1;
     }
-    Ok((lines, at))
+    Ok((Lines { items: lines, left }, at))
 }
 
 fn push_line(lines: &mut Vec<Line>, line: Line) -> Result<(), Memory>
@@ -177,7 +185,8 @@ fn read_tail(
     }
     if let Some(after) = input.after_word(at, b"call") {
         room_for_statement(input, at, room.statements)?;
-        return read_call(alloc, input, after, tree, place);
+        let (call, at) = read_call(alloc, input, after, tree, place)?;
+        return Ok((call, at));
     }
     let after = input.take_word(at, b"if")?;
     room_for_statement(input, at, room.statements)?;
@@ -185,7 +194,8 @@ fn read_tail(
         blocks: room.blocks,
         statements: room.statements - 1,
     };
-    read_if(alloc, input, after, tree, left, place)
+    let (branch, at) = read_if(alloc, input, after, tree, left, place)?;
+    Ok((branch, at))
 }
 
 // "call" NAME "(" [ names [ ";" names ] ] ")", after its keyword

@@ -8,14 +8,14 @@ ghost use Rattle.chor_parser.specs.Grammar.{NameIs, WordIs, MarkIs};
 ghost use Rattle.chor_parser.specs.Reading.{names_of, tokens_from, Ends};
 
 use chor_base::{Denied, NameId, Names, Place, Refusal, Rule};
-use chor_lexer::{Kind, Mark, Token, is_keyword};
+use chor_lexer::{Kind, Mark, Tokens, is_keyword};
 use chor_tree::Named;
 
 // The tokens of a file, and the table in which its words have their numbers. A place in them is
 // how many tokens stand before it.
 #[derive(Drop)]
 pub struct Input<'a> {
-    pub tokens: &'a [Token],
+    pub tokens: &'a Tokens,
     pub names: &'a Names,
 }
 
@@ -25,7 +25,7 @@ impl Input<'_> {
         ensures found { IfSome result (λ x. NameIs (names_of self.now) (tokens_from self.now at) x.0 (tokens_from self.now x.1)) }
         ensures none { IfNone result ((n : Named) (rest : List Token) → NameIs (names_of self.now) (tokens_from self.now at) n rest → ⊥) }
     {
-        let token = *self.tokens.get(at)?;
+        let token = *self.tokens.items.as_slice().get(at)?;
         let Kind::Word(name) = token.kind else {
             return None;
         };
@@ -44,7 +44,7 @@ impl Input<'_> {
         ensures found { IfSome result (λ after. WordIs (names_of self.now) word.now (tokens_from self.now at) (tokens_from self.now after)) }
         ensures none { IfNone result ((rest : List Token) → WordIs (names_of self.now) word.now (tokens_from self.now at) rest → ⊥) }
     {
-        let token = *self.tokens.get(at)?;
+        let token = *self.tokens.items.as_slice().get(at)?;
         match token.kind {
             Kind::Word(name) if self.is_spelled(name, word) => Some(at + 1),
             _ => None,
@@ -56,7 +56,7 @@ impl Input<'_> {
         ensures found { IfSome result (λ after. MarkIs mark (tokens_from self.now at) (tokens_from self.now after)) }
         ensures none { IfNone result ((rest : List Token) → MarkIs mark (tokens_from self.now at) rest → ⊥) }
     {
-        let token = *self.tokens.get(at)?;
+        let token = *self.tokens.items.as_slice().get(at)?;
         match token.kind {
             Kind::Mark(found) if found == mark => Some(at + 1),
             _ => None,
@@ -114,7 +114,7 @@ impl Input<'_> {
     pub fn place_of(&self, at: usize) -> Place
         ensures { (t : Token) (rest : List Token) → tokens_from self.now at ≡ t ∷ rest → result ≡ t.place }
     {
-        match self.tokens.get(at) {
+        match self.tokens.items.as_slice().get(at) {
             Some(token) => token.place,
             None => Place { line: 1, col: 1 },
         }
@@ -124,7 +124,7 @@ impl Input<'_> {
     pub fn is_end(&self, at: usize) -> bool
         ensures { IsTrue result → Ends (tokens_from self.now at) }
     {
-        match self.tokens.get(at) {
+        match self.tokens.items.as_slice().get(at) {
             Some(token) => matches!(token.kind, Kind::Last),
             None => false,
         }

@@ -42,7 +42,7 @@ fn read_states(alloc: Global, input: &Input, at: usize) -> Result<(List<State>, 
     let (first, mut at) = read_state(alloc, input, at)?;
     let mut states = List::new(alloc);
     states.push(first)?;
-    while input.name_at(at).is_some() {
+    'states: while input.name_at(at).is_some() {
         input.room_for_name(at, states.len(), STATES)?;
         let (state, more) = read_state(alloc, input, at)?;
         states.push(state)?;
@@ -73,7 +73,8 @@ fn read_step(alloc: Global, input: &Input, at: usize) -> Result<(ProtoStep, usiz
     let at = input.take_mark(at, Mark::Arrow)?;
     let (to, at) = input.take_name(at)?;
     if let Some(at) = input.after_mark(at, Mark::Colon) {
-        return read_value_step(from, to, input, at);
+        let (value, at) = read_value_step(from, to, input, at)?;
+        return Ok((value, at));
     }
     let at = input.take_mark(at, Mark::OpenBrace)?;
     let (arms, at) = read_arms(alloc, input, at)?;

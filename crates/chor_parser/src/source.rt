@@ -1,9 +1,9 @@
 //! Whole sources.
 
-ghost use Rattle.std.specs.Prelude.{◌≡◌, ◌<◌, length, IfOk, OnOk, IfSome, IfNone};
+ghost use Rattle.std.specs.Prelude.{◌≡◌, ◌<◌, codes, length, IfOk, OnOk, IfSome, IfNone};
 ghost use Rattle.chor_parser.specs.Source.{block_in, blocks_of, procedure_of, source_of};
 ghost use Rattle.chor_parser.specs.Grammar.{FileIs};
-ghost use Rattle.chor_parser.specs.Reading.{names_of, tokens_from, Grows, AreThere, IsRestOfProcedure, IsRestOfMain, ItemGoes, ItemsGo};
+ghost use Rattle.chor_parser.specs.Reading.{names_of, tokens_from, Grows, AreThere, IsRestOfProcedure, IsRestOfMain, IsRestOfItem, ItemGoes, ItemsGo};
 
 use crate::block::read_body;
 use crate::input::Input;
@@ -29,7 +29,7 @@ pub fn parse(alloc: Global, tokens: &Tokens, names: Names, texts: Texts) -> Resu
     ensures bodies { IfOk result (λ file. AreThere file.tree.nodes file.procs) }
 {
     let input = Input {
-        tokens: tokens.items.as_slice(),
+        tokens,
         names: &names,
     };
     let (items, at) = read_items(alloc, &input)?;
@@ -69,17 +69,24 @@ fn read_items(alloc: Global, input: &Input) -> Result<(Declared, usize), Denied>
     ensures read { IfOk result (λ x. ItemsGo (names_of input.now) (tokens_from input.now 0) x.0 (tokens_from input.now x.1)) }
     ensures there { IfOk result (λ x. AreThere x.0.tree.nodes x.0.procs) }
 {
+    let protocols = List::new(alloc);
+    let services = List::new(alloc);
+    let procs = List::new(alloc);
+    let tree = Tree::new(alloc);
     let mut items = Declared {
-        protocols: List::new(alloc),
-        services: List::new(alloc),
-        procs: List::new(alloc),
-        tree: Tree::new(alloc),
+        protocols,
+        services,
+        procs,
+        tree,
     };
     let mut at = 0;
-    while let Some(after) = read_item(alloc, input, at, &mut items)? {
+    'items: loop {
+        let next = read_item(alloc, input, at, &mut items)?;
+        let Some(after) = next else {
+            return Ok((items, at));
+        };
         at = after;
     }
-    Ok((items, at))
 }
 
 // protocol | service | proc, if one comes, and the place after it
@@ -95,21 +102,66 @@ fn read_item(
     ensures there { OnOk result (AreThere items.new.tree.nodes items.new.procs) }
 {
     if let Some(at) = input.after_word(at, b"protocol") {
-        let (protocol, at) = read_protocol(alloc, input, at)?;
-        items.protocols.push(protocol)?;
-        return Ok(Some(at));
+        let after_protocol = add_protocol(alloc, input, at, items)?;
+        return Ok(Some(after_protocol));
     }
     if let Some(at) = input.after_word(at, b"service") {
-        let (service, at) = read_service(alloc, input, at)?;
-        items.services.push(service)?;
-        return Ok(Some(at));
+        let after_service = add_service(alloc, input, at, items)?;
+        return Ok(Some(after_service));
     }
     if let Some(at) = input.after_word(at, b"proc") {
-        let (procedure, at) = read_procedure(alloc, input, at, &mut items.tree)?;
-        items.procs.push(procedure)?;
-        return Ok(Some(at));
+        let after_procedure = add_procedure(alloc, input, at, items)?;
+        return Ok(Some(after_procedure));
     }
     Ok(None)
+}
+
+// protocol, after its keyword
+fn add_protocol(
+    alloc: Global,
+    input: &Input,
+    at: usize,
+    items: &mut Declared,
+) -> Result<usize, Denied>
+    requires { AreThere items.old.tree.nodes items.old.procs }
+    ensures goes { IfOk result (λ next. IsRestOfItem (names_of input.now) (codes "protocol") (tokens_from input.now at) items.old items.new (tokens_from input.now next)) }
+    ensures there { OnOk result (AreThere items.new.tree.nodes items.new.procs) }
+{
+    let (protocol, at) = read_protocol(alloc, input, at)?;
+    items.protocols.push(protocol)?;
+    Ok(at)
+}
+
+// service, after its keyword
+fn add_service(
+    alloc: Global,
+    input: &Input,
+    at: usize,
+    items: &mut Declared,
+) -> Result<usize, Denied>
+    requires { AreThere items.old.tree.nodes items.old.procs }
+    ensures goes { IfOk result (λ next. IsRestOfItem (names_of input.now) (codes "service") (tokens_from input.now at) items.old items.new (tokens_from input.now next)) }
+    ensures there { OnOk result (AreThere items.new.tree.nodes items.new.procs) }
+{
+    let (service, at) = read_service(alloc, input, at)?;
+    items.services.push(service)?;
+    Ok(at)
+}
+
+// proc, after its keyword
+fn add_procedure(
+    alloc: Global,
+    input: &Input,
+    at: usize,
+    items: &mut Declared,
+) -> Result<usize, Denied>
+    requires { AreThere items.old.tree.nodes items.old.procs }
+    ensures goes { IfOk result (λ next. IsRestOfItem (names_of input.now) (codes "proc") (tokens_from input.now at) items.old items.new (tokens_from input.now next)) }
+    ensures there { OnOk result (AreThere items.new.tree.nodes items.new.procs) }
+{
+    let (procedure, at) = read_procedure(alloc, input, at, &mut items.tree)?;
+    items.procs.push(procedure)?;
+    Ok(at)
 }
 
 // proc = "proc" NAME "(" .. ")" block, after its keyword

@@ -146,14 +146,17 @@ pub fn read_statement(alloc: Global, input: &Input, at: usize) -> Result<(Statem
     ensures read { IfOk result (λ x. StatementIs (names_of input.now) (tokens_from input.now at) (statement_of x.0) (tokens_from input.now x.1)) }
 {
     if let Some(at) = input.after_word(at, b"start") {
-        return read_start(alloc, input, at);
+        let (start, at) = read_start(alloc, input, at)?;
+        return Ok((start, at));
     }
     let (process, at) = input.take_name(at)?;
     if let Some(at) = input.after_mark(at, Mark::OpenBracket) {
-        return read_sending(alloc, process, input, at);
+        let (sending, at) = read_sending(alloc, process, input, at)?;
+        return Ok((sending, at));
     }
     if let Some(at) = input.after_mark(at, Mark::Dot) {
-        return read_setting(alloc, process, input, at);
+        let (setting, at) = read_setting(alloc, process, input, at)?;
+        return Ok((setting, at));
     }
     let at = input.take_word(at, b"show")?;
     let (expr, at) = read_expression(alloc, input, at)?;
@@ -203,16 +206,19 @@ fn read_sending(
     let at = input.take_mark(at, Mark::CloseBracket)?;
     let from = Part { process, role };
     if let Some(at) = input.after_mark(at, Mark::Dot) {
-        return read_value(alloc, from, input, at);
+        let (value, at) = read_value(alloc, from, input, at)?;
+        return Ok((value, at));
     }
     let at = input.take_mark(at, Mark::Arrow)?;
     let (to, at) = read_part(input, at)?;
     let at = input.take_mark(at, Mark::Colon)?;
     let (session, at) = input.take_name(at)?;
     if let Some(at) = input.after_mark(at, Mark::Dot) {
-        return read_label(from, to, session, input, at);
+        let (label, at) = read_label(from, to, session, input, at)?;
+        return Ok((label, at));
     }
-    read_give(from, to, session, input, at)
+    let (give, at) = read_give(from, to, session, input, at)?;
+    Ok((give, at))
 }
 
 // part "." expr "->" part "." NAME ":" NAME, after the first dot
@@ -295,7 +301,8 @@ fn read_setting(
     let (var, at) = input.take_name(at)?;
     let at = input.take_mark(at, Mark::Becomes)?;
     if let Some(at) = input.after_word(at, b"host") {
-        return read_host(alloc, process, var, input, at);
+        let (host, at) = read_host(alloc, process, var, input, at)?;
+        return Ok((host, at));
     }
     let (expr, at) = read_expression(alloc, input, at)?;
     let set = Statement::Set {

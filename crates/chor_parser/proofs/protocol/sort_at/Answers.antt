@@ -17,7 +17,7 @@ pub returns-in-Some-after_word-clause-found : goal.returns-in-Some-after_word-cl
 returns-in-Some-after_word-clause-found c = bool c.in-Some-after_word.ensures.found
 
 pub returns-in_err-after-clause-none : goal.returns-in_err-after-clause-none
-returns-in_err-after-clause-none c = ?
+returns-in_err-after-clause-none c = rw c.from_residual.ensures (no_sort _ _ c.in_default.ensures.none c.in_default-after_word.ensures.none c.in_err-after.ensures.none)
 
 pub returns-clause-found : goal.returns-clause-found
 returns-clause-found c = text c.in_ok-after.ensures.found
