@@ -1,5 +1,5 @@
 -- Blocks whose nodes are in a table.
-use Rattle.std.proofs.Common.{◌≡◌, ◌<◌, ◌+◌, ℕ, List, [], ◌∷◌, ◌++◌, length, ap, refl, sym, ◌∙◌, subst, codes}
+use Rattle.std.proofs.Common.{◌≡◌, ◌<◌, ℕ, List, [], ◌∷◌, ◌++◌, length, ap, sym, ◌∙◌, subst, codes}
 use Rattle.chor_base.specs.declared.rule.Place.{Place}
 use Rattle.chor_base.specs.declared.expr.Expr.{Expr}
 use Rattle.chor_base.specs.Expr.{term_of}
@@ -13,7 +13,7 @@ use Rattle.chor_tree.specs.declared.tree.Form.TheVariants as form
 use Rattle.chor_parser.specs.declared.block.Line.{Line}
 use Rattle.chor_parser.specs.Source.{Block, Either, Calls, Ends, block_in, block_of, blocks_of}
 use Rattle.chor_parser.specs.Grammar.{MarkIs, WordIs, NameIs, StandsAt, PassedAre, BlockIs, LinesAre, TailIs, a_block, a_tail, an_end, a_call, a_conditional}
-use Rattle.chor_parser.specs.Reading.{with_lines, LinesGo, Grows, IsRestOfCall, IsRestOfConditional}
+use Rattle.chor_parser.specs.Reading.{with_lines, Grows, IsRestOfCall, IsRestOfConditional}
 use Rattle.chor_parser.proofs.Tables.{block_stays, block_pushed}
 
 pub block_made : {names : List (List ℕ)} {ts t1 t2 t3 rest : List Token} (ls : List Line) {b all : Block} → MarkIs OpenBrace ts t1 → ((c : Block) (end : List Token) → LinesAre names t2 c end → LinesAre names t1 (with_lines ls c) end) → TailIs names t2 b t3 → MarkIs CloseBrace t3 rest → all ≡ with_lines ls b → BlockIs names ts all rest

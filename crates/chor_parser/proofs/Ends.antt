@@ -1,6 +1,6 @@
 -- The end of a file.
 use Rattle.std.specs.Prelude.{IsTrue}
-use Rattle.std.proofs.Common.{suc, zero, ◌≡◌, ℕ, Bool, true, false, ◌&&◌, not, List, [], ◌∷◌, drop, ap, refl, sym, ◌∙◌, subst}
+use Rattle.std.proofs.Common.{suc, zero, ◌≡◌, ℕ, Bool, true, false, ◌&&◌, not, List, [], ◌∷◌, drop, ap, refl, ◌∙◌, subst}
 use Rattle.chor_lexer.specs.declared.token.Kind.{Kind}
 use Rattle.chor_lexer.specs.declared.token.Kind.TheVariants.{Last}
 use Rattle.chor_lexer.specs.declared.token.Token.{Token}

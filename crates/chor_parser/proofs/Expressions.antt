@@ -1,5 +1,5 @@
 -- The expression that is read.
-use Rattle.std.proofs.Common.{suc, zero, ◌≡◌, ◌+◌, ◌≤◌, ℕ, List, [], ◌∷◌, ◌++◌, length, drop, ap, refl, sym, ◌∙◌, subst, arith}
+use Rattle.std.proofs.Common.{suc, zero, ◌≡◌, ◌+◌, ℕ, List, [], ◌∷◌, ◌++◌, length, drop, ap, refl, sym, ◌∙◌, subst, arith}
 use Rattle.std.proofs.lemmas.List.{append-nil}
 use Rattle.chor_base.specs.Expr.{Term}
 use Rattle.chor_lexer.specs.declared.token.Token.{Token}

@@ -1,6 +1,6 @@
 -- Items that are read one by one.
 use Rattle.std.specs.Prelude.{IfSome, IfNone, IsTrue}
-use Rattle.std.proofs.Common.{Option, Some, None, drop, ◌≡◌, ◌<◌, ℕ, List, [], ◌∷◌, ◌++◌, length, map, ap, refl, sym, ◌∙◌, subst, append_assoc, arith}
+use Rattle.std.proofs.Common.{Option, Some, None, drop, ◌≡◌, ℕ, List, [], ◌∷◌, ◌++◌, map, ap, refl, sym, ◌∙◌, subst, append_assoc}
 use Rattle.std.proofs.lemmas.List.{append-nil}
 use Rattle.chor_lexer.specs.declared.token.Token.{Token}
 use Rattle.chor_lexer.specs.Tokens.{is_ended}

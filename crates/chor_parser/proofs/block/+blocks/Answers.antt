@@ -1,5 +1,5 @@
-use Rattle.std.proofs.Common.{◌≡◌, ◌<◌, length, refl, arith}
-use Rattle.chor_parser.proofs.Coming.{ok_then, stands_by_word}
+use Rattle.std.proofs.Common.{refl, arith}
+use Rattle.chor_parser.proofs.Coming.{stands_by_word}
 use Rattle.chor_parser.proofs.Tables.{grows_by, grows_on, last_there}
 use Rattle.chor_parser.proofs.Blocks.{block_made, end_made, conditional_made}
 use Rattle.chor_parser.proofs.Shorter.{name_shorter, mark_shorter, word_shorter, or_shorter, block_shorter}

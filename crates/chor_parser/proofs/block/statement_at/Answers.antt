@@ -1,4 +1,3 @@
-use Rattle.chor_parser.specs.Reading.{tokens_from}
 use Rattle.chor_parser.proofs.Coming.{stands_by_word}
 use Rattle.chor_parser.proofs.block.statement_at.Goals as goal
 

@@ -1,4 +1,3 @@
-use Rattle.chor_parser.proofs.Coming.{ok_then}
 use Rattle.chor_parser.specs.Grammar.{end_step, choice_step}
 use Rattle.chor_parser.proofs.protocol.read_step.Goals as goal
 

@@ -1,8 +1,6 @@
-use Rattle.std.proofs.Common.{refl, subst, sym, List}
-use Rattle.chor_tree.specs.declared.file.Proc.{Proc}
-use Rattle.chor_parser.specs.Reading.{AreThere}
+use Rattle.std.proofs.Common.{refl}
 use Rattle.chor_parser.proofs.Tables.{all_there, last_is_there}
-use Rattle.chor_parser.proofs.Joined.{protocol_goes, service_goes, procedure_goes}
+use Rattle.chor_parser.proofs.Joined.{procedure_goes}
 use Rattle.chor_parser.proofs.source.add_procedure.Goals as goal
 
 pub returns-clause-goes : goal.returns-clause-goes

@@ -1,5 +1,5 @@
 use Rattle.std.proofs.Common.{refl}
-use Rattle.chor_parser.proofs.Joined.{protocol_goes, service_goes, procedure_goes}
+use Rattle.chor_parser.proofs.Joined.{service_goes}
 use Rattle.chor_parser.proofs.source.add_service.Goals as goal
 
 pub returns-clause-goes : goal.returns-clause-goes
