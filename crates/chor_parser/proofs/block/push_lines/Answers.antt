@@ -1,0 +1,22 @@
+use Rattle.std.proofs.Common.{refl, ap, arith, length, [], ◌∷◌}
+use Rattle.std.proofs.lemmas.List.{length-append}
+use Rattle.chor_parser.proofs.Tables.{pushes_none, pushes_line, all_pushed}
+use Rattle.chor_parser.proofs.block.push_lines.Goals as goal
+
+pub loop-line-init : goal.loop-line-init
+loop-line-init c = pushes_none _ _ _ c.requires
+
+pub loop-line-preserved : goal.loop-line-preserved
+loop-line-preserved c = pushes_line c.in-Some.line _ _ _ _ c.loop-line.invariant c.in-Some.ensures.items refl c.form_of-form.ensures c.in_ok-next.ensures.ok.1 c.in_ok-next.ensures.ok.0
+
+pub loop-line-smaller : goal.loop-line-smaller
+loop-line-smaller c = let e = ap length c.in-Some.ensures.items in omega (arith, length-append c.pop.new.self.items (c.in-Some.line ∷ []))
+
+pub returns-clause-block : goal.returns-clause-block
+returns-clause-block c = all_pushed c.loop-line.invariant (omega (arith, c.in_default.ensures.cases.0, c.loop-line.lines.ok.0))
+
+pub returns-clause-there : goal.returns-clause-there
+returns-clause-there c = c.loop-line.invariant.there
+
+pub returns-clause-grows : goal.returns-clause-grows
+returns-clause-grows c = c.loop-line.invariant.grows

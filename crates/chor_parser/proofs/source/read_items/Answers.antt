@@ -1,0 +1,15 @@
+use Rattle.chor_parser.proofs.Tables.{none_there}
+use Rattle.chor_parser.proofs.Joined.{none_so_far, one_so_far, item_at, none_at, same_items}
+use Rattle.chor_parser.proofs.source.read_items.Goals as goal
+
+pub items-init : goal.items-init
+items-init c = record { go = none_so_far c.new-protocols.ensures c.new-services.ensures c.new-procs.ensures; there = none_there _ _ c.new-procs.ensures }
+
+pub items-preserved : goal.items-preserved
+items-preserved c = record { go = one_so_far c.items.invariant.go (item_at _ _ _ _ _ _ _ c.in_ok-next.ensures.some c.in-Some.is); there = c.in_ok-next.ensures.there }
+
+pub items-smaller : goal.items-smaller
+items-smaller c = (item_at _ _ _ _ _ _ _ c.in_ok-next.ensures.some c.in-Some.is).shorter
+
+pub returns-in_default-clause-read : goal.returns-in_default-clause-read
+returns-in_default-clause-read c = same_items _ c.items.invariant.go (none_at _ _ _ c.in_ok-next.ensures.none c.in_default.is)

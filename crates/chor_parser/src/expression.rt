@@ -1,0 +1,22 @@
+//! Expressions.
+
+ghost use Rattle.std.specs.Prelude.{IfOk};
+ghost use Rattle.chor_base.specs.Expr.{term_of};
+ghost use Rattle.chor_lexer.specs.Grammar.{ExprIs};
+ghost use Rattle.chor_parser.specs.Reading.{names_of, tokens_from};
+
+use crate::input::Input;
+use chor_base::{Denied, Expr, Rule};
+use chor_lexer::read_expr;
+use std::alloc::Global;
+
+// expr
+pub fn read_expression(alloc: Global, input: &Input, at: usize) -> Result<(Expr, usize), Denied>
+    ensures read { IfOk result (λ x. ExprIs (names_of input.now) (tokens_from input.now at) (term_of x.0) (tokens_from input.now x.1)) }
+{
+    if at >= input.tokens.items.len() {
+        return Err(input.refused(Rule::P1, at));
+    }
+    let (expr, after) = read_expr(alloc, input.tokens, input.names, at as u32)?;
+    Ok((expr, after as usize))
+}

@@ -1,0 +1,20 @@
+//! How much of each thing a source may have.
+
+/// Roles of a protocol; of a service, over both its lists.
+pub const ROLES: usize = 16;
+/// States of a protocol.
+pub const STATES: usize = 256;
+/// Labels of one choice.
+pub const LABELS: usize = 64;
+/// Process parameters, and session parameters, of a procedure.
+pub const PARAMETERS: usize = 8;
+/// Variables of one process parameter.
+pub const VARIABLES: usize = 16;
+/// Processes of main.
+pub const PROCESSES: usize = 64;
+/// Blocks that are open at once.
+pub const OPEN_BLOCKS: usize = 64;
+/// Statements on one path of a body, its tail among them.
+pub const STATEMENTS: usize = 1024;
+/// For lists without a limit.
+pub const UNLIMITED: usize = usize::MAX;

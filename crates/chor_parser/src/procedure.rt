@@ -1,0 +1,203 @@
+//! The heads of procedures.
+
+ghost use Rattle.std.specs.Prelude.{IfOk};
+ghost use Rattle.chor_parser.specs.Grammar.{ListIs, VariableIs, VariablesAre, ProcParamIs, HolderIs, SessionParamIs, SessionsAre, ParamsAre};
+ghost use Rattle.chor_parser.specs.Reading.{names_of, tokens_from};
+
+use crate::input::Input;
+use crate::limits::{PARAMETERS, VARIABLES};
+use crate::protocol::take_sort;
+use chor_base::{Denied, List, Sort};
+use chor_lexer::Mark;
+use chor_tree::{Named, ProcParam, SessionParam};
+use std::alloc::Global;
+
+// The parameters of a procedure.
+#[derive(Drop)]
+pub struct Parameters {
+    pub params: List<ProcParam>,
+    pub sessions: List<SessionParam>,
+}
+
+// [ pparam { "," pparam } [ ";" sparam { "," sparam } ] ]
+pub fn read_parameters(
+    alloc: Global,
+    input: &Input,
+    at: usize,
+) -> Result<(Parameters, usize), Denied>
+    ensures read { IfOk result (λ x. ParamsAre (names_of input.now) (tokens_from input.now at) x.0.params x.0.sessions (tokens_from input.now x.1)) }
+{
+    if input.name_at(at).is_none() {
+        let parameters = Parameters {
+            params: List::new(alloc),
+            sessions: List::new(alloc),
+        };
+        return Ok((parameters, at));
+    }
+    let (params, at) = read_process_params(alloc, input, at)?;
+    let (sessions, at) = read_sessions(alloc, input, at)?;
+    Ok((Parameters { params, sessions }, at))
+}
+
+// pparam { "," pparam }
+fn read_process_params(
+    alloc: Global,
+    input: &Input,
+    at: usize,
+) -> Result<(List<ProcParam>, usize), Denied>
+    ensures read { IfOk result (λ x. ListIs (ProcParamIs (names_of input.now)) (tokens_from input.now at) x.0 (tokens_from input.now x.1)) }
+{
+    let (first, mut at) = read_process_param(alloc, input, at)?;
+    let mut params = List::new(alloc);
+    params.push(first)?;
+    while let Some(after) = input.after_mark(at, Mark::Comma) {
+        input.room_for_name(after, params.len(), PARAMETERS)?;
+        let (param, more) = read_process_param(alloc, input, after)?;
+        params.push(param)?;
+        at = more;
+    }
+    Ok((params, at))
+}
+
+// pparam = NAME [ "(" NAME ":" sort { "," NAME ":" sort } ")" ]
+fn read_process_param(alloc: Global, input: &Input, at: usize) -> Result<(ProcParam, usize), Denied>
+    ensures read { IfOk result (λ x. ProcParamIs (names_of input.now) (tokens_from input.now at) x.0 (tokens_from input.now x.1)) }
+{
+    let (name, at) = input.take_name(at)?;
+    let (vars, at) = read_any_vars(alloc, input, at)?;
+    Ok((ProcParam { name, vars }, at))
+}
+
+// [ "(" NAME ":" sort { "," NAME ":" sort } ")" ]
+fn read_any_vars(
+    alloc: Global,
+    input: &Input,
+    at: usize,
+) -> Result<(List<(Named, Sort)>, usize), Denied>
+    ensures read { IfOk result (λ x. VariablesAre (names_of input.now) (tokens_from input.now at) x.0 (tokens_from input.now x.1)) }
+{
+    let Some(after) = input.after_mark(at, Mark::OpenParen) else {
+        return Ok((List::new(alloc), at));
+    };
+    let (vars, at) = read_vars(alloc, input, after)?;
+    let at = input.take_mark(at, Mark::CloseParen)?;
+    Ok((vars, at))
+}
+
+// NAME ":" sort { "," NAME ":" sort }
+fn read_vars(
+    alloc: Global,
+    input: &Input,
+    at: usize,
+) -> Result<(List<(Named, Sort)>, usize), Denied>
+    ensures read { IfOk result (λ x. ListIs (VariableIs (names_of input.now)) (tokens_from input.now at) x.0 (tokens_from input.now x.1)) }
+{
+    let (first, mut at) = read_var(input, at)?;
+    let mut vars = List::new(alloc);
+    vars.push(first)?;
+    while let Some(after) = input.after_mark(at, Mark::Comma) {
+        input.room_for_name(after, vars.len(), VARIABLES)?;
+        let (var, more) = read_var(input, after)?;
+        vars.push(var)?;
+        at = more;
+    }
+    Ok((vars, at))
+}
+
+// NAME ":" sort
+fn read_var(input: &Input, at: usize) -> Result<((Named, Sort), usize), Denied>
+    ensures read { IfOk result (λ x. VariableIs (names_of input.now) (tokens_from input.now at) x.0 (tokens_from input.now x.1)) }
+{
+    let (name, at) = input.take_name(at)?;
+    let at = input.take_mark(at, Mark::Colon)?;
+    let (sort, at) = take_sort(input, at)?;
+    Ok(((name, sort), at))
+}
+
+// [ ";" sparam { "," sparam } ]
+fn read_sessions(
+    alloc: Global,
+    input: &Input,
+    at: usize,
+) -> Result<(List<SessionParam>, usize), Denied>
+    ensures read { IfOk result (λ x. SessionsAre (names_of input.now) (tokens_from input.now at) x.0 (tokens_from input.now x.1)) }
+{
+    match input.after_mark(at, Mark::Semicolon) {
+        Some(at) => read_session_params(alloc, input, at),
+        None => Ok((List::new(alloc), at)),
+    }
+}
+
+// sparam { "," sparam }
+fn read_session_params(
+    alloc: Global,
+    input: &Input,
+    at: usize,
+) -> Result<(List<SessionParam>, usize), Denied>
+    ensures read { IfOk result (λ x. ListIs (SessionParamIs (names_of input.now)) (tokens_from input.now at) x.0 (tokens_from input.now x.1)) }
+{
+    let (first, mut at) = read_session_param(alloc, input, at)?;
+    let mut sessions = List::new(alloc);
+    sessions.push(first)?;
+    while let Some(after) = input.after_mark(at, Mark::Comma) {
+        input.room_for_name(after, sessions.len(), PARAMETERS)?;
+        let (session, more) = read_session_param(alloc, input, after)?;
+        sessions.push(session)?;
+        at = more;
+    }
+    Ok((sessions, at))
+}
+
+// sparam = NAME ":" NAME "." NAME "{" NAME "=" NAME { "," NAME "=" NAME } "}"
+fn read_session_param(
+    alloc: Global,
+    input: &Input,
+    at: usize,
+) -> Result<(SessionParam, usize), Denied>
+    ensures read { IfOk result (λ x. SessionParamIs (names_of input.now) (tokens_from input.now at) x.0 (tokens_from input.now x.1)) }
+{
+    let (name, at) = input.take_name(at)?;
+    let at = input.take_mark(at, Mark::Colon)?;
+    let (protocol, at) = input.take_name(at)?;
+    let at = input.take_mark(at, Mark::Dot)?;
+    let (state, at) = input.take_name(at)?;
+    let at = input.take_mark(at, Mark::OpenBrace)?;
+    let (holders, at) = read_holders(alloc, input, at)?;
+    let at = input.take_mark(at, Mark::CloseBrace)?;
+    let session = SessionParam {
+        name,
+        protocol,
+        state,
+        holders,
+    };
+    Ok((session, at))
+}
+
+// NAME "=" NAME { "," NAME "=" NAME }
+fn read_holders(
+    alloc: Global,
+    input: &Input,
+    at: usize,
+) -> Result<(List<(Named, Named)>, usize), Denied>
+    ensures read { IfOk result (λ x. ListIs (HolderIs (names_of input.now)) (tokens_from input.now at) x.0 (tokens_from input.now x.1)) }
+{
+    let (first, mut at) = read_holder(input, at)?;
+    let mut holders = List::new(alloc);
+    holders.push(first)?;
+    while let Some(after) = input.after_mark(at, Mark::Comma) {
+        let (holder, more) = read_holder(input, after)?;
+        holders.push(holder)?;
+        at = more;
+    }
+    Ok((holders, at))
+}
+
+// NAME "=" NAME
+fn read_holder(input: &Input, at: usize) -> Result<((Named, Named), usize), Denied>
+    ensures read { IfOk result (λ x. HolderIs (names_of input.now) (tokens_from input.now at) x.0 (tokens_from input.now x.1)) }
+{
+    let (role, at) = input.take_name(at)?;
+    let at = input.take_mark(at, Mark::Assign)?;
+    let (holder, at) = input.take_name(at)?;
+    Ok(((role, holder), at))
+}

@@ -1,0 +1,216 @@
+//! Whole sources.
+
+ghost use Rattle.std.specs.Prelude.{◌≡◌, ◌<◌, codes, length, IfOk, OnOk, IfSome, IfNone};
+ghost use Rattle.chor_parser.specs.Source.{block_in, blocks_of, procedure_of, source_of};
+ghost use Rattle.chor_parser.specs.Grammar.{FileIs};
+ghost use Rattle.chor_parser.specs.Reading.{names_of, tokens_from, Grows, AreThere, IsRestOfProcedure, IsRestOfMain, IsRestOfItem, ItemGoes, ItemsGo};
+
+use crate::block::read_body;
+use crate::input::Input;
+use crate::limits::PROCESSES;
+use crate::lists::read_any_names;
+use crate::procedure::read_parameters;
+use crate::protocol::{read_protocol, read_service};
+use chor_base::{Denied, List, Names, Rule, Texts};
+use chor_lexer::{Mark, Tokens};
+use chor_tree::{File, Named, NodeId, Proc, Protocol, Service, Tree};
+use std::alloc::Global;
+
+/// The file that the tokens are, with the tables of names and texts that are given.
+///
+/// It is refused by P1 at the first token that no file has there after those before it, by P2 where
+/// blocks stand too deep or an expression is too long, and by P3 at the first item that is one too
+/// many in its list or on its path.
+pub fn parse(alloc: Global, tokens: &Tokens, names: Names, texts: Texts) -> Result<File, Denied>
+    ensures found { IfOk result (λ file. FileIs names tokens.now.items (source_of file)) }
+    ensures names { IfOk result (λ file. file.names ≡ names) }
+    ensures texts { IfOk result (λ file. file.texts ≡ texts) }
+    ensures body { IfOk result (λ file. file.body.0 < length file.tree.nodes) }
+    ensures bodies { IfOk result (λ file. AreThere file.tree.nodes file.procs) }
+{
+    let input = Input {
+        tokens,
+        names: &names,
+    };
+    let (items, at) = read_items(alloc, &input)?;
+    let Declared {
+        protocols,
+        services,
+        procs,
+        mut tree,
+    } = items;
+    let (main, at) = read_main(alloc, &input, at, &mut tree)?;
+    if !input.is_end(at) {
+        return Err(input.refused(Rule::P1, at));
+    }
+    Ok(File {
+        names,
+        texts,
+        protocols,
+        services,
+        procs,
+        processes: main.processes,
+        tree,
+        body: main.body,
+    })
+}
+
+// What is declared before main, and the nodes of its bodies.
+#[derive(Drop)]
+struct Declared {
+    protocols: List<Protocol>,
+    services: List<Service>,
+    procs: List<Proc>,
+    tree: Tree,
+}
+
+// { protocol | service | proc }
+fn read_items(alloc: Global, input: &Input) -> Result<(Declared, usize), Denied>
+    ensures read { IfOk result (λ x. ItemsGo (names_of input.now) (tokens_from input.now 0) x.0 (tokens_from input.now x.1)) }
+    ensures there { IfOk result (λ x. AreThere x.0.tree.nodes x.0.procs) }
+{
+    let protocols = List::new(alloc);
+    let services = List::new(alloc);
+    let procs = List::new(alloc);
+    let tree = Tree::new(alloc);
+    let mut items = Declared {
+        protocols,
+        services,
+        procs,
+        tree,
+    };
+    let mut at = 0;
+    'items: loop {
+        let next = read_item(alloc, input, at, &mut items)?;
+        let Some(after) = next else {
+            return Ok((items, at));
+        };
+        at = after;
+    }
+}
+
+// protocol | service | proc, if one comes, and the place after it
+fn read_item(
+    alloc: Global,
+    input: &Input,
+    at: usize,
+    items: &mut Declared,
+) -> Result<Option<usize>, Denied>
+    requires { AreThere items.old.tree.nodes items.old.procs }
+    ensures some { IfOk result (λ found. IfSome found (λ next. ItemGoes (names_of input.now) (tokens_from input.now at) items.old items.new (tokens_from input.now next))) }
+    ensures none { IfOk result (λ found. IfNone found (items.new ≡ items.old)) }
+    ensures there { OnOk result (AreThere items.new.tree.nodes items.new.procs) }
+{
+    if let Some(at) = input.after_word(at, b"protocol") {
+        let after_protocol = add_protocol(alloc, input, at, items)?;
+        return Ok(Some(after_protocol));
+    }
+    if let Some(at) = input.after_word(at, b"service") {
+        let after_service = add_service(alloc, input, at, items)?;
+        return Ok(Some(after_service));
+    }
+    if let Some(at) = input.after_word(at, b"proc") {
+        let after_procedure = add_procedure(alloc, input, at, items)?;
+        return Ok(Some(after_procedure));
+    }
+    Ok(None)
+}
+
+// protocol, after its keyword
+fn add_protocol(
+    alloc: Global,
+    input: &Input,
+    at: usize,
+    items: &mut Declared,
+) -> Result<usize, Denied>
+    requires { AreThere items.old.tree.nodes items.old.procs }
+    ensures goes { IfOk result (λ next. IsRestOfItem (names_of input.now) (codes "protocol") (tokens_from input.now at) items.old items.new (tokens_from input.now next)) }
+    ensures there { OnOk result (AreThere items.new.tree.nodes items.new.procs) }
+{
+    let (protocol, at) = read_protocol(alloc, input, at)?;
+    items.protocols.push(protocol)?;
+    Ok(at)
+}
+
+// service, after its keyword
+fn add_service(
+    alloc: Global,
+    input: &Input,
+    at: usize,
+    items: &mut Declared,
+) -> Result<usize, Denied>
+    requires { AreThere items.old.tree.nodes items.old.procs }
+    ensures goes { IfOk result (λ next. IsRestOfItem (names_of input.now) (codes "service") (tokens_from input.now at) items.old items.new (tokens_from input.now next)) }
+    ensures there { OnOk result (AreThere items.new.tree.nodes items.new.procs) }
+{
+    let (service, at) = read_service(alloc, input, at)?;
+    items.services.push(service)?;
+    Ok(at)
+}
+
+// proc, after its keyword
+fn add_procedure(
+    alloc: Global,
+    input: &Input,
+    at: usize,
+    items: &mut Declared,
+) -> Result<usize, Denied>
+    requires { AreThere items.old.tree.nodes items.old.procs }
+    ensures goes { IfOk result (λ next. IsRestOfItem (names_of input.now) (codes "proc") (tokens_from input.now at) items.old items.new (tokens_from input.now next)) }
+    ensures there { OnOk result (AreThere items.new.tree.nodes items.new.procs) }
+{
+    let (procedure, at) = read_procedure(alloc, input, at, &mut items.tree)?;
+    items.procs.push(procedure)?;
+    Ok(at)
+}
+
+// proc = "proc" NAME "(" .. ")" block, after its keyword
+fn read_procedure(
+    alloc: Global,
+    input: &Input,
+    at: usize,
+    tree: &mut Tree,
+) -> Result<(Proc, usize), Denied>
+    ensures read { IfOk result (λ x. IsRestOfProcedure (names_of input.now) (tokens_from input.now at) (procedure_of tree.new.nodes x.0) (tokens_from input.now x.1)) }
+    ensures there { IfOk result (λ x. x.0.body.0 < length tree.new.nodes) }
+    ensures grows { OnOk result (Grows tree.old.nodes tree.new.nodes) }
+{
+    let (name, at) = input.take_name(at)?;
+    let at = input.take_mark(at, Mark::OpenParen)?;
+    let (parameters, at) = read_parameters(alloc, input, at)?;
+    let at = input.take_mark(at, Mark::CloseParen)?;
+    let (body, at) = read_body(alloc, input, at, tree)?;
+    let procedure = Proc {
+        name,
+        params: parameters.params,
+        sessions: parameters.sessions,
+        body,
+    };
+    Ok((procedure, at))
+}
+
+// The processes of main and where its body begins.
+#[derive(Drop)]
+struct Main {
+    processes: List<Named>,
+    body: NodeId,
+}
+
+// main = "main" "(" [ names ] ")" block
+fn read_main(
+    alloc: Global,
+    input: &Input,
+    at: usize,
+    tree: &mut Tree,
+) -> Result<(Main, usize), Denied>
+    ensures read { IfOk result (λ x. IsRestOfMain (names_of input.now) (tokens_from input.now at) x.0.processes (block_in (blocks_of tree.new.nodes) x.0.body) (tokens_from input.now x.1)) }
+    ensures there { IfOk result (λ x. x.0.body.0 < length tree.new.nodes) }
+    ensures grows { OnOk result (Grows tree.old.nodes tree.new.nodes) }
+{
+    let at = input.take_word(at, b"main")?;
+    let at = input.take_mark(at, Mark::OpenParen)?;
+    let (processes, at) = read_any_names(alloc, input, at, PROCESSES)?;
+    let at = input.take_mark(at, Mark::CloseParen)?;
+    let (body, at) = read_body(alloc, input, at, tree)?;
+    Ok((Main { processes, body }, at))
+}
