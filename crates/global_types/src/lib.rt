@@ -1,0 +1,9 @@
+//! Protocols as global types: the states of a protocol, its paths, and what it is for protocols to be without fault.
+#![tactic(auto)]
+
+mod check;
+mod fault;
+mod states;
+
+pub use check::check_protocols;
+pub use states::step_at;
