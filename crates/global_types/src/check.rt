@@ -14,6 +14,7 @@ use chor_tree::{File, Named, Payload, Proc, ProtoArm, ProtoStep, Protocol, Sessi
 /// Checks the protocols of a file. A state that isn't there is refused by G1, a receiver that is
 /// the sender by G2, and a role that no step names by G3; the first fault of the file decides. It
 /// takes no memory.
+#[tactic(auto, using(crate::proofs::Firsts::first_append, crate::proofs::Firsts::none_is_empty, crate::proofs::Firsts::first_is_first))]
 pub fn check_protocols(file: &File) -> Result<(), Denied>
     ensures ok { OnOk result (faults_of file.now ≡ []) }
     ensures refused { IfErr result (IsDenial file.now) }
@@ -33,6 +34,7 @@ pub fn check_protocols(file: &File) -> Result<(), Denied>
     }
 }
 
+#[tactic(auto, using(crate::proofs::Firsts::earlier_none))]
 fn first_in_protocols(protocols: &[Protocol]) -> Option<Fault>
     ensures { result ≡ first_of_all (flat_map (protocol_faults protocols.now) protocols.now) }
 {
@@ -43,6 +45,7 @@ fn first_in_protocols(protocols: &[Protocol]) -> Option<Fault>
     first
 }
 
+#[tactic(auto, using(crate::proofs::Firsts::earlier_none))]
 fn first_in_procedures(protocols: &[Protocol], procs: &[Proc]) -> Option<Fault>
     ensures { result ≡ first_of_all (flat_map (procedure_faults protocols.now) procs.now) }
 {
@@ -56,6 +59,7 @@ fn first_in_procedures(protocols: &[Protocol], procs: &[Proc]) -> Option<Fault>
     first
 }
 
+#[tactic(auto, using(crate::proofs::Firsts::first_append))]
 fn first_in_protocol(protocols: &[Protocol], protocol: &Protocol) -> Option<Fault>
     ensures { result ≡ first_of_all (protocol_faults protocols.now protocol.now) }
 {
@@ -66,17 +70,18 @@ fn first_in_protocol(protocols: &[Protocol], protocol: &Protocol) -> Option<Faul
     )
 }
 
+#[tactic(auto, using(crate::proofs::Firsts::earlier_none))]
 fn first_in_roles(states: &[State], roles: &[Named]) -> Option<Fault>
     ensures { result ≡ first_of_all (flat_map (unused_role states.now) roles.now) }
 {
     let mut first = None;
     for role in roles {
-        let unused = !is_used(states, role.name);
-        first = earlier(first, fault_if(unused, Rule::G3, role.place));
+        first = earlier(first, unused_role(states, role));
     }
     first
 }
 
+#[tactic(auto, using(crate::proofs::Firsts::earlier_none))]
 fn first_in_states(protocols: &[Protocol], states: &[State]) -> Option<Fault>
     ensures { result ≡ first_of_all (flat_map (λ s. step_faults protocols.now states.now s.step) states.now) }
 {
@@ -87,6 +92,7 @@ fn first_in_states(protocols: &[Protocol], states: &[State]) -> Option<Fault>
     first
 }
 
+#[tactic(auto, using(crate::proofs::Firsts::first_append))]
 fn first_in_step(protocols: &[Protocol], states: &[State], step: &ProtoStep) -> Option<Fault>
     ensures { result ≡ first_of_all (step_faults protocols.now states.now step.now) }
 {
@@ -111,6 +117,7 @@ fn first_in_step(protocols: &[Protocol], states: &[State], step: &ProtoStep) -> 
     }
 }
 
+#[tactic(auto, using(crate::proofs::Firsts::earlier_none))]
 fn first_in_arms(states: &[State], arms: &[ProtoArm]) -> Option<Fault>
     ensures { result ≡ first_of_all (flat_map (λ arm. unknown_state states.now arm.next) arms.now) }
 {
@@ -132,6 +139,7 @@ fn first_in_payload(protocols: &[Protocol], payload: &Payload) -> Option<Fault>
     }
 }
 
+#[tactic(auto, using(crate::proofs::Firsts::earlier_none))]
 fn first_in_sessions(protocols: &[Protocol], sessions: &[SessionParam]) -> Option<Fault>
     ensures { result ≡ first_of_all (flat_map (λ k. unknown_state_in (protocol_named protocols.now k.protocol.name) k.state) sessions.now) }
 {
@@ -143,6 +151,13 @@ fn first_in_sessions(protocols: &[Protocol], sessions: &[SessionParam]) -> Optio
         );
     }
     first
+}
+
+// A role that no step names.
+fn unused_role(states: &[State], role: &Named) -> Option<Fault>
+    ensures { result ≡ first_of_all (unused_role states.now role.now) }
+{
+    fault_if(!is_used(states, role.name), Rule::G3, role.place)
 }
 
 // A receiver that is the sender.

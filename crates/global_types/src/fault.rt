@@ -1,6 +1,6 @@
 //! The first of several faults.
 
-ghost use Rattle.std.specs.Prelude.{◌≡◌};
+ghost use Rattle.std.specs.Prelude.{◌≡◌, Some, None, if◌then◌else◌};
 ghost use Rattle.global_types.specs.Faults.{fault, rank, comes_before};
 ghost use Rattle.global_types.specs.First.{earlier};
 

@@ -1,0 +1,9 @@
+use Rattle.std.proofs.Common.{ap, ◌∙◌}
+use Rattle.std.specs.List.{flat_map}
+use Rattle.global_types.specs.Faults.{protocol_faults, procedure_faults, unused_role, step_faults, unknown_state, unknown_state_in, protocol_named}
+use Rattle.global_types.specs.First.{first_of_all}
+use Rattle.global_types.proofs.Firsts.{turn}
+use Rattle.global_types.proofs.check.first_in_roles.Goals as goal
+
+pub loop-role-preserved : goal.loop-role-preserved
+loop-role-preserved c = turn (unused_role c.args.states.now) _ _ _ c.args.roles.now c.loop-role.role-index _ _ c.loop-role-test.true c.unused_role.ensures c.earlier-first.ensures c.loop-role.invariant
