@@ -2,7 +2,7 @@
 use Rattle.std.proofs.Common.{subst, length, drop, add-one, drop-cons, ℕ, ◌≡◌, ◌+◌, ◌<◌, List, [], ◌∷◌, ◌++◌, Bool, true, false, refl, ap, sym, ◌∙◌, arith, inl, inr}
 use Rattle.std.proofs.lemmas.Bool.Decides.{nat_tests}
 use Rattle.std.specs.List.{flat_map}
-use Rattle.std.specs.Prelude.{slice_index_or, Option, Some, None, nat_lt, ◌==◌, ◌||◌, ◌&&◌, ◌⊎◌, if◌then◌else◌}
+use Rattle.std.specs.Prelude.{slice_index_or, Option, Some, None, nat_lt, ◌==◌, ◌||◌, ◌&&◌, if◌then◌else◌}
 use Rattle.global_types.specs.declared.fault.Fault.{Fault}
 use Rattle.global_types.specs.Moves.{IsIn}
 use Rattle.global_types.specs.Faults.{comes_before, rank, IsFirst}
@@ -85,14 +85,19 @@ first_is_first (y ∷ ys) x h = go (first_of_all ys) refl h (λ z e. first_is_fi
   only : (e : first_of_all ys ≡ None) → (Some y ≡ Some x) → IsFirst (y ∷ ys) x
   only e same = let is : y ≡ x = cc in let none : ys ≡ [] = none_is_empty ys e in record {
     among = inl is;
-    first = λ z m. elim m [ inl s ↦ let t : z ≡ x = cc in rw t (before_itself x) | inr n ↦ absurd (let P : List Fault → Type 0 = λ l. IsIn z l in subst P none n) ] }
+    first = λ z m. elim m [ inl s ↦ let t : z ≡ x = cc in rw t (before_itself x) | inr n ↦ absurd (let P : List Fault → Type 0 = λ l. IsIn z l in subst P none n) ];
+  }
+
   two : (z : Fault) → IsFirst ys z → (b : Bool) → comes_before z y ≡ b → (if b then Some z else Some y) ≡ Some x → IsFirst (y ∷ ys) x
   two z f true p e = let is : z ≡ x = cc in rw (sym is) (record {
     among = inr f.among;
-    first = λ v m. elim m [ inl s ↦ rw (sym s) (before_not_after z y p) | inr n ↦ f.first v n ] })
+    first = λ v m. elim m [ inl s ↦ rw (sym s) (before_not_after z y p) | inr n ↦ f.first v n ];
+  })
   two z f false p e = let is : y ≡ x = cc in rw (sym is) (record {
     among = inl refl;
-    first = λ v m. elim m [ inl s ↦ rw (sym s) (before_itself y) | inr n ↦ before_apart v z y (f.first v n) p ] })
+    first = λ v m. elim m [ inl s ↦ rw (sym s) (before_itself y) | inr n ↦ before_apart v z y (f.first v n) p ];
+  })
+
   go : (o : Option Fault) → first_of_all ys ≡ o → earlier (Some y) o ≡ Some x → ((z : Fault) → first_of_all ys ≡ Some z → IsFirst ys z) → IsFirst (y ∷ ys) x
   go None e s hyp = only e s
   go (Some z) e s hyp = two z (hyp z e) (comes_before z y) refl s

@@ -1,5 +1,5 @@
 -- The place of a state, found from left to right.
-use Rattle.std.proofs.Common.{ℕ, suc, ◌≡◌, ◌+◌, List, [], ◌∷◌, refl, add-zero, add-suc, ap, arith}
+use Rattle.std.proofs.Common.{ℕ, ◌≡◌, ◌+◌, refl, ap, arith}
 use Rattle.std.specs.Prelude.{Option, Some, None}
 use Rattle.global_types.specs.Moves.{one_later}
 

@@ -75,8 +75,8 @@ abbrev pub comes_before : Fault → Fault → Bool
 comes_before x y =
     nat_lt x.place.line y.place.line
     || ((x.place.line == y.place.line)
-        && (nat_lt x.place.col y.place.col
-            || ((x.place.col == y.place.col) && nat_lt (rank x.rule) (rank y.rule))))
+    && (nat_lt x.place.col y.place.col
+    || ((x.place.col == y.place.col) && nat_lt (rank x.rule) (rank y.rule))))
 
 -- x is among these faults, and none comes before it
 pub record IsFirst (xs : List Fault) (x : Fault) : Type 0 where

@@ -1,6 +1,6 @@
 -- Protocols: their states, and the exchanges by which one state leads to another. A protocol is seen as its list of
 -- states, and a state is known by its place in that list.
-use Rattle.std.specs.Prelude.{ℕ, suc, ◌≡◌, ◌==◌, ◌||◌, Bool, true, false, ◌⊎◌, List, [], ◌∷◌, map, Option, Some, None, slice_get, if◌then◌else◌}
+use Rattle.std.specs.Prelude.{ℕ, suc, ◌≡◌, ◌==◌, ◌||◌, Bool, false, ◌⊎◌, List, [], ◌∷◌, map, Option, Some, None, slice_get, if◌then◌else◌}
 use Rattle.chor_base.specs.declared.names.NameId.{NameId}
 use Rattle.chor_base.specs.declared.value.Sort.{Sort}
 use Rattle.chor_tree.specs.declared.protocol.Payload.{Payload}

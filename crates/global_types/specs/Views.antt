@@ -1,5 +1,5 @@
 -- The faults of a role's view (rules V1 to V3). Each is about lists of actions w and the sets of states At w and Still w.
-use Rattle.std.specs.Prelude.{ℕ, ◌≡◌, ◌<◌, ◌==◌, true, ◌⊎◌, ◌↔◌, List, [], ◌∷◌, map, Some, slice_get}
+use Rattle.std.specs.Prelude.{ℕ, ◌≡◌, ◌<◌, true, ◌⊎◌, ◌↔◌, List, [], ◌∷◌, map, Some, slice_get}
 use Rattle.chor_base.specs.declared.names.NameId.{NameId}
 use Rattle.chor_base.specs.declared.rule.Rule.{Rule}
 use Rattle.chor_base.specs.declared.rule.Rule.TheVariants.{V1, V2, V3}

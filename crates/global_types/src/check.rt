@@ -134,7 +134,9 @@ fn first_in_payload(protocols: &[Protocol], payload: &Payload) -> Option<Fault>
     match payload {
         Payload::Plain(_) => None,
         Payload::Endpoint {
-            protocol, state, ..
+            protocol,
+            state,
+            ..
         } => unknown_state_in(protocols, protocol.name, state),
     }
 }

@@ -4,6 +4,8 @@
 mod check;
 mod fault;
 mod states;
+#[cfg(test)]
+mod tests;
 
 pub use check::check_protocols;
-pub use states::step_at;
+pub use states::{is_named, step_at};

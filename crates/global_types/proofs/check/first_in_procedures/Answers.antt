@@ -1,6 +1,6 @@
 use Rattle.std.proofs.Common.{ap, ◌∙◌}
 use Rattle.std.specs.List.{flat_map}
-use Rattle.global_types.specs.Faults.{protocol_faults, procedure_faults, unused_role, step_faults, unknown_state, unknown_state_in, protocol_named}
+use Rattle.global_types.specs.Faults.{procedure_faults, unknown_state_in, protocol_named}
 use Rattle.global_types.specs.First.{first_of_all}
 use Rattle.global_types.proofs.Firsts.{turn_item}
 use Rattle.global_types.proofs.check.first_in_procedures.Goals as goal

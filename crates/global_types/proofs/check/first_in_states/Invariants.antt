@@ -1,6 +1,6 @@
 use Rattle.std.proofs.Common.{◌≡◌, drop}
 use Rattle.std.specs.List.{flat_map}
-use Rattle.global_types.specs.Faults.{protocol_faults, procedure_faults, unused_role, step_faults, unknown_state, unknown_state_in, protocol_named}
+use Rattle.global_types.specs.Faults.{step_faults}
 use Rattle.global_types.specs.First.{earlier, first_of_all}
 use Rattle.global_types.proofs.check.first_in_states.Given as goal
 
