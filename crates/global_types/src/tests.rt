@@ -96,6 +96,7 @@ fn a_state_that_is_not_there(rt: HostRuntime) -> Result<(), Fail> {
         ),
     })?;
     let protocol = protocol(alloc, 0, states)?;
+    assert_eq!(rt; protocol.states.len(), 1);
     assert!(rt; step_at(&protocol, NameId(W)) == None);
     let file = file(alloc, protocol, List::new(alloc))?;
     assert_refused(&rt, &file, Rule::G1, 43);
@@ -130,6 +131,7 @@ fn three_faults_of_which_the_first_decides(rt: HostRuntime) -> Result<(), Fail> 
         },
     })?;
     let protocol = protocol(alloc, 19, states)?;
+    assert_eq!(rt; protocol.states.len(), 2);
     assert!(rt; step_at(&protocol, NameId(T)) == Some(1));
     let file = file(alloc, protocol, List::new(alloc))?;
     assert_refused(&rt, &file, Rule::G3, 19);

@@ -75,10 +75,10 @@ fn direct_row(
     state: usize,
 ) -> Result<Vec<u8>, Memory> {
     let mut row = no_marks(alloc, count)?;
-    put(row.as_mut_slice(), state);
+    put(&mut row, state);
     for item in moves {
         if item.act.is_none() && item.from as usize == state {
-            put(row.as_mut_slice(), item.to as usize);
+            put(&mut row, item.to as usize);
         }
     }
     Ok(row)
@@ -89,7 +89,7 @@ fn go_through(alloc: Global, rows: &mut Vec<Vec<u8>>, state: usize) -> Result<()
     let through = rows[state].as_slice().to_vec(alloc)?;
     for row in rows.iter_mut() {
         if has(row.as_slice(), state) {
-            put_all(row.as_mut_slice(), through.as_slice());
+            put_all(row, through.as_slice());
         }
     }
     Ok(())
@@ -105,7 +105,7 @@ pub fn circling(
     let mut marks = no_marks(alloc, count)?;
     for item in moves {
         if item.act.is_none() && leads_back(reach, item) {
-            put(marks.as_mut_slice(), item.from as usize);
+            put(&mut marks, item.from as usize);
         }
     }
     Ok(marks)

@@ -31,7 +31,7 @@ pub fn rows(
     reach: &[Vec<u8>],
 ) -> Result<Option<Vec<Row>>, Memory> {
     let mut first = no_marks(alloc, reach.len())?;
-    put(first.as_mut_slice(), 0);
+    put(&mut first, 0);
     let mut sets = Texts::new(alloc);
     sets.intern(first.as_slice())?;
     let mut rows = Vec::new(alloc);
@@ -85,7 +85,7 @@ fn targets(alloc: Global, still: &[u8], edges: &[Edge]) -> Result<Vec<u8>, Memor
     let mut after = no_marks(alloc, still.len())?;
     for edge in edges {
         if has(still, edge.from as usize) {
-            put(after.as_mut_slice(), edge.to as usize);
+            put(&mut after, edge.to as usize);
         }
     }
     Ok(after)
