@@ -1,2 +1,5 @@
 pub mod Walks
 pub mod Sets
+pub mod Lists
+pub mod Silence
+pub mod Groups

@@ -1,11 +1,11 @@
 -- Sets of states as bytes.
-use Rattle.std.proofs.Common.{ℕ, ◌≡◌, ◌+◌, ◌<◌, ◌≤◌, List, [], ◌∷◌, ◌++◌, Bool, true, false, refl, ap, sym, subst, ◌∙◌, arith, inl, inr, zero, suc, length, replicate, get_or, length-set, take}
+use Rattle.std.proofs.Common.{length-append, ℕ, ◌≡◌, ◌+◌, ◌<◌, ◌≤◌, List, [], ◌∷◌, ◌++◌, Bool, true, false, refl, ap, sym, subst, ◌∙◌, arith, inl, inr, zero, suc, length, replicate, get_or, length-set, take}
 use Rattle.std.specs.declared.alloc.Global.{Global}
 use Rattle.std.specs.Option.{option_map}
 use Rattle.std.proofs.lemmas.Option.{slice_get-map, slice_get-get_or, get_or_from_slice_get}
 use Rattle.chor_base.specs.Words.{words_of}
 use Rattle.std.specs.Prelude.{Some, ◌⊎◌, ◌==◌, if◌then◌else◌, slice_index_or, slice_set, Vec, ◌≢◌}
-use Rattle.std.proofs.lemmas.List.{length-replicate, get_or-replicate, get_or-set_same, get_or-set_other, get_or_past, ext_get_or}
+use Rattle.std.proofs.lemmas.List.{length-replicate, get_or_append_left, get_or-replicate, get_or-set_same, get_or-set_other, get_or_past, ext_get_or}
 use Rattle.std.proofs.lemmas.Bool.{cases_lt}
 use Rattle.std.proofs.lemmas.Bool.Decides.{nat_tests}
 use Rattle.global_types.specs.Views.{Differ}
@@ -187,3 +187,32 @@ pub union_whole : (n : ℕ) (marks : List ℕ) (rows : List (Vec ℕ Global)) (k
     → IsSetFor n (λ i. (m : ℕ) × (m < k) × Has marks m × Has (row_at rows m) i) all
     → IsSetFor n (λ i. (m : ℕ) × Has marks m × Has (row_at rows m) i) all
 union_whole n marks rows k all whole was = set_same n _ _ all was (λ i p. (p.0, p.2, p.3)) (λ i p. (p.0, (let b = row_within rows p.0 i p.2 in omega (arith, b, whole)), p.1, p.2))
+
+-- ---- one row more
+
+words-push : (rows : List (Vec ℕ Global)) (row : Vec ℕ Global) → words_of (rows ++ row ∷ []) ≡ words_of rows ++ row.items ∷ []
+words-push [] row = refl
+words-push (w ∷ ws) row = ap (λ l. w.items ∷ l) (words-push ws row)
+
+pub row_kept : (rows : List (Vec ℕ Global)) (row : Vec ℕ Global) (i : ℕ) → i < length rows → row_at (rows ++ row ∷ []) i ≡ row_at rows i
+row_kept rows row i h = ap (λ l. slice_index_or l i []) (words-push rows row) ∙ get_or_append_left (words_of rows) (row.items ∷ []) i [] (let e : length (words_of rows) ≡ length rows = length-words rows in omega (arith, e, h))
+
+pub row_last : (rows : List (Vec ℕ Global)) (row : Vec ℕ Global) → row_at (rows ++ row ∷ []) (length rows) ≡ row.items
+row_last [] row = refl
+row_last (w ∷ ws) row = row_last ws row
+
+pub rows_more : (n : ℕ) (R : ℕ → ℕ → Type 0) (old new : List (Vec ℕ Global)) (k : ℕ) (row : Vec ℕ Global) → length old ≡ k → new ≡ old ++ row ∷ []
+    → IsSetFor n (R k) row.items
+    → ((i : ℕ) → i < k → IsSetFor n (R i) (row_at old i))
+    → record { size : length new ≡ k + 1; row : (i : ℕ) → i < k + 1 → IsSetFor n (R i) (row_at new i) }
+rows_more n R old new k row len is own was = rw is (record {
+  size = (let e : length (old ++ row ∷ []) ≡ length old + 1 = length-append old (row ∷ []) in omega (arith, e, len));
+  row = λ i h. at i h (same_or_not i k) })
+  where
+    at : (i : ℕ) → i < k + 1 → (i ≡ k) ⊎ (i ≢ k) → IsSetFor n (R i) (row_at (old ++ row ∷ []) i)
+    at i h (inl e) =
+        let here : row_at (old ++ row ∷ []) k ≡ row.items = ap (λ m. row_at (old ++ row ∷ []) m) (sym len) ∙ row_last old row in
+        subst (λ m. IsSetFor n (R m) (row_at (old ++ row ∷ []) m)) (sym e) (subst (λ l. IsSetFor n (R k) l) (sym here) own)
+    at i h (inr d) =
+        let l : i < k = omega (arith, h, d) in
+        subst (λ m. IsSetFor n (R i) m) (sym (row_kept old row i (let e = len in omega (arith, l, e)))) (was i l)

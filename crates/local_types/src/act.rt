@@ -1,7 +1,11 @@
 //! What a role does in an exchange.
 
+ghost use Rattle.std.specs.Prelude.{◌≡◌, IsTrue, ◌↔◌};
+ghost use Rattle.global_types.specs.Moves.{content_of};
+ghost use Rattle.local_types.specs.Moves.{action_of};
+
 use chor_base::{NameId, Names};
-use chor_tree::{Payload, ProtoStep};
+use chor_tree::Payload;
 use std::cmp::Ordering;
 
 /// What a role does, and with which other role: it sends or receives a payload, selects a label, or
@@ -15,7 +19,9 @@ pub enum Act {
 }
 
 // Whether two payloads are the same, wherever they stand in the file.
-pub fn same_payload(one: &Payload, other: &Payload) -> bool {
+pub fn same_payload(one: &Payload, other: &Payload) -> bool
+    ensures { IsTrue result ↔ (content_of one.now ≡ content_of other.now) }
+{
     match (one, other) {
         (Payload::Plain(sort), Payload::Plain(second)) => sort == second,
         (
@@ -35,7 +41,9 @@ pub fn same_payload(one: &Payload, other: &Payload) -> bool {
 }
 
 // Whether two acts are the same.
-pub fn same_act(one: &Act, other: &Act) -> bool {
+pub fn same_act(one: &Act, other: &Act) -> bool
+    ensures { IsTrue result ↔ (action_of one.now ≡ action_of other.now) }
+{
     match (one, other) {
         (Act::Send(role, payload), Act::Send(second, load)) => {
             role == second && same_payload(payload, load)
