@@ -195,7 +195,7 @@ words-push [] row = refl
 words-push (w ∷ ws) row = ap (λ l. w.items ∷ l) (words-push ws row)
 
 pub row_kept : (rows : List (Vec ℕ Global)) (row : Vec ℕ Global) (i : ℕ) → i < length rows → row_at (rows ++ row ∷ []) i ≡ row_at rows i
-row_kept rows row i h = ap (λ l. slice_index_or l i []) (words-push rows row) ∙ get_or_append_left (words_of rows) (row.items ∷ []) i [] (let e : length (words_of rows) ≡ length rows = length-words rows in omega (arith, e, h))
+row_kept rows row i h = ap (λ l. slice_index_or l i []) (words-push rows row) ∙ get_or_append_left (words_of rows) (row.items ∷ []) [] i (let e : length (words_of rows) ≡ length rows = length-words rows in omega (arith, e, h))
 
 pub row_last : (rows : List (Vec ℕ Global)) (row : Vec ℕ Global) → row_at (rows ++ row ∷ []) (length rows) ≡ row.items
 row_last [] row = refl
@@ -216,3 +216,51 @@ rows_more n R old new k row len is own was = rw is (record {
     at i h (inr d) =
         let l : i < k = omega (arith, h, d) in
         subst (λ m. IsSetFor n (R i) m) (sym (row_kept old row i (let e = len in omega (arith, l, e)))) (was i l)
+
+-- ---- one row written
+
+words-set : (rows : List (Vec ℕ Global)) (k : ℕ) (row : Vec ℕ Global) → words_of (slice_set rows k row) ≡ slice_set (words_of rows) k row.items
+words-set [] k row = refl
+words-set (w ∷ ws) zero row = refl
+words-set (w ∷ ws) (suc k) row = ap (λ l. w.items ∷ l) (words-set ws k row)
+
+pub rows_put : (n : ℕ) (R : ℕ → ℕ → Type 0) (first old new : List (Vec ℕ Global)) (k : ℕ) (row : Vec ℕ Global)
+    → length old ≡ length first
+    → ((i : ℕ) → i < k → IsSetFor n (R i) (row_at old i))
+    → ((i : ℕ) → k ≤ i → row_at old i ≡ row_at first i)
+    → new ≡ slice_set old k row → k < length old → IsSetFor n (R k) row.items
+    → record { size : length new ≡ length first; done : (i : ℕ) → i < k + 1 → IsSetFor n (R i) (row_at new i); left : (i : ℕ) → k + 1 ≤ i → row_at new i ≡ row_at first i }
+rows_put n R first old new k row len done left is h own = rw is (record {
+  size = length-set old k row ∙ len;
+  done = λ i l. done_at i l (same_or_not i k);
+  left = λ i l. other i (λ e. absurd (let f : i ≡ k = e in omega (arith, l, f))) ∙ left i (omega (arith, l)) })
+  where
+    other : (i : ℕ) → i ≢ k → row_at (slice_set old k row) i ≡ row_at old i
+    other i d = ap (λ l. slice_index_or l i []) (words-set old k row) ∙ get_or-set_other (words_of old) k i row.items [] d
+    here : row_at (slice_set old k row) k ≡ row.items
+    here = ap (λ l. slice_index_or l k []) (words-set old k row) ∙ get_or-set_same (words_of old) k row.items [] (let e : length (words_of old) ≡ length old = length-words old in omega (arith, e, h))
+    done_at : (i : ℕ) → i < k + 1 → (i ≡ k) ⊎ (i ≢ k) → IsSetFor n (R i) (row_at (slice_set old k row) i)
+    done_at i l (inl e) = subst (λ m. IsSetFor n (R m) (row_at (slice_set old k row) m)) (sym e) (subst (λ v. IsSetFor n (R k) v) (sym here) own)
+    done_at i l (inr d) = subst (λ v. IsSetFor n (R i) v) (sym (other i d)) (done i (omega (arith, l, d)))
+
+-- what leads to s leads to all that s leads to
+pub through_in : (n : ℕ) (own more new : List ℕ) (s : ℕ) → IsSetFor n (Has own) own → IsSetFor n (Has more) more → Has own s
+    → length new ≡ length own
+    → ((i : ℕ) → i < length own → slice_index_or new i 0 ≡ (if slice_index_or more i 0 == 1 then 1 else slice_index_or own i 0))
+    → IsSetFor n (λ j. Has own j ⊎ (Has own s × Has more j)) new
+through_in n own more new s was are to len bytes =
+    set_same n _ _ new (set_put_all n (Has own) own new more was len bytes (λ i h. let b = has_within more i h in let e = are.size in omega (arith, b, e))) there back
+  where
+    there : (j : ℕ) → Has own j ⊎ Has more j → Has own j ⊎ (Has own s × Has more j)
+    there j (inl a) = inl a
+    there j (inr b) = inr (to, b)
+    back : (j : ℕ) → Has own j ⊎ (Has own s × Has more j) → Has own j ⊎ Has more j
+    back j (inl a) = inl a
+    back j (inr b) = inr b.1
+
+pub through_out : (n : ℕ) (own more : List ℕ) (s : ℕ) → IsSetFor n (Has own) own → (Has own s → ⊥) → IsSetFor n (λ j. Has own j ⊎ (Has own s × Has more j)) own
+through_out n own more s was out = set_same n _ _ own was (λ j a. inl a) back
+  where
+    back : (j : ℕ) → Has own j ⊎ (Has own s × Has more j) → Has own j
+    back j (inl a) = a
+    back j (inr b) = absurd (out b.0)

@@ -170,7 +170,7 @@ fn go_through(alloc: Global, rows: &mut Vec<Vec<u8>>, state: usize) -> Result<()
     requires sizes { (i : ℕ) → i < length rows.old.items → IsSetFor (length rows.old.items) (Has (row_at rows.old.items i)) (row_at rows.old.items i) }
     ensures { OnOk result (IsThrough (length rows.old.items) state rows.old.items rows.new.items) }
 {
-    let through = rows[state].as_slice().to_vec(alloc)?;
+    let through = Vec::from_slice(alloc, rows[state].as_slice())?;
     for number in 0..rows.len() {
         let row = &mut rows[number];
         if has(row.as_slice(), state) {
