@@ -3,3 +3,4 @@ pub mod Sets
 pub mod Lists
 pub mod Silence
 pub mod Groups
+pub mod Tables

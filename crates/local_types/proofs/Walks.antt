@@ -5,11 +5,12 @@ use Rattle.std.proofs.lemmas.List.{same_from_push, append-nil}
 use Rattle.chor_base.specs.declared.names.NameId.{NameId}
 use Rattle.chor_tree.specs.declared.protocol.State.{State}
 use Rattle.global_types.specs.Moves.{Exchange, passes, chooses, Leads, Content}
+use Rattle.local_types.specs.Table.{Silent}
 use Rattle.global_types.specs.Paths.{IsPath, Action, sends, receives, selects, offers, action_in, actions_of, IsView, Still, After, At}
 
 -- ---- lists
 
-nil_not_push : {A : Type 0} (xs : List A) (x : A) → xs ++ x ∷ [] ≡ [] → ⊥
+pub nil_not_push : {A : Type 0} (xs : List A) (x : A) → xs ++ x ∷ [] ≡ [] → ⊥
 nil_not_push [] x h = cc
 nil_not_push (y ∷ xs) x h = cc
 
@@ -41,12 +42,6 @@ acts_or_not r (chooses a b l) = go (a.0 == r.0) (b.0 == r.0) refl refl where
   go false false e f = silent (rw (e, f) refl)
 
 -- ---- silent paths
-
--- a path from i to j on which the role has no action
-pub record Silent (ss : List State) (r : NameId) (i j : ℕ) : Type 0 where
-  pub path : List Exchange
-  pub is_path : IsPath ss i path j
-  pub none : actions_of r path ≡ []
 
 pub silent_here : (ss : List State) (r : NameId) (i : ℕ) → Silent ss r i i
 silent_here ss r i = record { path = []; is_path = refl; none = refl }

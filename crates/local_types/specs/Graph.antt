@@ -41,6 +41,10 @@ pub record AreGroups (ms : List Move) (gs : List Group) : Type 0 where
   pub edges : (g : Group) → IsIn g gs → AreEdges ms (action_of g.act) g.edges.items
   pub covers : (m : Move) (a : Act) → IsIn m ms → m.act ≡ Some a → (g : Group) × IsIn g gs × (action_of g.act ≡ action_of a)
 
+-- both states of each edge are among the first n
+abbrev pub AreInside : ℕ → List Group → Type 0
+AreInside n gs = (g : Group) → IsIn g gs → (e : Edge) → IsIn e g.edges.items → (e.from < n) × (e.to < n)
+
 -- ---- silent exchanges
 
 -- both states of each exchange are among the first n

@@ -3,3 +3,4 @@ pub mod Reading
 pub mod Sets
 pub mod Moves
 pub mod Graph
+pub mod Table

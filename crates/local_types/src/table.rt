@@ -1,5 +1,14 @@
 //! The sets of states that a role can't tell apart, each once, in the order in which they are found.
 
+ghost use Rattle.std.specs.Prelude.{◌≡◌, ◌<◌, ◌≤◌, ◌^◌, ℕ, List, IfOk, OnOk, MatchBool, MatchOption, Some, length, slice_get};
+ghost use Rattle.chor_base.specs.declared.names.NameId.{NameId};
+ghost use Rattle.chor_base.specs.Words.{AllDistinct};
+ghost use Rattle.chor_tree.specs.declared.protocol.State.{State};
+ghost use Rattle.global_types.specs.Moves.{IsIn};
+ghost use Rattle.local_types.specs.Sets.{Has, row_at, IsSetFor};
+ghost use Rattle.local_types.specs.Graph.{AreRowsFor, AreInside};
+ghost use Rattle.local_types.specs.Table.{Silent, AreActs, HasGrown, AreArms, AreTooMany, IsWhole};
+
 use crate::act::Act;
 use crate::graph::{Edge, Group};
 use crate::marks::{has, no_marks, put, union};
@@ -29,7 +38,12 @@ pub fn rows(
     alloc: Global,
     groups: &[Group],
     reach: &[Vec<u8>],
-) -> Result<Option<Vec<Row>>, Memory> {
+) -> Result<Option<Vec<Row>>, Memory>
+    requires first { 0 < length reach.now }
+    requires reach { (k i : ℕ) → Has (row_at reach.now k) i → i < length reach.now }
+    requires inside { AreInside (length reach.now) groups.now }
+    ensures { IfOk result (λ o. (ss : List State) (r : NameId) → AreRowsFor (length reach.now) (Silent ss r) reach.now → AreActs ss r groups.now → MatchOption o (AreTooMany ss r (length reach.now)) (λ v. IsWhole ss r (length reach.now) v.items)) }
+{
     let mut first = no_marks(alloc, reach.len())?;
     put(&mut first, 0);
     let mut sets = Texts::new(alloc);
@@ -52,7 +66,15 @@ fn arms(
     groups: &[Group],
     still: &[u8],
     sets: &mut Texts,
-) -> Result<Option<Vec<Arm>>, Memory> {
+) -> Result<Option<Vec<Arm>>, Memory>
+    requires inside { AreInside (length still.now) groups.now }
+    requires few { length sets.old ≤ 1024 }
+    requires distinct { AllDistinct sets.old }
+    ensures distinct { AllDistinct sets.new }
+    ensures count { IfOk result (λ o. MatchOption o (length sets.new ≡ 1025) (λ v. length sets.new ≤ 1024)) }
+    ensures grown { OnOk result ((ss : List State) (r : NameId) → AreActs ss r groups.now → HasGrown ss r (length still.now) still.now sets.old sets.new) }
+    ensures arms { IfOk result (λ o. (ss : List State) (r : NameId) → AreActs ss r groups.now → MatchOption o (Unit {0}) (λ v. AreArms ss r (length still.now) sets.new still.now v.items)) }
+{
     let mut arms = Vec::new(alloc);
     for group in groups {
         if is_allowed(still, group.edges.as_slice()) {
@@ -71,7 +93,9 @@ fn arms(
 }
 
 // Whether one of these exchanges leads from one of the states.
-fn is_allowed(still: &[u8], edges: &[Edge]) -> bool {
+fn is_allowed(still: &[u8], edges: &[Edge]) -> bool
+    ensures { MatchBool result ((e : Edge) × IsIn e edges.now × Has still.now e.from) ((e : Edge) → IsIn e edges.now → Has still.now e.from → ⊥) }
+{
     for edge in edges {
         if has(still, edge.from as usize) {
             return true;
@@ -81,7 +105,10 @@ fn is_allowed(still: &[u8], edges: &[Edge]) -> bool {
 }
 
 // The states to which these exchanges lead from the states.
-fn targets(alloc: Global, still: &[u8], edges: &[Edge]) -> Result<Vec<u8>, Memory> {
+fn targets(alloc: Global, still: &[u8], edges: &[Edge]) -> Result<Vec<u8>, Memory>
+    requires { (e : Edge) → IsIn e edges.now → e.to < length still.now }
+    ensures { IfOk result (λ v. IsSetFor (length still.now) (λ j. (e : Edge) × IsIn e edges.now × Has still.now e.from × (e.to ≡ j)) v.items) }
+{
     let mut after = no_marks(alloc, still.len())?;
     for edge in edges {
         if has(still, edge.from as usize) {
