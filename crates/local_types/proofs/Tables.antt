@@ -1,7 +1,7 @@
 -- The table of a role's view, set by set.
-use Rattle.std.proofs.Common.{ℕ, ◌≡◌, ◌+◌, ◌<◌, ◌≤◌, List, [], ◌∷◌, ◌++◌, Bool, true, false, refl, ap, sym, subst, ◌∙◌, arith, inl, inr, length, take, zero, suc, length-append}
+use Rattle.std.proofs.Common.{ℕ, ◌≡◌, ◌+◌, ◌<◌, ◌≤◌, List, [], ◌∷◌, ◌++◌, Bool, true, false, refl, ap, sym, subst, ◌∙◌, arith, inl, inr, length, take, zero, suc, length-append, length-set}
 use Rattle.std.specs.declared.alloc.Global.{Global}
-use Rattle.std.specs.Prelude.{◌⊎◌, Option, Some, None, Vec, slice_get, slice_index_or, slice_set, bytes_eq, if◌then◌else◌}
+use Rattle.std.specs.Prelude.{◌⊎◌, Option, Some, None, Vec, slice_get, slice_index_or, slice_set, bytes_eq, if◌then◌else◌, MatchBool}
 use Rattle.std.specs.List.{list_any}
 use Rattle.std.proofs.lemmas.List.{take_all}
 use Rattle.std.proofs.lemmas.Option.{slice_get-get_or, slice_get_within}
@@ -260,3 +260,162 @@ union_is ss r n reach word still are len was = subst (λ m. IsSetFor m (λ i. (j
     there i p = (p.0, p.1, (are.row p.0 (let b = has_within word p.0 p.1 in omega (arith, b, len))).sound i p.2)
     back : (i : ℕ) → (j : ℕ) × Has word j × Silent ss r j i → (k : ℕ) × Has word k × Has (row_at reach k) i
     back i p = (p.0, p.1, (are.row p.0 (let b = has_within word p.0 p.1 in omega (arith, b, len))).complete i p.2)
+
+pub word_longer : (first old new : List (List ℕ)) (w : List ℕ) → new ≡ with_word old w → length first ≤ length old → length first ≤ length new
+word_longer first old new w is h = rw is (go (list_any (bytes_eq w) old)) where
+  go : (b : Bool) → length first ≤ length (if b then old else old ++ w ∷ [])
+  go true = h
+  go false = let e : length (old ++ w ∷ []) ≡ length old + 1 = length-append old (w ∷ []) in omega (arith, e, h)
+
+-- ---- the loop over the groups
+
+pub record ArmsSoFar (gs : List Group) (still : List ℕ) (first : List (List ℕ)) (i : ℕ) (sets : List (List ℕ)) (arms : List Arm) : Type 0 where
+  pub few : length sets ≤ 1024
+  pub longer : length first ≤ length sets
+  pub distinct : AllDistinct sets
+  pub sizes : (k : ℕ) (v : List ℕ) → slice_get sets k ≡ Some v → (slice_get first k ≡ Some v) ⊎ (length v ≡ length still)
+  pub grown : (ss : List State) (r : NameId) → AreActs ss r gs → HasGrown ss r (length still) still first sets
+  pub sound : (ss : List State) (r : NameId) → AreActs ss r gs → (arm : Arm) → IsIn arm arms → IsArm ss r (length still) sets still arm
+  pub complete : (g : Group) → IsIn g (take i gs) → (e : Edge) → IsIn e g.edges.items → Has still e.from → (arm : Arm) × IsIn arm arms × (arm.act ≡ g.act)
+
+pub arms_begin : (gs : List Group) (still : List ℕ) (sets : List (List ℕ)) → length sets ≤ 1024 → AllDistinct sets → ArmsSoFar gs still sets 0 sets []
+arms_begin gs still sets few distinct = record {
+  few = few; longer = omega arith; distinct = distinct; sizes = λ k v h. inl h; grown = λ ss r acts. grown_begins ss r (length still) still sets;
+  sound = λ ss r acts arm m. absurd m; complete = λ g m. absurd m }
+
+pub group_among : (gs : List Group) (i : ℕ) (g : Group) → i < length gs → g ≡ slice_index_or gs i g → IsIn g gs
+group_among gs i g h is = in_of_at g gs i (slice_get-get_or gs i g h ∙ ap (λ (v : Group). Some v) (sym is))
+
+pub sizes_more : (still : List ℕ) (first old new : List (List ℕ)) (word : List ℕ) → new ≡ with_word old word → length word ≡ length still
+    → ((k : ℕ) (v : List ℕ) → slice_get old k ≡ Some v → (slice_get first k ≡ Some v) ⊎ (length v ≡ length still))
+    → (k : ℕ) (v : List ℕ) → slice_get new k ≡ Some v → (slice_get first k ≡ Some v) ⊎ (length v ≡ length still)
+sizes_more still first old new word is len was k v h = go (word_fresh old word k v (subst (λ (s : List (List ℕ)). slice_get s k ≡ Some v) is h)) where
+  go : (slice_get old k ≡ Some v) ⊎ (word ≡ v) → (slice_get first k ≡ Some v) ⊎ (length v ≡ length still)
+  go (inl e) = was k v e
+  go (inr e) = inr (subst (λ (u : List ℕ). length u ≡ length still) e len)
+
+pub grown_over : (gs : List Group) (still : List ℕ) (first : List (List ℕ)) (i : ℕ) (sets : List (List ℕ)) (arms : List Arm) (g : Group) (word : List ℕ) (new : List (List ℕ))
+    → ArmsSoFar gs still first i sets arms → i < length gs → g ≡ slice_index_or gs i g
+    → ((e : Edge) × IsIn e g.edges.items × Has still e.from)
+    → IsSetFor (length still) (λ j. (e : Edge) × IsIn e g.edges.items × Has still e.from × (e.to ≡ j)) word
+    → new ≡ with_word sets word
+    → (ss : List State) (r : NameId) → AreActs ss r gs → HasGrown ss r (length still) still first new
+grown_over gs still first i sets arms g word new was h is allowed set added ss r acts =
+    grown_more ss r (length still) still first sets new word (was.grown ss r acts) added (next_of ss r gs g (length still) still word acts (group_among gs i g h is) allowed set)
+
+pub arms_in : (gs : List Group) (still : List ℕ) (first : List (List ℕ)) (i : ℕ) (sets : List (List ℕ)) (arms : List Arm) (g : Group) (word : List ℕ) (new : List (List ℕ)) (arm : Arm) (more : List Arm)
+    → ArmsSoFar gs still first i sets arms → i < length gs → g ≡ slice_index_or gs i g
+    → ((e : Edge) × IsIn e g.edges.items × Has still e.from)
+    → IsSetFor (length still) (λ j. (e : Edge) × IsIn e g.edges.items × Has still e.from × (e.to ≡ j)) word
+    → new ≡ with_word sets word → AllDistinct new → length new ≤ 1024
+    → arm.act ≡ g.act → slice_get new arm.next ≡ Some word
+    → more ≡ arms ++ arm ∷ []
+    → ArmsSoFar gs still first (i + 1) new more
+arms_in gs still first i sets arms g word new arm more was h is allowed set added distinct few act at grows = rw grows (record {
+  few = few; longer = word_longer first sets new word added was.longer; distinct = distinct;
+  sizes = sizes_more still first sets new word added set.size was.sizes;
+  grown = grown_over gs still first i sets arms g word new was h is allowed set added;
+  sound = λ ss r acts a m. sound_at ss r acts a (in_push a arm arms m);
+  complete = λ k m e o p. complete_at k e o p (in_more k gs i g h m) })
+  where
+    keeps : Keeps sets new
+    keeps = let P : List (List ℕ) → Type 0 = λ s. Keeps sets s in subst P (sym added) (word_kept sets word)
+    sound_at : (ss : List State) (r : NameId) → AreActs ss r gs → (a : Arm) → IsIn a arms ⊎ (arm ≡ a) → IsArm ss r (length still) new still a
+    sound_at ss r acts a (inl m) = arm_kept ss r (length still) sets new still a keeps (was.sound ss r acts a m)
+    sound_at ss r acts a (inr e) = subst (λ b. IsArm ss r (length still) new still b) e (arm_of ss r gs g (length still) still word new arm acts (group_among gs i g h is) allowed set act at)
+    complete_at : (k : Group) (e : Edge) → IsIn e k.edges.items → Has still e.from → IsIn k (take i gs) ⊎ (slice_index_or gs i g ≡ k) → (a : Arm) × IsIn a (arms ++ arm ∷ []) × (a.act ≡ k.act)
+    complete_at k e o p (inl m) = let q = was.complete k m e o p in (q.0, in_left q.0 arms (arm ∷ []) q.1, q.2)
+    complete_at k e o p (inr s) = (arm, in_last arm arms, act ∙ ap (λ (v : Group). v.act) (is ∙ s))
+
+pub arms_out : (gs : List Group) (still : List ℕ) (first : List (List ℕ)) (i : ℕ) (sets : List (List ℕ)) (arms : List Arm) (g : Group)
+    → ArmsSoFar gs still first i sets arms → i < length gs → g ≡ slice_index_or gs i g
+    → ((e : Edge) → IsIn e g.edges.items → Has still e.from → ⊥)
+    → ArmsSoFar gs still first (i + 1) sets arms
+arms_out gs still first i sets arms g was h is not = record {
+  few = was.few; longer = was.longer; distinct = was.distinct; sizes = was.sizes; grown = was.grown; sound = was.sound;
+  complete = λ k m e o p. complete_at k e o p (in_more k gs i g h m) }
+  where
+    complete_at : (k : Group) (e : Edge) → IsIn e k.edges.items → Has still e.from → IsIn k (take i gs) ⊎ (slice_index_or gs i g ≡ k) → (a : Arm) × IsIn a arms × (a.act ≡ k.act)
+    complete_at k e o p (inl m) = was.complete k m e o p
+    complete_at k e o p (inr s) = absurd (not e (subst (λ (v : Group). IsIn e v.edges.items) (sym (is ∙ s)) o) p)
+
+pub arms_end : (gs : List Group) (still : List ℕ) (first : List (List ℕ)) (i : ℕ) (sets : List (List ℕ)) (arms : List Arm) → ArmsSoFar gs still first i sets arms → length gs ≤ i
+    → (ss : List State) (r : NameId) → AreActs ss r gs → AreArms ss r (length still) sets still arms
+arms_end gs still first i sets arms was h ss r acts = arms_whole ss r gs (length still) i sets still arms acts h (was.sound ss r acts) was.complete
+
+-- a test with its cases
+pub is_true : (b : Bool) (P Q : Type 0) → MatchBool b P Q → b ≡ true → P
+is_true true P Q m e = m
+is_true false P Q m e = absurd (cc)
+
+pub is_false : (b : Bool) (P Q : Type 0) → MatchBool b P Q → b ≡ false → Q
+is_false true P Q m e = absurd (cc)
+is_false false P Q m e = m
+
+-- ---- the loop over the sets
+
+pub record RowsSoFar (gs : List Group) (reach : List (Vec ℕ Global)) (sets : List (List ℕ)) (rows : List Row) : Type 0 where
+  pub few : length sets ≤ 1024
+  pub done : length rows ≤ length sets
+  pub distinct : AllDistinct sets
+  pub sizes : (k : ℕ) (v : List ℕ) → slice_get sets k ≡ Some v → length v ≡ length reach
+  pub table : (ss : List State) (r : NameId) → AreRowsFor (length reach) (Silent ss r) reach → AreActs ss r gs → IsTable ss r (length reach) sets rows
+
+pub rows_begin : (gs : List Group) (reach : List (Vec ℕ Global)) (marks word : List ℕ) (sets : List (List ℕ)) (rows : List Row) → 0 < length reach
+    → IsSetFor (length reach) (λ i. ⊥) marks → word ≡ slice_set marks 0 1 → sets ≡ word ∷ [] → AllDistinct sets → rows ≡ []
+    → RowsSoFar gs reach sets rows
+rows_begin gs reach marks word sets rows h none is one distinct empty = rw (one, empty) (record {
+  few = omega arith; done = omega arith;
+  distinct = (let P : List (List ℕ) → Type 0 = λ s. AllDistinct s in subst P one distinct);
+  sizes = λ k v e. sizes_at k v e;
+  table = λ ss r are acts. table_begins ss r (length reach) word (rw is (first_found ss r (length reach) marks h none)) })
+  where
+    sizes_at : (k : ℕ) (v : List ℕ) → slice_get (word ∷ []) k ≡ Some v → length v ≡ length reach
+    sizes_at zero v e = let s : word ≡ v = cc in subst (λ (u : List ℕ). length u ≡ length reach) (sym is ∙ s) (length-set marks 0 1 ∙ none.size)
+    sizes_at (suc k) v e = absurd (cc)
+
+pub rows_in : (gs : List Group) (reach : List (Vec ℕ Global)) (sets new : List (List ℕ)) (rows more : List Row) (word : List ℕ) (row : Row)
+    → RowsSoFar gs reach sets rows → slice_get sets (length rows) ≡ Some word
+    → IsSetFor (length word) (λ i. (k : ℕ) × Has word k × Has (row_at reach k) i) row.still.items
+    → AllDistinct new → length new ≤ 1024 → length sets ≤ length new
+    → ((k : ℕ) (v : List ℕ) → slice_get new k ≡ Some v → (slice_get sets k ≡ Some v) ⊎ (length v ≡ length row.still.items))
+    → ((ss : List State) (r : NameId) → AreActs ss r gs → HasGrown ss r (length row.still.items) row.still.items sets new)
+    → ((ss : List State) (r : NameId) → AreActs ss r gs → AreArms ss r (length row.still.items) new row.still.items row.arms.items)
+    → more ≡ rows ++ row ∷ []
+    → RowsSoFar gs reach new more
+rows_in gs reach sets new rows more word row was at still distinct few long sizes grown arms is = record {
+  few = few;
+  done = (let e : length more ≡ length rows + 1 = ap (λ (l : List Row). length l) is ∙ length-append rows (row ∷ []) in let b : length rows < length new = longer in omega (arith, e, b));
+  distinct = distinct;
+  sizes = λ k v e. sizes_at k v (sizes k v e);
+  table = λ ss r are acts. table_more ss r (length reach) sets new rows more word row (was.table ss r are acts) at (union_is ss r (length reach) reach word row.still.items are size still)
+      (subst (λ n. HasGrown ss r n row.still.items sets new) still_size (grown ss r acts)) (subst (λ n. AreArms ss r n new row.still.items row.arms.items) still_size (arms ss r acts)) is }
+  where
+    size : length word ≡ length reach
+    size = was.sizes (length rows) word at
+    still_size : length row.still.items ≡ length reach
+    still_size = still.size ∙ size
+    sizes_at : (k : ℕ) (v : List ℕ) → (slice_get sets k ≡ Some v) ⊎ (length v ≡ length row.still.items) → length v ≡ length reach
+    sizes_at k v (inl e) = was.sizes k v e
+    sizes_at k v (inr e) = e ∙ still_size
+    longer : length rows < length new
+    longer = let b = slice_get_within sets (length rows) word at in omega (arith, b, long)
+
+pub rows_end : (gs : List Group) (reach : List (Vec ℕ Global)) (sets : List (List ℕ)) (rows : List Row) → RowsSoFar gs reach sets rows → length sets ≤ length rows
+    → (ss : List State) (r : NameId) → AreRowsFor (length reach) (Silent ss r) reach → AreActs ss r gs → IsWhole ss r (length reach) rows
+rows_end gs reach sets rows was h ss r are acts = record {
+  sets = sets; distinct = was.distinct; whole = (let d = was.done in omega (arith, d, h)); few = was.few; table = was.table ss r are acts }
+
+pub rows_over : (gs : List Group) (reach : List (Vec ℕ Global)) (sets new : List (List ℕ)) (rows : List Row) (word still : List ℕ)
+    → RowsSoFar gs reach sets rows → slice_get sets (length rows) ≡ Some word
+    → IsSetFor (length word) (λ i. (k : ℕ) × Has word k × Has (row_at reach k) i) still
+    → AllDistinct new → length new ≡ 1025
+    → ((ss : List State) (r : NameId) → AreActs ss r gs → HasGrown ss r (length still) still sets new)
+    → (ss : List State) (r : NameId) → AreRowsFor (length reach) (Silent ss r) reach → AreActs ss r gs → AreTooMany ss r (length reach)
+rows_over gs reach sets new rows word still was at after distinct many grown ss r are acts = record {
+  sets = new; distinct = distinct; many = many;
+  found = found_more ss r (length reach) sets new word still (was.table ss r are acts).found ((was.table ss r are acts).found (length rows) word at)
+      (union_is ss r (length reach) reach word still are size after) (subst (λ n. HasGrown ss r n still sets new) (after.size ∙ size) (grown ss r acts)) }
+  where
+    size : length word ≡ length reach
+    size = was.sizes (length rows) word at

@@ -1,6 +1,6 @@
 //! The sets of states that a role can't tell apart, each once, in the order in which they are found.
 
-ghost use Rattle.std.specs.Prelude.{◌≡◌, ◌<◌, ◌≤◌, ◌^◌, ℕ, List, IfOk, OnOk, MatchBool, MatchOption, Some, length, slice_get};
+ghost use Rattle.std.specs.Prelude.{◌≡◌, ◌<◌, ◌≤◌, ◌⊎◌, ℕ, List, IfOk, OnOk, MatchBool, MatchOption, Some, length, slice_get};
 ghost use Rattle.chor_base.specs.declared.names.NameId.{NameId};
 ghost use Rattle.chor_base.specs.Words.{AllDistinct};
 ghost use Rattle.chor_tree.specs.declared.protocol.State.{State};
@@ -71,6 +71,8 @@ fn arms(
     requires few { length sets.old ≤ 1024 }
     requires distinct { AllDistinct sets.old }
     ensures distinct { AllDistinct sets.new }
+    ensures longer { OnOk result (length sets.old ≤ length sets.new) }
+    ensures sizes { OnOk result ((k : ℕ) (v : List ℕ) → slice_get sets.new k ≡ Some v → (slice_get sets.old k ≡ Some v) ⊎ (length v ≡ length still.now)) }
     ensures count { IfOk result (λ o. MatchOption o (length sets.new ≡ 1025) (λ v. length sets.new ≤ 1024)) }
     ensures grown { OnOk result ((ss : List State) (r : NameId) → AreActs ss r groups.now → HasGrown ss r (length still.now) still.now sets.old sets.new) }
     ensures arms { IfOk result (λ o. (ss : List State) (r : NameId) → AreActs ss r groups.now → MatchOption o (Unit {0}) (λ v. AreArms ss r (length still.now) sets.new still.now v.items)) }
