@@ -4,3 +4,4 @@ pub mod Lists
 pub mod Silence
 pub mod Groups
 pub mod Tables
+pub mod Collected

@@ -1,5 +1,5 @@
 -- The text of a role's type (this project's own): a line `local P@A`, and a line for each state, as `0: pick B ko 1 ok 2`.
-use Rattle.std.specs.Prelude.{ℕ, suc, List, [], ◌∷◌, ◌++◌, codes}
+use Rattle.std.specs.Prelude.{ℕ, ◌+◌, List, [], ◌∷◌, ◌++◌, codes}
 use Rattle.std.specs.Fmt.{decimal}
 use Rattle.chor_base.specs.declared.names.NameId.{NameId}
 use Rattle.chor_base.specs.declared.value.Sort.{Sort}
@@ -45,7 +45,7 @@ state_text names (Branch r ls) = codes ": branch " ++ choice_text names r ls
 -- the lines of these states, of which the first has the number n
 abbrev pub states_text : List (List ℕ) → ℕ → List LocalState → List ℕ
 states_text names n [] = []
-states_text names n (s ∷ ss) = (decimal n ++ state_text names s) ++ states_text names (suc n) ss
+states_text names n (s ∷ ss) = (decimal n ++ state_text names s) ++ states_text names (n + 1) ss
 
 -- The type of a role of a protocol
 abbrev pub local_text : List (List ℕ) → NameId → NameId → List LocalState → List ℕ
