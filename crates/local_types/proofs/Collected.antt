@@ -1,6 +1,6 @@
 -- The moves of a protocol as they are collected are its exchanges.
 use Rattle.std.proofs.Common.{ℕ, ◌≡◌, ◌+◌, ◌<◌, ◌≤◌, List, [], ◌∷◌, ◌++◌, Bool, true, false, refl, ap, sym, subst, ◌∙◌, arith, inl, inr, length, zero, suc}
-use Rattle.std.specs.Prelude.{◌⊎◌, ◌==◌, Option, Some, None, slice_get, if◌then◌else◌, map}
+use Rattle.std.specs.Prelude.{◌⊎◌, ◌==◌, Option, Some, None, slice_get, if◌then◌else◌, map, Vec}
 use Rattle.std.proofs.lemmas.Option.{slice_get_within}
 use Rattle.chor_base.specs.declared.names.NameId.{NameId}
 use Rattle.chor_tree.specs.declared.protocol.Payload.{Payload}
@@ -12,8 +12,15 @@ use Rattle.global_types.specs.Moves.{IsIn, Exchange, passes, chooses, Leads, con
 use Rattle.global_types.specs.Paths.{Action, action_in, actions_of, IsPath}
 use Rattle.local_types.specs.declared.act.Act.{Act}
 use Rattle.local_types.specs.declared.moves.Move.{Move}
-use Rattle.local_types.specs.Moves.{actions_in, AreMoves, value_act, choice_act, move_to, arms_moves, step_moves, moves_from}
-use Rattle.local_types.specs.Graph.{AreWithin, HasMove}
+use Rattle.local_types.specs.Moves.{action_of, actions_in, AreMoves, value_act, choice_act, move_to, arms_moves, step_moves, moves_from}
+use Rattle.local_types.specs.declared.graph.Group.{Group}
+use Rattle.std.specs.declared.alloc.Global.{Global}
+use Rattle.local_types.specs.declared.graph.Edge.{Edge}
+use Rattle.local_types.specs.Graph.{AreWithin, HasMove, AreGroups, AreInside, IsSilentPath, GoesSilently, AreRowsFor}
+use Rattle.local_types.specs.Sets.{row_at}
+use Rattle.local_types.specs.Table.{Silent, AreActs}
+use Rattle.local_types.proofs.Sets.{set_same}
+use Rattle.local_types.proofs.Walks.{silent_here, silent_one, silent_trans}
 use Rattle.local_types.proofs.Lists.{in_left, in_right, in_either}
 
 value_is : (r a b : NameId) (c : Payload) → action_in r (passes a b (content_of c)) ≡ actions_in (value_act r a b c)
@@ -136,3 +143,60 @@ leads_within ss i x j l = (slice_get_within ss i l.state l.here, named_within ss
 
 pub moves_within : (ss : List State) (r : NameId) (ms : List Move) → AreMoves ss r ms → AreWithin (length ss) ms
 moves_within ss r ms are m among = let s = are.sound m among in leads_within ss m.from s.0 m.to s.1
+
+-- both states of each edge of a group are states
+pub groups_inside : (n : ℕ) (ms : List Move) (gs : List Group) → AreWithin n ms → AreGroups ms gs → AreInside n gs
+groups_inside n ms gs within are g among e m =
+    let h = (are.edges g among).sound e m in
+    let b = within h.move h.among in
+    ((let a = b.0 in let f = h.from in omega (arith, a, f)), (let a = b.1 in let f = h.to in omega (arith, a, f)))
+
+-- ---- what a role's view is made from
+
+-- the groups of the moves are the acts of the role
+pub acts_are : (ss : List State) (r : NameId) (ms : List Move) (gs : List Group) → AreMoves ss r ms → AreGroups ms gs → AreActs ss r gs
+acts_are ss r ms gs moves groups = record {
+  sound = λ g among e m. sound_at g e ((groups.edges g among).sound e m);
+  whole = λ g among e x l d. (groups.edges g among).complete e (whole_at g e x l d);
+  covers = λ i j x a l d. covers_at i j x a l d }
+  where
+    sound_at : (g : Group) (e : Edge) → HasMove ms e.from (action_of g.act ∷ []) e.to → (x : Exchange) × Leads ss e.from x e.to × (action_in r x ≡ action_of g.act ∷ [])
+    sound_at g e h = let s = moves.sound h.move h.among in (s.0, subst (λ i. Leads ss i s.0 e.to) h.from (subst (λ j. Leads ss h.move.from s.0 j) h.to s.1), s.2 ∙ h.does)
+    whole_at : (g : Group) (e : Edge) (x : Exchange) → Leads ss e.from x e.to → action_in r x ≡ action_of g.act ∷ [] → HasMove ms e.from (action_of g.act ∷ []) e.to
+    whole_at g e x l d = let m = moves.complete e.from e.to x l in record { move = m.0; among = m.1; from = m.2; to = m.3; does = sym m.4 ∙ d }
+    act_at : (o : Option Act) (a : Action) → actions_in o ≡ a ∷ [] → (b : Act) × (o ≡ Some b) × (action_of b ≡ a)
+    act_at None a e = absurd (cc)
+    act_at (Some b) a e = (b, refl, cc)
+    covers_at : (i j : ℕ) (x : Exchange) (a : Action) → Leads ss i x j → action_in r x ≡ a ∷ [] → (g : Group) × IsIn g gs × (action_of g.act ≡ a)
+    covers_at i j x a l d =
+        let m = moves.complete i j x l in
+        let b = act_at m.0.act a (sym m.4 ∙ d) in
+        let g = groups.covers m.0 b.0 m.1 b.1 in
+        (g.0, g.1, g.2 ∙ b.2)
+
+-- silent paths of the protocol and of its moves are the same
+silent_moves : (ss : List State) (r : NameId) (ms : List Move) → AreMoves ss r ms → (i : ℕ) (js : List ℕ) (k : ℕ) → IsSilentPath ms i js k → Silent ss r i k
+silent_moves ss r ms moves i [] k p = subst (λ m. Silent ss r i m) p (silent_here ss r i)
+silent_moves ss r ms moves i (j ∷ js) k p =
+    let h = p.0 in
+    let s = moves.sound h.move h.among in
+    let l : Leads ss i s.0 j = subst (λ m. Leads ss m s.0 j) h.from (subst (λ m. Leads ss h.move.from s.0 m) h.to s.1) in
+    silent_trans ss r i j k (silent_one ss r i j s.0 l (s.2 ∙ h.does)) (silent_moves ss r ms moves j js k p.1)
+
+moves_silent : (ss : List State) (r : NameId) (ms : List Move) → AreMoves ss r ms → (i : ℕ) (xs : List Exchange) (k : ℕ) → IsPath ss i xs k → actions_of r xs ≡ [] → GoesSilently ms i k
+moves_silent ss r ms moves i [] k p e = ([], p)
+moves_silent ss r ms moves i (x ∷ xs) k p e =
+    let parts = both_empty (action_in r x) (actions_of r xs) e in
+    let m = moves.complete i p.0 x p.1 in
+    let h : HasMove ms i [] p.0 = record { move = m.0; among = m.1; from = m.2; to = m.3; does = sym m.4 ∙ parts.0 } in
+    let q = moves_silent ss r ms moves p.0 xs k p.2 parts.1 in
+    (p.0 ∷ q.0, (h, q.1))
+  where
+    both_empty : (us bs : List Action) → us ++ bs ≡ [] → (us ≡ []) × (bs ≡ [])
+    both_empty [] bs h = (refl, h)
+    both_empty (a ∷ us) bs h = absurd (cc)
+
+pub reach_is : (ss : List State) (r : NameId) (n : ℕ) (ms : List Move) (rows : List (Vec ℕ Global)) → AreMoves ss r ms → AreRowsFor n (GoesSilently ms) rows → AreRowsFor n (Silent ss r) rows
+reach_is ss r n ms rows moves are = record {
+  size = are.size;
+  row = λ i h. set_same n _ _ (row_at rows i) (are.row i h) (λ j p. silent_moves ss r ms moves i p.0 j p.1) (λ j p. moves_silent ss r ms moves i p.path j p.is_path p.none) }

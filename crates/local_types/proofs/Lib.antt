@@ -5,3 +5,4 @@ pub mod Silence
 pub mod Groups
 pub mod Tables
 pub mod Collected
+pub mod Verdicts

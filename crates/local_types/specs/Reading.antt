@@ -1,5 +1,5 @@
 -- What a role's type says: the lists of actions that can be read from it.
-use Rattle.std.specs.Prelude.{ℕ, ◌≡◌, ◌↔◌, List, [], ◌∷◌, map, Some, slice_get}
+use Rattle.std.specs.Prelude.{ℕ, ◌<◌, ◌≤◌, ◌^◌, length, ◌≡◌, ◌↔◌, List, [], ◌∷◌, map, Some, slice_get}
 use Rattle.chor_base.specs.declared.names.NameId.{NameId}
 use Rattle.chor_base.specs.declared.rule.Denied.{Denied}
 use Rattle.chor_base.specs.declared.rule.Denied.TheVariants.{Refused, Memory}
@@ -31,3 +31,8 @@ IsRead ts n (a ∷ w) = (t : LocalState) × (slice_get ts n ≡ Some t) × (m : 
 pub record IsTypeOf (ss : List State) (r : NameId) (ts : List LocalState) : Type 0 where
   pub view : (w : List Action) → (IsRead ts 0 w) ↔ (IsView ss r w)
   pub ends : (n : ℕ) (t : LocalState) → slice_get ts n ≡ Some t → (t ≡ End) ↔ (acts_of t ≡ [])
+
+-- it has a first state, and fewer states than there are numbers for them
+pub record IsProper (p : Protocol) : Type 0 where
+  pub first : 0 < length p.states
+  pub few : length p.states ≤ 2 ^ 32

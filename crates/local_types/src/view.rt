@@ -1,5 +1,10 @@
 //! The type of a role, and the rules that its view keeps.
 
+ghost use Rattle.std.specs.Prelude.{◌≡◌, ◌<◌, ◌≤◌, ◌^◌, ℕ, length};
+ghost use Rattle.chor_tree.specs.declared.protocol.Protocol.{Protocol};
+ghost use Rattle.global_types.specs.Moves.{IsIn};
+ghost use Rattle.local_types.specs.Reading.{IsProper};
+
 use crate::act::Act;
 use crate::apart::{apart, has_clash, named};
 use crate::graph::{circling, groups, reach};
@@ -22,7 +27,9 @@ pub fn local(
     protocol: &Protocol,
     role: NameId,
     names: &Names,
-) -> Result<LocalType, Denied> {
+) -> Result<LocalType, Denied>
+    requires { IsProper protocol.now }
+{
     let moves = moves(alloc, protocol, role)?;
     let groups = groups(alloc, moves.as_slice(), names)?;
     let count = protocol.states.len();
@@ -120,14 +127,18 @@ fn labels(alloc: Global, arms: &[Arm]) -> Result<List<(NameId, u32)>, Memory> {
 
 /// Checks the views of all roles of all protocols. The first role that has a fault decides, in the
 /// order of the file.
-pub fn check_views(alloc: Global, file: &File) -> Result<(), Denied> {
+pub fn check_views(alloc: Global, file: &File) -> Result<(), Denied>
+    requires { (p : Protocol) → IsIn p file.now.protocols → IsProper p }
+{
     for protocol in file.protocols.as_slice() {
         check_roles(alloc, protocol, &file.names)?;
     }
     Ok(())
 }
 
-fn check_roles(alloc: Global, protocol: &Protocol, names: &Names) -> Result<(), Denied> {
+fn check_roles(alloc: Global, protocol: &Protocol, names: &Names) -> Result<(), Denied>
+    requires { IsProper protocol.now }
+{
     for role in protocol.roles.as_slice() {
         local(alloc, protocol, role.name, names)?;
     }
