@@ -1,0 +1,5 @@
+pub mod Moves
+pub mod Paths
+pub mod Views
+pub mod Faults
+pub mod First

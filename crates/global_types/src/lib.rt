@@ -1,0 +1,11 @@
+//! Protocols as global types: the states of a protocol, its paths, and what it is for protocols to be without fault.
+#![tactic(auto)]
+
+mod check;
+mod fault;
+mod states;
+#[cfg(test)]
+mod tests;
+
+pub use check::check_protocols;
+pub use states::{is_named, step_at};

@@ -1,0 +1,59 @@
+//! States by their names, and the roles that steps name.
+
+ghost use Rattle.std.specs.Prelude.{◌≡◌, ◌≤◌, ◌^◌, length, is_some};
+ghost use Rattle.std.specs.List.{list_any};
+ghost use Rattle.global_types.specs.Moves.{state_named, is_named};
+
+use chor_base::NameId;
+use chor_tree::{ProtoStep, Protocol, State};
+
+/// The place of the first state of a name in its protocol, counted from 0.
+#[tactic(auto, using(crate::proofs::Names::later_one, crate::proofs::Names::later_none))]
+pub fn step_at(protocol: &Protocol, state: NameId) -> Option<u32>
+    requires { length protocol.now.states ≤ 2 ^ 32 }
+    ensures { result ≡ state_named protocol.now.states state }
+{
+    let states = protocol.states.as_slice();
+    for (index, candidate) in states.iter().enumerate() {
+        if candidate.name.name == state {
+            return Some(index as u32);
+        }
+    }
+    None
+}
+
+// Whether one of the states has this name.
+pub fn has_state(states: &[State], name: NameId) -> bool
+    ensures { result ≡ is_some (state_named states.now name) }
+{
+    for state in states {
+        if state.name.name == name {
+            return true;
+        }
+    }
+    false
+}
+
+/// Whether a step names a role as its sender or its receiver.
+pub fn is_named(role: NameId, step: &ProtoStep) -> bool
+    ensures { result ≡ is_named role step.now }
+{
+    match step {
+        ProtoStep::End => false,
+        ProtoStep::Value { from, to, .. } | ProtoStep::Choice { from, to, .. } => {
+            from.name == role || to.name == role
+        }
+    }
+}
+
+// Whether a step of these states names the role.
+pub fn is_used(states: &[State], role: NameId) -> bool
+    ensures { result ≡ list_any (λ s. is_named role s.step) states.now }
+{
+    for state in states {
+        if is_named(role, &state.step) {
+            return true;
+        }
+    }
+    false
+}

@@ -1,0 +1,173 @@
+-- The acts of a role and their edges, found move by move.
+use Rattle.std.proofs.Common.{ℕ, ◌≡◌, ◌+◌, ◌<◌, ◌≤◌, List, [], ◌∷◌, ◌++◌, Bool, true, false, refl, ap, sym, subst, ◌∙◌, arith, inl, inr, length, take}
+use Rattle.std.specs.Prelude.{◌⊎◌, Option, Some, None, slice_index_or, slice_set, IsTrue, MatchBool}
+use Rattle.std.specs.List.Sorted.{IsPermutation}
+use Rattle.std.proofs.lemmas.List.{take_all}
+use Rattle.global_types.specs.Moves.{IsIn}
+use Rattle.global_types.specs.Paths.{Action}
+use Rattle.local_types.specs.declared.act.Act.{Act}
+use Rattle.local_types.specs.declared.graph.Edge.{Edge}
+use Rattle.local_types.specs.declared.graph.Group.{Group}
+use Rattle.local_types.specs.declared.moves.Move.{Move}
+use Rattle.local_types.specs.Moves.{action_of, actions_in}
+use Rattle.local_types.specs.Sets.{IsSetFor}
+use Rattle.local_types.specs.Graph.{HasMove, AreEdges, Covers, AreGroups, AreWithin}
+use Rattle.std.proofs.lemmas.Option.{slice_get-get_or}
+use Rattle.local_types.proofs.Lists.{in_of_at, in_more, in_kept, in_new, in_push, in_left, in_last, in_permuted}
+use Rattle.local_types.proofs.Sets.{set_put, set_same}
+
+-- ---- acts
+
+pub covers_more : (ms : List Move) (i : ℕ) (d : Move) (old new : List Act) → i < length ms → Covers (take i ms) old
+    → ((b : Act) → IsIn b old → IsIn b new)
+    → ((a : Act) → (slice_index_or ms i d).act ≡ Some a → (b : Act) × IsIn b new × (action_of b ≡ action_of a))
+    → Covers (take (i + 1) ms) new
+covers_more ms i d old new h was kept added m a among is = go (in_more m ms i d h among) where
+  go : IsIn m (take i ms) ⊎ (slice_index_or ms i d ≡ m) → (b : Act) × IsIn b new × (action_of b ≡ action_of a)
+  go (inl o) = let p = was m a o is in (p.0, kept p.0 p.1, p.2)
+  go (inr e) = added a (ap (λ (v : Move). v.act) e ∙ is)
+
+pub covers_whole : (ms : List Move) (i : ℕ) (acts : List Act) → length ms ≤ i → Covers (take i ms) acts → Covers ms acts
+covers_whole ms i acts h was = subst (λ l. Covers l acts) (take_all i ms h) was
+
+pub covers_permuted : (ms : List Move) (xs ys : List Act) → IsPermutation xs ys → Covers ms xs → Covers ms ys
+covers_permuted ms xs ys p was m a among is = let q = was m a among is in (q.0, in_permuted q.0 xs ys p q.1, q.2)
+
+pub added_known : (acts : List Act) (act : Act) (b : Bool) → MatchBool b ((k : Act) × IsIn k acts × (action_of k ≡ action_of act)) (Unit {0}) → b ≡ true
+    → (a : Act) → Some act ≡ Some a → (k : Act) × IsIn k acts × (action_of k ≡ action_of a)
+added_known acts act true m e a is = let same : act ≡ a = cc in (m.0, m.1, m.2 ∙ ap action_of same)
+added_known acts act false m e a is = absurd (cc)
+
+-- ---- moves in a front
+
+move_kept : (ms : List Move) (i : ℕ) (d : Move) (p : ℕ) (acts : List Action) (q : ℕ) → i < length ms → HasMove (take i ms) p acts q → HasMove (take (i + 1) ms) p acts q
+move_kept ms i d p acts q h m = record { move = m.move; among = in_kept m.move ms i d h m.among; from = m.from; to = m.to; does = m.does }
+
+move_new : (ms : List Move) (i : ℕ) (d : Move) (acts : List Action) → i < length ms → actions_in (slice_index_or ms i d).act ≡ acts → HasMove (take (i + 1) ms) (slice_index_or ms i d).from acts (slice_index_or ms i d).to
+move_new ms i d acts h e = record { move = slice_index_or ms i d; among = in_new ms i d h; from = refl; to = refl; does = e }
+
+-- a move of a front with one more is that one, or one of the front
+data IsOf (ms : List Move) (i : ℕ) (d : Move) (p : ℕ) (acts : List Action) (q : ℕ) : Type 0 where
+  before : HasMove (take i ms) p acts q → IsOf ms i d p acts q
+  that : (slice_index_or ms i d).from ≡ p → (slice_index_or ms i d).to ≡ q → actions_in (slice_index_or ms i d).act ≡ acts → IsOf ms i d p acts q
+
+move_of : (ms : List Move) (i : ℕ) (d : Move) (p : ℕ) (acts : List Action) (q : ℕ) → i < length ms → HasMove (take (i + 1) ms) p acts q → IsOf ms i d p acts q
+move_of ms i d p acts q h m = go (in_more m.move ms i d h m.among) where
+  go : IsIn m.move (take i ms) ⊎ (slice_index_or ms i d ≡ m.move) → IsOf ms i d p acts q
+  go (inl o) = before (record { move = m.move; among = o; from = m.from; to = m.to; does = m.does })
+  go (inr e) = that (ap (λ (v : Move). v.from) e ∙ m.from) (ap (λ (v : Move). v.to) e ∙ m.to) (ap (λ (v : Move). actions_in v.act) e ∙ m.does)
+
+-- ---- edges
+
+pub edges_in : (ms : List Move) (i : ℕ) (d : Move) (a : Action) (old new : List Edge) → i < length ms → AreEdges (take i ms) a old
+    → actions_in (slice_index_or ms i d).act ≡ a ∷ []
+    → new ≡ old ++ record { from = (slice_index_or ms i d).from; to = (slice_index_or ms i d).to } ∷ []
+    → AreEdges (take (i + 1) ms) a new
+edges_in ms i d a old new h was does is = rw is (record {
+  sound = λ e among. sound_at e (in_push e last old among);
+  complete = λ e m. complete_at e (move_of ms i d e.from (a ∷ []) e.to h m) })
+  where
+    last : Edge
+    last = record { from = (slice_index_or ms i d).from; to = (slice_index_or ms i d).to }
+    sound_at : (e : Edge) → IsIn e old ⊎ (last ≡ e) → HasMove (take (i + 1) ms) e.from (a ∷ []) e.to
+    sound_at e (inl o) = move_kept ms i d e.from (a ∷ []) e.to h (was.sound e o)
+    sound_at e (inr s) = subst (λ (v : Edge). HasMove (take (i + 1) ms) v.from (a ∷ []) v.to) s (move_new ms i d (a ∷ []) h does)
+    complete_at : (e : Edge) → IsOf ms i d e.from (a ∷ []) e.to → IsIn e (old ++ last ∷ [])
+    complete_at e (before m) = in_left e old (last ∷ []) (was.complete e m)
+    complete_at e (that p q r) = let same : last ≡ e = ap (λ n. record { from = n; to = (slice_index_or ms i d).to }) p ∙ ap (λ n. record { from = e.from; to = n }) q in subst (λ v. IsIn v (old ++ last ∷ [])) same (in_last last old)
+
+pub edges_out : (ms : List Move) (i : ℕ) (d : Move) (a : Action) (old : List Edge) → i < length ms → AreEdges (take i ms) a old
+    → (actions_in (slice_index_or ms i d).act ≡ a ∷ [] → ⊥)
+    → AreEdges (take (i + 1) ms) a old
+edges_out ms i d a old h was not = record {
+  sound = λ e o. move_kept ms i d e.from (a ∷ []) e.to h (was.sound e o);
+  complete = λ e m. complete_at e (move_of ms i d e.from (a ∷ []) e.to h m) }
+  where
+    complete_at : (e : Edge) → IsOf ms i d e.from (a ∷ []) e.to → IsIn e old
+    complete_at e (before m) = was.complete e m
+    complete_at e (that p q r) = absurd (not r)
+
+pub edges_whole : (ms : List Move) (i : ℕ) (a : Action) (es : List Edge) → length ms ≤ i → AreEdges (take i ms) a es → AreEdges ms a es
+edges_whole ms i a es h was = subst (λ l. AreEdges l a es) (take_all i ms h) was
+
+-- ---- the row of a state
+
+pub direct_in : (n : ℕ) (ms : List Move) (i : ℕ) (d : Move) (s : ℕ) (old : List ℕ) → i < length ms → AreWithin n ms
+    → (slice_index_or ms i d).from ≡ s → actions_in (slice_index_or ms i d).act ≡ []
+    → IsSetFor n (λ j. (s ≡ j) ⊎ HasMove (take i ms) s [] j) old
+    → IsSetFor n (λ j. (s ≡ j) ⊎ HasMove (take (i + 1) ms) s [] j) (slice_set old (slice_index_or ms i d).to 1)
+direct_in n ms i d s old h within from silent was = set_same n _ _ _ (set_put n _ old (slice_index_or ms i d).to was to) more less
+  where
+    to : (slice_index_or ms i d).to < n
+    to = (within (slice_index_or ms i d) (in_of_at (slice_index_or ms i d) ms i (slice_get-get_or ms i d h))).1
+    more : (j : ℕ) → ((s ≡ j) ⊎ HasMove (take i ms) s [] j) ⊎ ((slice_index_or ms i d).to ≡ j) → (s ≡ j) ⊎ HasMove (take (i + 1) ms) s [] j
+    more j (inl (inl e)) = inl e
+    more j (inl (inr m)) = inr (move_kept ms i d s [] j h m)
+    more j (inr e) = inr (record { move = slice_index_or ms i d; among = in_new ms i d h; from = from; to = e; does = silent })
+    less : (j : ℕ) → (s ≡ j) ⊎ HasMove (take (i + 1) ms) s [] j → ((s ≡ j) ⊎ HasMove (take i ms) s [] j) ⊎ ((slice_index_or ms i d).to ≡ j)
+    less j (inl e) = inl (inl e)
+    less j (inr m) = go (move_of ms i d s [] j h m) where
+      go : IsOf ms i d s [] j → ((s ≡ j) ⊎ HasMove (take i ms) s [] j) ⊎ ((slice_index_or ms i d).to ≡ j)
+      go (before b) = inl (inr b)
+      go (that p q r) = inr q
+
+pub direct_out : (n : ℕ) (ms : List Move) (i : ℕ) (d : Move) (s : ℕ) (old : List ℕ) → i < length ms
+    → ((slice_index_or ms i d).from ≡ s × (actions_in (slice_index_or ms i d).act ≡ []) → ⊥)
+    → IsSetFor n (λ j. (s ≡ j) ⊎ HasMove (take i ms) s [] j) old
+    → IsSetFor n (λ j. (s ≡ j) ⊎ HasMove (take (i + 1) ms) s [] j) old
+direct_out n ms i d s old h not was = set_same n _ _ old was more less
+  where
+    more : (j : ℕ) → (s ≡ j) ⊎ HasMove (take i ms) s [] j → (s ≡ j) ⊎ HasMove (take (i + 1) ms) s [] j
+    more j (inl e) = inl e
+    more j (inr m) = inr (move_kept ms i d s [] j h m)
+    less : (j : ℕ) → (s ≡ j) ⊎ HasMove (take (i + 1) ms) s [] j → (s ≡ j) ⊎ HasMove (take i ms) s [] j
+    less j (inl e) = inl e
+    less j (inr m) = go (move_of ms i d s [] j h m) where
+      go : IsOf ms i d s [] j → (s ≡ j) ⊎ HasMove (take i ms) s [] j
+      go (before b) = inr b
+      go (that p q r) = absurd (not (p, r))
+
+pub direct_begins : (n : ℕ) (ms : List Move) (s : ℕ) (marks : List ℕ) → s < n → IsSetFor n (λ i. ⊥) marks → IsSetFor n (λ j. (s ≡ j) ⊎ HasMove (take 0 ms) s [] j) (slice_set marks s 1)
+direct_begins n ms s marks h none = set_same n _ _ _ (set_put n (λ i. ⊥) marks s none h) more less
+  where
+    more : (j : ℕ) → ⊥ ⊎ (s ≡ j) → (s ≡ j) ⊎ HasMove (take 0 ms) s [] j
+    more j (inl b) = absurd b
+    more j (inr e) = inl e
+    less : (j : ℕ) → (s ≡ j) ⊎ HasMove (take 0 ms) s [] j → ⊥ ⊎ (s ≡ j)
+    less j (inl e) = inr e
+    less j (inr m) = absurd m.among
+
+pub direct_whole : (n : ℕ) (ms : List Move) (i s : ℕ) (marks : List ℕ) → length ms ≤ i → IsSetFor n (λ j. (s ≡ j) ⊎ HasMove (take i ms) s [] j) marks → IsSetFor n (λ j. (s ≡ j) ⊎ HasMove ms s [] j) marks
+direct_whole n ms i s marks h was = subst (λ l. IsSetFor n (λ j. (s ≡ j) ⊎ HasMove l s [] j) marks) (take_all i ms h) was
+
+-- ---- groups
+
+pub groups_more : (ms : List Move) (acts : List Act) (i : ℕ) (d : Act) (old new : List Group) (g : Group) → i < length acts
+    → ((k : Group) → IsIn k old → AreEdges ms (action_of k.act) k.edges.items)
+    → ((a : Act) → IsIn a (take i acts) → (k : Group) × IsIn k old × (k.act ≡ a))
+    → g.act ≡ slice_index_or acts i d → AreEdges ms (action_of g.act) g.edges.items
+    → new ≡ old ++ g ∷ []
+    → record { edges : (k : Group) → IsIn k new → AreEdges ms (action_of k.act) k.edges.items; covers : (a : Act) → IsIn a (take (i + 1) acts) → (k : Group) × IsIn k new × (k.act ≡ a) }
+groups_more ms acts i d old new g h edges covers act own is = rw is (record {
+  edges = λ k o. edges_at k (in_push k g old o);
+  covers = λ a o. covers_at a (in_more a acts i d h o) })
+  where
+    edges_at : (k : Group) → IsIn k old ⊎ (g ≡ k) → AreEdges ms (action_of k.act) k.edges.items
+    edges_at k (inl o) = edges k o
+    edges_at k (inr e) = subst (λ (v : Group). AreEdges ms (action_of v.act) v.edges.items) e own
+    covers_at : (a : Act) → IsIn a (take i acts) ⊎ (slice_index_or acts i d ≡ a) → (k : Group) × IsIn k (old ++ g ∷ []) × (k.act ≡ a)
+    covers_at a (inl o) = let p = covers a o in (p.0, in_left p.0 old (g ∷ []) p.1, p.2)
+    covers_at a (inr e) = (g, in_last g old, act ∙ e)
+
+pub groups_whole : (ms : List Move) (acts : List Act) (i : ℕ) (gs : List Group) → length acts ≤ i → Covers ms acts
+    → ((k : Group) → IsIn k gs → AreEdges ms (action_of k.act) k.edges.items)
+    → ((a : Act) → IsIn a (take i acts) → (k : Group) × IsIn k gs × (k.act ≡ a))
+    → AreGroups ms gs
+groups_whole ms acts i gs h cover edges covers = record {
+  edges = edges;
+  covers = λ m a among is. let p = cover m a among is in let q = covers p.0 (subst (λ l. IsIn p.0 l) (sym (take_all i acts h)) p.1) in (q.0, q.1, ap action_of q.2 ∙ p.2) }
+
+-- ---- tests
+
+pub not_both : (b : Bool) → b ≡ true → b ≡ false → ⊥
+not_both b e f = absurd (let g : true ≡ false = sym e ∙ f in cc)

@@ -1,0 +1,12 @@
+use Rattle.std.proofs.Common.{sym, ap, ◌∙◌, ◌≡◌, refl, subst, [], ◌∷◌, inl, inr}
+use Rattle.global_types.specs.Moves.{IsIn}
+use Rattle.local_types.specs.Moves.{action_of, actions_in}
+use Rattle.local_types.proofs.Lists.{in_of_at, in_left, in_last}
+use Rattle.local_types.proofs.Groups.{covers_more, covers_whole, covers_permuted, added_known, edges_in, edges_out, edges_whole, direct_in, direct_out, direct_begins, direct_whole, groups_more, groups_whole}
+use Rattle.local_types.proofs.graph.groups_of.Goals as goal
+
+pub loop-act-preserved : goal.loop-act-preserved
+loop-act-preserved c = groups_more c.args.moves.now c.args.acts.now c.loop-act.act-index _ c.loop-act.groups.items c.push.new.self.items _ c.loop-act-test.true c.loop-act.invariant.edges c.loop-act.invariant.covers refl c.in_ok-edges.ensures c.in_ok-push.ensures.items
+
+pub returns : goal.returns
+returns c = groups_whole c.args.moves.now c.args.acts.now c.loop-act.act-index c.loop-act.groups.items c.loop-act-test.false c.requires c.loop-act.invariant.edges c.loop-act.invariant.covers

@@ -1,0 +1,49 @@
+use Rattle.std.proofs.Common.{ℕ, List, ◌≡◌, ◌<◌, ◌≤◌, sym, ap, ◌∙◌, refl, subst, [], ◌∷◌, length, arith, inl, inr}
+use Rattle.std.specs.Prelude.{◌⊎◌, slice_get, Some, vec_len}
+use Rattle.chor_base.specs.declared.names.NameId.{NameId}
+use Rattle.chor_tree.specs.declared.protocol.State.{State}
+use Rattle.global_types.specs.Moves.{IsIn}
+use Rattle.local_types.specs.declared.graph.Edge.{Edge}
+use Rattle.local_types.specs.Sets.{Has, row_at, IsSetFor}
+use Rattle.local_types.specs.Table.{AreActs, HasGrown, AreArms}
+use Rattle.local_types.proofs.Tables.{group_among, sizes_more, grown_over, arms_begin, arms_in, arms_out, arms_end, is_false, rows_begin, rows_in, rows_end, rows_over}
+use Rattle.local_types.proofs.table.rows.Goals as goal
+use Rattle.std.proofs.lemmas.Option.{MatchOption-at_some, MatchOption-at_none}
+use Rattle.chor_base.specs.Words.{with_word}
+use Rattle.local_types.specs.Graph.{AreInside}
+
+pub loop-alloc-init : goal.loop-alloc-init
+loop-alloc-init c = rows_begin c.args.groups.now c.args.reach.now c.in_ok-first.first.items c.as_slice.result.now c.intern.new.self c.new-rows.result.items c.requires.first c.in_ok-first.ensures (c.as_slice.ensures.value ∙ c.put.ensures)
+    (c.in_ok-intern.ensures.ok ∙ ap (λ s. with_word s c.as_slice.result.now) c.new-sets.ensures) c.in_ok-intern.ensures.distinct c.new-rows.ensures.items
+
+pub arms-requires-clause-inside : goal.arms-requires-clause-inside
+arms-requires-clause-inside c =
+    let at : slice_get c.loop-alloc.sets (length c.loop-alloc.rows.items) ≡ Some c.at.result.now = ap (λ n. slice_get c.loop-alloc.sets n) (sym (c.len-in-loop-alloc-2.ensures ∙ c.loop-alloc.rows.ok.0)) ∙ c.at.ensures in
+    let still = c.in_ok-still.ensures in
+    let size : length c.as_slice-in-loop-alloc.result.now ≡ length c.args.reach.now = ap (λ (l : List ℕ). length l) c.as_slice-in-loop-alloc.ensures.value ∙ still.size ∙ c.loop-alloc.invariant.sizes (length c.loop-alloc.rows.items) c.at.result.now at in
+    subst (λ n. AreInside n c.args.groups.now) (sym size) c.requires.inside
+
+pub loop-alloc-preserved : goal.loop-alloc-preserved
+loop-alloc-preserved c =
+    let at : slice_get c.loop-alloc.sets (length c.loop-alloc.rows.items) ≡ Some c.at.result.now = ap (λ n. slice_get c.loop-alloc.sets n) (sym (c.len-in-loop-alloc-2.ensures ∙ c.loop-alloc.rows.ok.0)) ∙ c.at.ensures in
+    let new = c.arms.new.sets in
+    let sets = c.loop-alloc.sets in
+    let value = c.as_slice-in-loop-alloc.ensures.value in
+    let few : length new ≤ 1024 = MatchOption-at_some (length new ≡ 1025) (λ v. length new ≤ 1024) c.in-Some.arms c.in-Some.is c.in_ok-arms.ensures.count in
+    rows_in c.args.groups.now c.args.reach.now sets new c.loop-alloc.rows.items c.push.new.self.items c.at.result.now _ c.loop-alloc.invariant at c.in_ok-still.ensures c.in_ok-arms.ensures.distinct few c.in_ok-arms.ensures.longer
+      (subst (λ (l : List ℕ). (k : ℕ) (v : List ℕ) → slice_get new k ≡ Some v → (slice_get sets k ≡ Some v) ⊎ (length v ≡ length l)) value c.in_ok-arms.ensures.sizes)
+      (subst (λ (l : List ℕ). (ss : List State) (r : NameId) → AreActs ss r c.args.groups.now → HasGrown ss r (length l) l sets new) value c.in_ok-arms.ensures.grown)
+      (λ ss r acts. subst (λ (l : List ℕ). AreArms ss r (length l) new l c.in-Some.arms.items) value (MatchOption-at_some (Unit {0}) (λ v. AreArms ss r (length c.as_slice-in-loop-alloc.result.now) new c.as_slice-in-loop-alloc.result.now v.items) c.in-Some.arms c.in-Some.is (c.in_ok-arms.ensures.arms ss r acts)))
+      c.in_ok-push-in-Some.ensures.items
+
+pub returns-in-None : goal.returns-in-None
+returns-in-None c =
+    let at : slice_get c.loop-alloc.sets (length c.loop-alloc.rows.items) ≡ Some c.at.result.now = ap (λ n. slice_get c.loop-alloc.sets n) (sym (c.len-in-loop-alloc-2.ensures ∙ c.loop-alloc.rows.ok.0)) ∙ c.at.ensures in
+    let new = c.arms.new.sets in
+    let many : length new ≡ 1025 = MatchOption-at_none (length new ≡ 1025) (λ v. length new ≤ 1024) c.in-None.is c.in_ok-arms.ensures.count in
+    rows_over c.args.groups.now c.args.reach.now c.loop-alloc.sets new c.loop-alloc.rows.items c.at.result.now c.in_ok-still.still.items c.loop-alloc.invariant at c.in_ok-still.ensures c.in_ok-arms.ensures.distinct many
+      (subst (λ (l : List ℕ). (ss : List State) (r : NameId) → AreActs ss r c.args.groups.now → HasGrown ss r (length l) l c.loop-alloc.sets new) c.as_slice-in-loop-alloc.ensures.value c.in_ok-arms.ensures.grown)
+
+pub returns : goal.returns
+returns c = rows_end c.args.groups.now c.args.reach.now c.loop-alloc.sets c.loop-alloc.rows.items c.loop-alloc.invariant
+    (let a = c.loop-alloc-test.false in let b = c.len.ensures in let d : vec_len c.loop-alloc.rows ≡ length c.loop-alloc.rows.items = c.loop-alloc.rows.ok.0 in let e = c.len-in-loop-alloc.ensures.len in omega (arith, a, b, d, e))

@@ -1,0 +1,62 @@
+-- What a role's view is made from: where silent exchanges lead, and where the role's own acts lead.
+use Rattle.std.specs.Prelude.{ℕ, ◌≡◌, ◌<◌, ◌⊎◌, List, [], ◌∷◌, Some, None, length, Vec, slice_index_or}
+use Rattle.std.specs.declared.alloc.Global.{Global}
+use Rattle.global_types.specs.Moves.{IsIn}
+use Rattle.global_types.specs.Paths.{Action}
+use Rattle.local_types.specs.declared.act.Act.{Act}
+use Rattle.local_types.specs.declared.graph.Edge.{Edge}
+use Rattle.local_types.specs.declared.graph.Group.{Group}
+use Rattle.local_types.specs.declared.moves.Move.{Move}
+use Rattle.local_types.specs.Moves.{action_of, actions_in}
+use Rattle.local_types.specs.Sets.{Has, row_at, IsSetFor}
+
+-- the role does this in an exchange from i to j
+pub record HasMove (ms : List Move) (i : ℕ) (acts : List Action) (j : ℕ) : Type 0 where
+  pub move : Move
+  pub among : IsIn move ms
+  pub from : move.from ≡ i
+  pub to : move.to ≡ j
+  pub does : actions_in move.act ≡ acts
+
+-- silent exchanges lead from i through these states to k
+abbrev pub IsSilentPath : List Move → ℕ → List ℕ → ℕ → Type 0
+IsSilentPath ms i [] k = i ≡ k
+IsSilentPath ms i (j ∷ js) k = HasMove ms i [] j × IsSilentPath ms j js k
+
+abbrev pub GoesSilently : List Move → ℕ → ℕ → Type 0
+GoesSilently ms i k = (js : List ℕ) × IsSilentPath ms i js k
+
+-- ---- acts
+
+-- the edges are the exchanges in which the role does this
+pub record AreEdges (ms : List Move) (a : Action) (es : List Edge) : Type 0 where
+  pub sound : (e : Edge) → IsIn e es → HasMove ms e.from (a ∷ []) e.to
+  pub complete : (e : Edge) → HasMove ms e.from (a ∷ []) e.to → IsIn e es
+
+-- each act of the moves is the same as one of these
+abbrev pub Covers : List Move → List Act → Type 0
+Covers ms acts = (m : Move) (a : Act) → IsIn m ms → m.act ≡ Some a → (b : Act) × IsIn b acts × (action_of b ≡ action_of a)
+
+pub record AreGroups (ms : List Move) (gs : List Group) : Type 0 where
+  pub edges : (g : Group) → IsIn g gs → AreEdges ms (action_of g.act) g.edges.items
+  pub covers : (m : Move) (a : Act) → IsIn m ms → m.act ≡ Some a → (g : Group) × IsIn g gs × (action_of g.act ≡ action_of a)
+
+-- both states of each edge are among the first n
+abbrev pub AreInside : ℕ → List Group → Type 0
+AreInside n gs = (g : Group) → IsIn g gs → (e : Edge) → IsIn e g.edges.items → (e.from < n) × (e.to < n)
+
+-- ---- silent exchanges
+
+-- both states of each exchange are among the first n
+abbrev pub AreWithin : ℕ → List Move → Type 0
+AreWithin n ms = (m : Move) → IsIn m ms → (m.from < n) × (m.to < n)
+
+-- a row for each of n states, with the states that have this to do with it
+pub record AreRowsFor (n : ℕ) (R : ℕ → ℕ → Type 0) (rows : List (Vec ℕ Global)) : Type 0 where
+  pub size : length rows ≡ n
+  pub row : (i : ℕ) → i < n → IsSetFor n (R i) (row_at rows i)
+
+-- what leads to state s leads in the new rows to all that s leads to
+pub record IsThrough (n s : ℕ) (old new : List (Vec ℕ Global)) : Type 0 where
+  pub size : length new ≡ length old
+  pub row : (i : ℕ) → i < n → IsSetFor n (λ j. Has (row_at old i) j ⊎ (Has (row_at old i) s × Has (row_at old s) j)) (row_at new i)

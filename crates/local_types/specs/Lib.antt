@@ -1,0 +1,6 @@
+pub mod Text
+pub mod Reading
+pub mod Sets
+pub mod Moves
+pub mod Graph
+pub mod Table

@@ -1,0 +1,38 @@
+-- What a role's type says: the lists of actions that can be read from it.
+use Rattle.std.specs.Prelude.{ℕ, ◌<◌, ◌≤◌, ◌^◌, length, ◌≡◌, ◌↔◌, List, [], ◌∷◌, map, Some, slice_get}
+use Rattle.chor_base.specs.declared.names.NameId.{NameId}
+use Rattle.chor_base.specs.declared.rule.Denied.{Denied}
+use Rattle.chor_base.specs.declared.rule.Denied.TheVariants.{Refused, Memory}
+use Rattle.chor_tree.specs.declared.file.Named.{Named}
+use Rattle.chor_tree.specs.declared.file.File.{File}
+use Rattle.chor_tree.specs.declared.protocol.Protocol.{Protocol}
+use Rattle.chor_tree.specs.declared.protocol.State.{State}
+use Rattle.global_types.specs.Moves.{IsIn, content_of}
+use Rattle.global_types.specs.Paths.{Action, sends, receives, selects, offers, IsView}
+use Rattle.global_types.specs.Views.{IsViewFault, HasNoViewFault}
+use Rattle.local_types.specs.declared.local_type.LocalState.{LocalState}
+use Rattle.local_types.specs.declared.local_type.LocalState.TheVariants.{End, Send, Recv, Pick, Branch}
+
+-- the actions of a state, each with the number of the state after it
+abbrev pub acts_of : LocalState → List (Action × ℕ)
+acts_of End = []
+acts_of (Send b c n) = (sends b (content_of c), n) ∷ []
+acts_of (Recv a c n) = (receives a (content_of c), n) ∷ []
+acts_of (Pick b ls) = map (λ l. (selects b l.0, l.1)) ls
+acts_of (Branch a ls) = map (λ l. (offers a l.0, l.1)) ls
+
+-- these actions can be read from state n
+abbrev pub IsRead : List LocalState → ℕ → List Action → Type 0
+IsRead ts n [] = Unit {0}
+IsRead ts n (a ∷ w) = (t : LocalState) × (slice_get ts n ≡ Some t) × (m : ℕ) × IsIn (a, m) (acts_of t) × IsRead ts m w
+
+-- The type stands for the role's view: what can be read from its first state is what the view holds, and a state is the
+-- end exactly where no action follows
+pub record IsTypeOf (ss : List State) (r : NameId) (ts : List LocalState) : Type 0 where
+  pub view : (w : List Action) → (IsRead ts 0 w) ↔ (IsView ss r w)
+  pub ends : (n : ℕ) (t : LocalState) → slice_get ts n ≡ Some t → (t ≡ End) ↔ (acts_of t ≡ [])
+
+-- it has a first state, and fewer states than there are numbers for them
+pub record IsProper (p : Protocol) : Type 0 where
+  pub first : 0 < length p.states
+  pub few : length p.states ≤ 2 ^ 32

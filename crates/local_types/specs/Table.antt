@@ -1,0 +1,97 @@
+-- The sets of states that a role can't tell apart, with what follows each.
+use Rattle.std.specs.Prelude.{ℕ, ◌≡◌, ◌<◌, ◌≤◌, ◌⊎◌, List, [], ◌∷◌, Some, length, Vec, slice_get}
+use Rattle.std.specs.declared.alloc.Global.{Global}
+use Rattle.chor_base.specs.declared.names.NameId.{NameId}
+use Rattle.chor_base.specs.Words.{AllDistinct}
+use Rattle.chor_tree.specs.declared.protocol.State.{State}
+use Rattle.global_types.specs.Moves.{IsIn, Exchange, Leads}
+use Rattle.global_types.specs.Paths.{IsPath, Action, action_in, actions_of, Still, At}
+use Rattle.local_types.specs.declared.graph.Edge.{Edge}
+use Rattle.local_types.specs.declared.graph.Group.{Group}
+use Rattle.local_types.specs.declared.table.Arm.{Arm}
+use Rattle.local_types.specs.declared.table.Row.{Row}
+use Rattle.local_types.specs.Moves.{action_of}
+use Rattle.local_types.specs.Sets.{Has, IsSetFor}
+use Rattle.local_types.specs.Graph.{AreRowsFor}
+
+-- a path from i to j on which the role has no action
+pub record Silent (ss : List State) (r : NameId) (i j : ℕ) : Type 0 where
+  pub path : List Exchange
+  pub is_path : IsPath ss i path j
+  pub none : actions_of r path ≡ []
+
+-- the groups are the acts of the role, each with all exchanges in which it does so
+pub record AreActs (ss : List State) (r : NameId) (gs : List Group) : Type 0 where
+  pub sound : (g : Group) → IsIn g gs → (e : Edge) → IsIn e g.edges.items → (x : Exchange) × Leads ss e.from x e.to × (action_in r x ≡ action_of g.act ∷ [])
+  pub whole : (g : Group) → IsIn g gs → (e : Edge) (x : Exchange) → Leads ss e.from x e.to → action_in r x ≡ action_of g.act ∷ [] → IsIn e g.edges.items
+  pub covers : (i j : ℕ) (x : Exchange) (a : Action) → Leads ss i x j → action_in r x ≡ a ∷ [] → (g : Group) × IsIn g gs × (action_of g.act ≡ a)
+
+-- the action leads from one of these states to j
+pub record Target (ss : List State) (r : NameId) (still : List ℕ) (a : Action) (j : ℕ) : Type 0 where
+  pub from : ℕ
+  pub exchange : Exchange
+  pub is_still : Has still from
+  pub leads : Leads ss from exchange j
+  pub does : action_in r exchange ≡ a ∷ []
+
+-- the set is all to which some action leads from these states
+pub record IsNext (ss : List State) (r : NameId) (n : ℕ) (still word : List ℕ) : Type 0 where
+  pub action : Action
+  pub state : ℕ
+  pub reached : Target ss r still action state
+  pub set : IsSetFor n (Target ss r still action) word
+
+-- older sets keep their numbers
+abbrev pub Keeps : List (List ℕ) → List (List ℕ) → Type 0
+Keeps old new = (k : ℕ) (word : List ℕ) → slice_get old k ≡ Some word → slice_get new k ≡ Some word
+
+-- and each new set follows these states
+pub record HasGrown (ss : List State) (r : NameId) (n : ℕ) (still : List ℕ) (old new : List (List ℕ)) : Type 0 where
+  pub kept : Keeps old new
+  pub fresh : (k : ℕ) (word : List ℕ) → slice_get new k ≡ Some word → (slice_get old k ≡ Some word) ⊎ IsNext ss r n still word
+
+-- the arm leads to the set of all states to which its act leads from these, of which there is one
+pub record IsArm (ss : List State) (r : NameId) (n : ℕ) (sets : List (List ℕ)) (still : List ℕ) (arm : Arm) : Type 0 where
+  pub word : List ℕ
+  pub state : ℕ
+  pub at : slice_get sets arm.next ≡ Some word
+  pub set : IsSetFor n (Target ss r still (action_of arm.act)) word
+  pub reached : Target ss r still (action_of arm.act) state
+
+-- the arms are those of all actions that these states allow
+pub record AreArms (ss : List State) (r : NameId) (n : ℕ) (sets : List (List ℕ)) (still : List ℕ) (arms : List Arm) : Type 0 where
+  pub sound : (arm : Arm) → IsIn arm arms → IsArm ss r n sets still arm
+  pub complete : (a : Action) (j : ℕ) → Target ss r still a j → (arm : Arm) × IsIn arm arms × (action_of arm.act ≡ a)
+
+-- what follows a set
+pub record IsRow (ss : List State) (r : NameId) (n : ℕ) (sets : List (List ℕ)) (word : List ℕ) (row : Row) : Type 0 where
+  pub still : IsSetFor n (λ i. (j : ℕ) × Has word j × Silent ss r j i) row.still.items
+  pub arms : AreArms ss r n sets row.still.items row.arms.items
+
+-- the set is that of all states right after some list of actions
+pub record IsFound (ss : List State) (r : NameId) (n : ℕ) (word : List ℕ) : Type 0 where
+  pub actions : List Action
+  pub state : ℕ
+  pub is_at : At ss r actions state
+  pub set : IsSetFor n (At ss r actions) word
+
+-- Each set is that of a list of actions, the first that of none, and each row is what follows its set
+pub record IsTable (ss : List State) (r : NameId) (n : ℕ) (sets : List (List ℕ)) (rows : List Row) : Type 0 where
+  pub first : (word : List ℕ) × (slice_get sets 0 ≡ Some word) × IsSetFor n (At ss r []) word
+  pub found : (k : ℕ) (word : List ℕ) → slice_get sets k ≡ Some word → IsFound ss r n word
+  pub follows : (k : ℕ) (word : List ℕ) (row : Row) → slice_get rows k ≡ Some row → slice_get sets k ≡ Some word → IsRow ss r n sets word row
+
+-- More different sets than a view may have
+pub record AreTooMany (ss : List State) (r : NameId) (n : ℕ) : Type 0 where
+  pub sets : List (List ℕ)
+  pub distinct : AllDistinct sets
+  pub many : length sets ≡ 1025
+  pub found : (k : ℕ) (word : List ℕ) → slice_get sets k ≡ Some word → IsFound ss r n word
+
+-- The table of a role's view
+pub record IsWhole (ss : List State) (r : NameId) (n : ℕ) (rows : List Row) : Type 0 where
+  pub sets : List (List ℕ)
+  pub distinct : AllDistinct sets
+  pub whole : length sets ≡ length rows
+  pub few : length sets ≤ 1024
+  pub table : IsTable ss r n sets rows

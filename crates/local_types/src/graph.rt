@@ -1,0 +1,204 @@
+//! What a role's view is made from: where silent steps lead, and what the role's own acts lead to.
+
+ghost use Rattle.std.specs.Prelude.{◌≡◌, ◌<◌, ◌⊎◌, ℕ, [], ◌∷◌, IfOk, OnOk, MatchBool, IsTrue, ◌↔◌, Some, None, length};
+ghost use Rattle.global_types.specs.Moves.{IsIn};
+ghost use Rattle.local_types.specs.Moves.{action_of, actions_in};
+ghost use Rattle.local_types.specs.Sets.{Has, row_at, IsSetFor};
+ghost use Rattle.local_types.specs.Graph.{HasMove, IsSilentPath, GoesSilently, AreEdges, Covers, AreGroups, AreWithin, AreRowsFor, IsThrough};
+
+use crate::act::{Act, by_label, same_act};
+use crate::marks::{has, no_marks, put, put_all};
+use crate::moves::Move;
+use chor_base::{Memory, Names};
+use std::alloc::Global;
+
+/// An exchange as the states that it leads from and to.
+#[derive(Clone, Copy)]
+pub struct Edge {
+    pub from: u32,
+    pub to: u32,
+}
+
+/// An act of the role, and all exchanges in which it does so.
+#[derive(Drop)]
+pub struct Group {
+    pub act: Act,
+    pub edges: Vec<Edge>,
+}
+
+// The acts of a role, by ascending labels.
+pub fn groups(alloc: Global, moves: &[Move], names: &Names) -> Result<Vec<Group>, Memory>
+    ensures { IfOk result (λ v. AreGroups moves.now v.items) }
+{
+    let mut acts = acts(alloc, moves)?;
+    acts.sort_by(|one, other| by_label(names, one, other))?;
+    groups_of(alloc, moves, acts.as_slice())
+}
+
+// These acts, each with all exchanges in which the role does so.
+fn groups_of(alloc: Global, moves: &[Move], acts: &[Act]) -> Result<Vec<Group>, Memory>
+    requires { Covers moves.now acts.now }
+    ensures { IfOk result (λ v. AreGroups moves.now v.items) }
+{
+    let mut groups = Vec::new(alloc);
+    for act in acts {
+        let edges = edges_of(alloc, moves, act)?;
+        groups.push(Group { act: *act, edges })?;
+    }
+    Ok(groups)
+}
+
+// The acts of these moves, each once.
+fn acts(alloc: Global, moves: &[Move]) -> Result<Vec<Act>, Memory>
+    ensures { IfOk result (λ v. Covers moves.now v.items) }
+{
+    let mut acts = Vec::new(alloc);
+    for item in moves {
+        add_act(&mut acts, item.act)?;
+    }
+    Ok(acts)
+}
+
+// An act comes in, unless it is there.
+fn add_act(acts: &mut Vec<Act>, act: Option<Act>) -> Result<(), Memory>
+    ensures kept { (b : Act) → IsIn b acts.old.items → IsIn b acts.new.items }
+    ensures added { OnOk result ((a : Act) → act ≡ Some a → (b : Act) × IsIn b acts.new.items × (action_of b ≡ action_of a)) }
+{
+    if let Some(act) = act
+        && !knows(acts.as_slice(), &act)
+    {
+        acts.push(act)?;
+    }
+    Ok(())
+}
+
+// Whether an act is the same as one of these.
+fn knows(acts: &[Act], act: &Act) -> bool
+    ensures { MatchBool result ((b : Act) × IsIn b acts.now × (action_of b ≡ action_of act.now)) (Unit {0}) }
+{
+    for known in acts {
+        if same_act(known, act) {
+            return true;
+        }
+    }
+    false
+}
+
+// The exchanges in which the role does this.
+fn edges_of(alloc: Global, moves: &[Move], act: &Act) -> Result<Vec<Edge>, Memory>
+    ensures { IfOk result (λ v. AreEdges moves.now (action_of act.now) v.items) }
+{
+    let mut edges = Vec::new(alloc);
+    for item in moves {
+        if does(item, act) {
+            edges.push(Edge {
+                from: item.from,
+                to: item.to,
+            })?;
+        }
+    }
+    Ok(edges)
+}
+
+// Whether the role does this in a move.
+fn does(item: &Move, act: &Act) -> bool
+    ensures { IsTrue result ↔ (actions_in item.now.act ≡ action_of act.now ∷ []) }
+{
+    match &item.act {
+        Some(own) => same_act(own, act),
+        None => false,
+    }
+}
+
+// For each of so many states the states to which silent exchanges lead from it, itself included.
+pub fn reach(alloc: Global, count: usize, moves: &[Move]) -> Result<Vec<Vec<u8>>, Memory>
+    requires { AreWithin count moves.now }
+    ensures { IfOk result (λ v. AreRowsFor count (GoesSilently moves.now) v.items) }
+{
+    let mut rows = direct(alloc, count, moves)?;
+    for state in 0..count {
+        go_through(alloc, &mut rows, state)?;
+    }
+    Ok(rows)
+}
+
+// For each state itself, and those to which one silent exchange leads.
+fn direct(alloc: Global, count: usize, moves: &[Move]) -> Result<Vec<Vec<u8>>, Memory>
+    requires { AreWithin count moves.now }
+    ensures { IfOk result (λ v. AreRowsFor count (λ i j. (i ≡ j) ⊎ HasMove moves.now i [] j) v.items) }
+{
+    let mut rows = Vec::new(alloc);
+    for state in 0..count {
+        rows.push(direct_row(alloc, count, moves, state)?)?;
+    }
+    Ok(rows)
+}
+
+fn direct_row(
+    alloc: Global,
+    count: usize,
+    moves: &[Move],
+    state: usize,
+) -> Result<Vec<u8>, Memory>
+    requires within { AreWithin count moves.now }
+    requires state { state < count }
+    ensures { IfOk result (λ v. IsSetFor count (λ j. (state ≡ j) ⊎ HasMove moves.now state [] j) v.items) }
+{
+    let mut row = no_marks(alloc, count)?;
+    put(&mut row, state);
+    for item in moves {
+        if is_silent_from(item, state) {
+            put(&mut row, item.to as usize);
+        }
+    }
+    Ok(row)
+}
+
+// Whether a move leads from a state and isn't the role's.
+fn is_silent_from(item: &Move, state: usize) -> bool
+    ensures { IsTrue result ↔ ((item.now.from ≡ state) × (actions_in item.now.act ≡ [])) }
+{
+    match &item.act {
+        Some(_) => false,
+        None => item.from as usize == state,
+    }
+}
+
+// What leads to a state leads to all that this state leads to.
+fn go_through(alloc: Global, rows: &mut Vec<Vec<u8>>, state: usize) -> Result<(), Memory>
+    requires state { state < length rows.old.items }
+    requires sizes { (i : ℕ) → i < length rows.old.items → IsSetFor (length rows.old.items) (Has (row_at rows.old.items i)) (row_at rows.old.items i) }
+    ensures { OnOk result (IsThrough (length rows.old.items) state rows.old.items rows.new.items) }
+{
+    let through = Vec::from_slice(alloc, rows[state].as_slice())?;
+    for number in 0..rows.len() {
+        let row = &mut rows[number];
+        if has(row.as_slice(), state) {
+            put_all(row, through.as_slice());
+        }
+    }
+    Ok(())
+}
+
+// The states from which silent exchanges lead back to them.
+pub fn circling(
+    alloc: Global,
+    count: usize,
+    moves: &[Move],
+    reach: &[Vec<u8>],
+) -> Result<Vec<u8>, Memory> {
+    let mut marks = no_marks(alloc, count)?;
+    for item in moves {
+        if item.act.is_none() && leads_back(reach, item) {
+            put(&mut marks, item.from as usize);
+        }
+    }
+    Ok(marks)
+}
+
+fn leads_back(reach: &[Vec<u8>], item: &Move) -> bool {
+    match reach.get(item.to as usize) {
+        Some(row) => has(row.as_slice(), item.from as usize),
+        None => false,
+    }
+}

@@ -1,0 +1,141 @@
+//! The exchanges of a protocol as one role takes part in them.
+
+ghost use Rattle.std.specs.Prelude.{◌≡◌, ◌++◌, ◌<◌, ◌≤◌, ◌^◌, OnOk, IfOk, Some, None, length, if◌then◌else◌};
+ghost use Rattle.std.specs.List.{flat_map};
+ghost use Rattle.global_types.specs.Moves.{IsIn, state_named};
+ghost use Rattle.local_types.specs.Moves.{AreMoves, choice_act, value_act, move_to, arms_moves, step_moves, moves_from};
+
+use crate::act::Act;
+use chor_base::{List, Memory, NameId};
+use chor_tree::{Payload, ProtoArm, ProtoStep, Protocol};
+use global_types::step_at;
+use std::alloc::Global;
+
+/// An exchange that leads from a state to a state, and what the role does in it, if anything.
+#[derive(Clone, Copy)]
+pub struct Move {
+    pub from: u32,
+    pub act: Option<Act>,
+    pub to: u32,
+}
+
+// All exchanges of a protocol, for a role.
+pub fn moves(alloc: Global, protocol: &Protocol, role: NameId) -> Result<Vec<Move>, Memory>
+    requires { length protocol.now.states ≤ 2 ^ 32 }
+    ensures { IfOk result (λ v. v.items ≡ moves_from protocol.now.states role 0 protocol.now.states) }
+{
+    let mut moves = Vec::new(alloc);
+    for (number, state) in protocol.states.as_slice().iter().enumerate() {
+        add_step(&mut moves, protocol, role, number as u32, &state.step)?;
+    }
+    Ok(moves)
+}
+
+fn add_step(
+    moves: &mut Vec<Move>,
+    protocol: &Protocol,
+    role: NameId,
+    from: u32,
+    step: &ProtoStep,
+) -> Result<(), Memory>
+    requires { length protocol.now.states ≤ 2 ^ 32 }
+    ensures { OnOk result (moves.new.items ≡ moves.old.items ++ step_moves protocol.now.states role from step.now) }
+{
+    match step {
+        ProtoStep::End => Ok(()),
+        ProtoStep::Value {
+            from: sender,
+            to: receiver,
+            payload,
+            next,
+        } => {
+            let act = value_act(role, sender.name, receiver.name, *payload);
+            add_move(moves, protocol, from, act, next.name)
+        }
+        ProtoStep::Choice {
+            from: sender,
+            to: receiver,
+            arms,
+        } => add_arms(
+            moves,
+            protocol,
+            from,
+            Parties {
+                role,
+                sender: sender.name,
+                receiver: receiver.name,
+            },
+            arms.as_slice(),
+        ),
+    }
+}
+
+// A role, and the two roles of an exchange.
+#[derive(Clone, Copy)]
+struct Parties {
+    role: NameId,
+    sender: NameId,
+    receiver: NameId,
+}
+
+fn add_arms(
+    moves: &mut Vec<Move>,
+    protocol: &Protocol,
+    from: u32,
+    parties: Parties,
+    arms: &[ProtoArm],
+) -> Result<(), Memory>
+    requires { length protocol.now.states ≤ 2 ^ 32 }
+    ensures { OnOk result (moves.new.items ≡ moves.old.items ++ arms_moves protocol.now.states parties.role from parties.sender parties.receiver arms.now) }
+{
+    for arm in arms {
+        let act = choice_act(
+            parties.role,
+            parties.sender,
+            parties.receiver,
+            arm.label.name,
+        );
+        add_move(moves, protocol, from, act, arm.next.name)?;
+    }
+    Ok(())
+}
+
+fn value_act(role: NameId, from: NameId, to: NameId, payload: Payload) -> Option<Act>
+    ensures { result ≡ value_act role from to payload }
+{
+    if from == role {
+        Some(Act::Send(to, payload))
+    } else if to == role {
+        Some(Act::Recv(from, payload))
+    } else {
+        None
+    }
+}
+
+fn choice_act(role: NameId, from: NameId, to: NameId, label: NameId) -> Option<Act>
+    ensures { result ≡ choice_act role from to label }
+{
+    if from == role {
+        Some(Act::Pick(to, label))
+    } else if to == role {
+        Some(Act::Branch(from, label))
+    } else {
+        None
+    }
+}
+
+fn add_move(
+    moves: &mut Vec<Move>,
+    protocol: &Protocol,
+    from: u32,
+    act: Option<Act>,
+    next: NameId,
+) -> Result<(), Memory>
+    requires { length protocol.now.states ≤ 2 ^ 32 }
+    ensures { OnOk result (moves.new.items ≡ moves.old.items ++ move_to from act (state_named protocol.now.states next)) }
+{
+    if let Some(to) = step_at(protocol, next) {
+        moves.push(Move { from, act, to })?;
+    }
+    Ok(())
+}

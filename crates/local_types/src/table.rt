@@ -1,0 +1,121 @@
+//! The sets of states that a role can't tell apart, each once, in the order in which they are found.
+
+ghost use Rattle.std.specs.Prelude.{◌≡◌, ◌<◌, ◌≤◌, ◌⊎◌, ℕ, List, IfOk, OnOk, MatchBool, MatchOption, Some, length, slice_get};
+ghost use Rattle.chor_base.specs.declared.names.NameId.{NameId};
+ghost use Rattle.chor_base.specs.Words.{AllDistinct};
+ghost use Rattle.chor_tree.specs.declared.protocol.State.{State};
+ghost use Rattle.global_types.specs.Moves.{IsIn};
+ghost use Rattle.local_types.specs.Sets.{Has, row_at, IsSetFor};
+ghost use Rattle.local_types.specs.Graph.{AreRowsFor, AreInside};
+ghost use Rattle.local_types.specs.Table.{Silent, AreActs, HasGrown, AreArms, AreTooMany, IsWhole};
+
+use crate::act::Act;
+use crate::graph::{Edge, Group};
+use crate::marks::{has, no_marks, put, union};
+use chor_base::{Memory, Texts};
+use std::alloc::Global;
+
+/// The most sets that a role's view may have.
+pub const MOST: usize = 1024;
+
+/// An act, and the number of the set after it.
+#[derive(Clone, Copy)]
+pub struct Arm {
+    pub act: Act,
+    pub next: u32,
+}
+
+/// What follows a set: the states that silent exchanges lead to, and the acts that they allow.
+#[derive(Drop)]
+pub struct Row {
+    pub still: Vec<u8>,
+    pub arms: Vec<Arm>,
+}
+
+// The rows of all sets, of which the first is that of the first state alone. There is none where
+// there are more sets than a view may have.
+pub fn rows(
+    alloc: Global,
+    groups: &[Group],
+    reach: &[Vec<u8>],
+) -> Result<Option<Vec<Row>>, Memory>
+    requires first { 0 < length reach.now }
+    requires reach { (k i : ℕ) → Has (row_at reach.now k) i → i < length reach.now }
+    requires inside { AreInside (length reach.now) groups.now }
+    ensures { IfOk result (λ o. (ss : List State) (r : NameId) → AreRowsFor (length reach.now) (Silent ss r) reach.now → AreActs ss r groups.now → MatchOption o (AreTooMany ss r (length reach.now)) (λ v. IsWhole ss r (length reach.now) v.items)) }
+{
+    let mut first = no_marks(alloc, reach.len())?;
+    put(&mut first, 0);
+    let mut sets = Texts::new(alloc);
+    sets.intern(first.as_slice())?;
+    let mut rows = Vec::new(alloc);
+    while rows.len() < sets.len() {
+        let still = union(alloc, sets.at(rows.len() as u32), reach)?;
+        match arms(alloc, groups, still.as_slice(), &mut sets)? {
+            Some(arms) => rows.push(Row { still, arms })?,
+            None => return Ok(None),
+        }
+    }
+    Ok(Some(rows))
+}
+
+// The acts that these states allow, each with the set after it. There are none where a set comes in
+// that is too many.
+fn arms(
+    alloc: Global,
+    groups: &[Group],
+    still: &[u8],
+    sets: &mut Texts,
+) -> Result<Option<Vec<Arm>>, Memory>
+    requires inside { AreInside (length still.now) groups.now }
+    requires few { length sets.old ≤ 1024 }
+    requires distinct { AllDistinct sets.old }
+    ensures distinct { AllDistinct sets.new }
+    ensures longer { OnOk result (length sets.old ≤ length sets.new) }
+    ensures sizes { OnOk result ((k : ℕ) (v : List ℕ) → slice_get sets.new k ≡ Some v → (slice_get sets.old k ≡ Some v) ⊎ (length v ≡ length still.now)) }
+    ensures count { IfOk result (λ o. MatchOption o (length sets.new ≡ 1025) (λ v. length sets.new ≤ 1024)) }
+    ensures grown { OnOk result ((ss : List State) (r : NameId) → AreActs ss r groups.now → HasGrown ss r (length still.now) still.now sets.old sets.new) }
+    ensures arms { IfOk result (λ o. (ss : List State) (r : NameId) → AreActs ss r groups.now → MatchOption o (Unit {0}) (λ v. AreArms ss r (length still.now) sets.new still.now v.items)) }
+{
+    let mut arms = Vec::new(alloc);
+    for group in groups {
+        if is_allowed(still, group.edges.as_slice()) {
+            let after = targets(alloc, still, group.edges.as_slice())?;
+            let next = sets.intern(after.as_slice())?;
+            if sets.len() > MOST {
+                return Ok(None);
+            }
+            arms.push(Arm {
+                act: group.act,
+                next,
+            })?;
+        }
+    }
+    Ok(Some(arms))
+}
+
+// Whether one of these exchanges leads from one of the states.
+fn is_allowed(still: &[u8], edges: &[Edge]) -> bool
+    ensures { MatchBool result ((e : Edge) × IsIn e edges.now × Has still.now e.from) ((e : Edge) → IsIn e edges.now → Has still.now e.from → ⊥) }
+{
+    for edge in edges {
+        if has(still, edge.from as usize) {
+            return true;
+        }
+    }
+    false
+}
+
+// The states to which these exchanges lead from the states.
+fn targets(alloc: Global, still: &[u8], edges: &[Edge]) -> Result<Vec<u8>, Memory>
+    requires { (e : Edge) → IsIn e edges.now → e.to < length still.now }
+    ensures { IfOk result (λ v. IsSetFor (length still.now) (λ j. (e : Edge) × IsIn e edges.now × Has still.now e.from × (e.to ≡ j)) v.items) }
+{
+    let mut after = no_marks(alloc, still.len())?;
+    for edge in edges {
+        if has(still, edge.from as usize) {
+            put(&mut after, edge.to as usize);
+        }
+    }
+    Ok(after)
+}

@@ -1,0 +1,146 @@
+//! The type of a role, and the rules that its view keeps.
+
+ghost use Rattle.std.specs.Prelude.{◌≡◌, ◌<◌, ◌≤◌, ◌^◌, ℕ, length};
+ghost use Rattle.chor_tree.specs.declared.protocol.Protocol.{Protocol};
+ghost use Rattle.global_types.specs.Moves.{IsIn};
+ghost use Rattle.local_types.specs.Reading.{IsProper};
+
+use crate::act::Act;
+use crate::apart::{apart, has_clash, named};
+use crate::graph::{circling, groups, reach};
+use crate::local_type::{LocalState, LocalType};
+use crate::marks::meets;
+use crate::moves::moves;
+use crate::table::{Arm, Row, rows};
+use chor_base::{Denied, List, Memory, NameId, Names, Place, Refusal, Rule};
+use chor_tree::{File, Named, Protocol};
+use std::alloc::Global;
+
+/// The type of a role: what it does and sees in a protocol.
+///
+/// It is refused by V3 where the role would have to tell more than 1,024 local states apart, else by
+/// V2 where others may go on for ever without it while it waits, else by V1 where it would have to
+/// act differently in states that it can't tell apart. The place is the role's in the head of the
+/// protocol. States are numbered as they are found, breadth first, by ascending labels.
+pub fn local(
+    alloc: Global,
+    protocol: &Protocol,
+    role: NameId,
+    names: &Names,
+) -> Result<LocalType, Denied>
+    requires { IsProper protocol.now }
+{
+    let moves = moves(alloc, protocol, role)?;
+    let groups = groups(alloc, moves.as_slice(), names)?;
+    let count = protocol.states.len();
+    let reach = reach(alloc, count, moves.as_slice())?;
+    let rows = match rows(alloc, groups.as_slice(), reach.as_slice())? {
+        Some(rows) => rows,
+        None => return Err(refused(protocol, role, Rule::V3)),
+    };
+    let states = protocol.states.as_slice();
+    let circling = circling(alloc, count, moves.as_slice(), reach.as_slice())?;
+    let named = named(alloc, states, role)?;
+    if leaves_behind(rows.as_slice(), circling.as_slice(), named.as_slice()) {
+        return Err(refused(protocol, role, Rule::V2));
+    }
+    let apart = apart(alloc, states, role)?;
+    if clashes(rows.as_slice(), apart.as_slice()) {
+        return Err(refused(protocol, role, Rule::V1));
+    }
+    Ok(LocalType {
+        states: states_of(alloc, rows.as_slice())?,
+    })
+}
+
+// The refusal of a role.
+fn refused(protocol: &Protocol, role: NameId, rule: Rule) -> Denied {
+    Denied::Refused(Refusal {
+        rule,
+        place: place_of(protocol.roles.as_slice(), role),
+        who: None,
+    })
+}
+
+// Where a role stands among these.
+fn place_of(roles: &[Named], role: NameId) -> Place {
+    for named in roles {
+        if named.name == role {
+            return named.place;
+        }
+    }
+    Place { line: 1, col: 1 }
+}
+
+// Whether in some set of states one is circling and one names the role.
+fn leaves_behind(rows: &[Row], circling: &[u8], named: &[u8]) -> bool {
+    for row in rows {
+        if meets(row.still.as_slice(), circling) && meets(row.still.as_slice(), named) {
+            return true;
+        }
+    }
+    false
+}
+
+// Whether in some set of states two are apart.
+fn clashes(rows: &[Row], apart: &[Vec<u8>]) -> bool {
+    for row in rows {
+        if has_clash(row.still.as_slice(), apart) {
+            return true;
+        }
+    }
+    false
+}
+
+// The states of a type.
+fn states_of(alloc: Global, rows: &[Row]) -> Result<List<LocalState>, Memory> {
+    let mut states = List::new(alloc);
+    for row in rows {
+        states.push(state_of(alloc, row.arms.as_slice())?)?;
+    }
+    Ok(states)
+}
+
+// The state from which these acts go on, which are all of one kind and with one other role.
+fn state_of(alloc: Global, arms: &[Arm]) -> Result<LocalState, Memory> {
+    let Some(first) = arms.first() else {
+        return Ok(LocalState::End);
+    };
+    Ok(match first.act {
+        Act::Send(role, payload) => LocalState::Send(role, payload, first.next),
+        Act::Recv(role, payload) => LocalState::Recv(role, payload, first.next),
+        Act::Pick(role, _) => LocalState::Pick(role, labels(alloc, arms)?),
+        Act::Branch(role, _) => LocalState::Branch(role, labels(alloc, arms)?),
+    })
+}
+
+// The labels of these acts, each with the number of the state after it.
+fn labels(alloc: Global, arms: &[Arm]) -> Result<List<(NameId, u32)>, Memory> {
+    let mut labels = List::new(alloc);
+    for arm in arms {
+        if let Act::Pick(_, label) | Act::Branch(_, label) = arm.act {
+            labels.push((label, arm.next))?;
+        }
+    }
+    Ok(labels)
+}
+
+/// Checks the views of all roles of all protocols. The first role that has a fault decides, in the
+/// order of the file.
+pub fn check_views(alloc: Global, file: &File) -> Result<(), Denied>
+    requires { (p : Protocol) → IsIn p file.now.protocols → IsProper p }
+{
+    for protocol in file.protocols.as_slice() {
+        check_roles(alloc, protocol, &file.names)?;
+    }
+    Ok(())
+}
+
+fn check_roles(alloc: Global, protocol: &Protocol, names: &Names) -> Result<(), Denied>
+    requires { IsProper protocol.now }
+{
+    for role in protocol.roles.as_slice() {
+        local(alloc, protocol, role.name, names)?;
+    }
+    Ok(())
+}
