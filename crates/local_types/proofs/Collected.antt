@@ -17,9 +17,9 @@ use Rattle.local_types.specs.declared.graph.Group.{Group}
 use Rattle.std.specs.declared.alloc.Global.{Global}
 use Rattle.local_types.specs.declared.graph.Edge.{Edge}
 use Rattle.local_types.specs.Graph.{AreWithin, HasMove, AreGroups, AreInside, IsSilentPath, GoesSilently, AreRowsFor}
-use Rattle.local_types.specs.Sets.{row_at}
-use Rattle.local_types.specs.Table.{Silent, AreActs}
-use Rattle.local_types.proofs.Sets.{set_same}
+use Rattle.local_types.specs.Sets.{Has, row_at, IsSetFor}
+use Rattle.local_types.specs.Table.{Silent, AreActs, Circles}
+use Rattle.local_types.proofs.Sets.{set_same, row_within}
 use Rattle.local_types.proofs.Walks.{silent_here, silent_one, silent_trans}
 use Rattle.local_types.proofs.Lists.{in_left, in_right, in_either}
 
@@ -63,13 +63,13 @@ arms_given ss r i a b [] m h = absurd h
 arms_given ss r i a b (arm ∷ arms) m h = go (in_either m (move_to i (choice_act r a b arm.label.name) (state_named ss arm.next.name)) (arms_moves ss r i a b arms) h) (λ k. arms_given ss r i a b arms m k) where
   go : IsIn m (move_to i (choice_act r a b arm.label.name) (state_named ss arm.next.name)) ⊎ IsIn m (arms_moves ss r i a b arms) → (IsIn m (arms_moves ss r i a b arms) → Given ss r i (arm_exchanges a b arms) m) → Given ss r i (arm_exchanges a b (arm ∷ arms)) m
   go (inl k) hyp = let g = move_given i (choice_act r a b arm.label.name) (state_named ss arm.next.name) m k in
-    record { exchange = chooses a b arm.label.name; next = arm.next.name; from = g.1; allowed = inl refl; there = g.0; does = choice_is r a b arm.label.name ∙ ap actions_in g.2 }
+      record { exchange = chooses a b arm.label.name; next = arm.next.name; from = g.1; allowed = inl refl; there = g.0; does = choice_is r a b arm.label.name ∙ ap actions_in g.2 }
   go (inr k) hyp = let g = hyp k in record { exchange = g.exchange; next = g.next; from = g.from; allowed = inr g.allowed; there = g.there; does = g.does }
 
 step_given : (ss : List State) (r : NameId) (i : ℕ) (step : ProtoStep) (m : Move) → IsIn m (step_moves ss r i step) → Given ss r i (exchanges_of step) m
 step_given ss r i End m h = absurd h
 step_given ss r i (Value a b c next) m h = let g = move_given i (value_act r a.name b.name c) (state_named ss next.name) m h in
-  record { exchange = passes a.name b.name (content_of c); next = next.name; from = g.1; allowed = inl refl; there = g.0; does = value_is r a.name b.name c ∙ ap actions_in g.2 }
+    record { exchange = passes a.name b.name (content_of c); next = next.name; from = g.1; allowed = inl refl; there = g.0; does = value_is r a.name b.name c ∙ ap actions_in g.2 }
 step_given ss r i (Choice a b arms) m h = arms_given ss r i a.name b.name arms m h
 
 -- a move for each exchange
@@ -110,9 +110,9 @@ sound_from ss r i [] at m h = absurd h
 sound_from ss r i (s ∷ rest) at m h = go (in_either m (step_moves ss r i s.step) (moves_from ss r (i + 1) rest) h) (λ k. sound_from ss r (i + 1) rest (λ n t e. subst (λ v. slice_get ss v ≡ Some t) (omega arith) (at (suc n) t e)) m k) where
   go : IsIn m (step_moves ss r i s.step) ⊎ IsIn m (moves_from ss r (i + 1) rest) → (IsIn m (moves_from ss r (i + 1) rest) → (x : Exchange) × Leads ss m.from x m.to × (action_in r x ≡ actions_in m.act)) → (x : Exchange) × Leads ss m.from x m.to × (action_in r x ≡ actions_in m.act)
   go (inl k) hyp =
-    let g = step_given ss r i s.step m k in
-    let here : slice_get ss i ≡ Some s = subst (λ v. slice_get ss v ≡ Some s) (omega arith) (at 0 s refl) in
-    (g.exchange, record { state = s; next = g.next; here = subst (λ v. slice_get ss v ≡ Some s) (sym g.from) here; allowed = g.allowed; there = g.there }, g.does)
+      let g = step_given ss r i s.step m k in
+      let here : slice_get ss i ≡ Some s = subst (λ v. slice_get ss v ≡ Some s) (omega arith) (at 0 s refl) in
+      (g.exchange, record { state = s; next = g.next; here = subst (λ v. slice_get ss v ≡ Some s) (sym g.from) here; allowed = g.allowed; there = g.there }, g.does)
   go (inr k) hyp = hyp k
 
 complete_from : (ss : List State) (r : NameId) (i : ℕ) (rest : List State) (k j : ℕ) (s : State) (x : Exchange) (n : NameId) → slice_get rest k ≡ Some s → IsIn (x, n) (exchanges_of s.step) → state_named ss n ≡ Some j → Made r (i + k) j x (moves_from ss r i rest)
@@ -128,7 +128,8 @@ complete_from ss r i (t ∷ rest) (suc k) j s x n h e there =
 pub collected : (ss : List State) (r : NameId) → AreMoves ss r (moves_from ss r 0 ss)
 collected ss r = record {
   sound = sound_from ss r 0 ss (λ k s e. subst (λ v. slice_get ss v ≡ Some s) (omega arith) e);
-  complete = λ i j x l. let m = complete_from ss r 0 ss i j l.state x l.next l.here l.allowed l.there in (m.move, m.among, m.from ∙ omega arith, m.to, m.does) }
+  complete = λ i j x l. let m = complete_from ss r 0 ss i j l.state x l.next l.here l.allowed l.there in (m.move, m.among, m.from ∙ omega arith, m.to, m.does);
+}
 
 named_within : (ss : List State) (n : NameId) (j : ℕ) → state_named ss n ≡ Some j → j < length ss
 named_within [] n j h = absurd (cc)
@@ -158,15 +159,19 @@ pub acts_are : (ss : List State) (r : NameId) (ms : List Move) (gs : List Group)
 acts_are ss r ms gs moves groups = record {
   sound = λ g among e m. sound_at g e ((groups.edges g among).sound e m);
   whole = λ g among e x l d. (groups.edges g among).complete e (whole_at g e x l d);
-  covers = λ i j x a l d. covers_at i j x a l d }
+  covers = λ i j x a l d. covers_at i j x a l d;
+}
   where
     sound_at : (g : Group) (e : Edge) → HasMove ms e.from (action_of g.act ∷ []) e.to → (x : Exchange) × Leads ss e.from x e.to × (action_in r x ≡ action_of g.act ∷ [])
     sound_at g e h = let s = moves.sound h.move h.among in (s.0, subst (λ i. Leads ss i s.0 e.to) h.from (subst (λ j. Leads ss h.move.from s.0 j) h.to s.1), s.2 ∙ h.does)
+
     whole_at : (g : Group) (e : Edge) (x : Exchange) → Leads ss e.from x e.to → action_in r x ≡ action_of g.act ∷ [] → HasMove ms e.from (action_of g.act ∷ []) e.to
     whole_at g e x l d = let m = moves.complete e.from e.to x l in record { move = m.0; among = m.1; from = m.2; to = m.3; does = sym m.4 ∙ d }
+
     act_at : (o : Option Act) (a : Action) → actions_in o ≡ a ∷ [] → (b : Act) × (o ≡ Some b) × (action_of b ≡ a)
     act_at None a e = absurd (cc)
     act_at (Some b) a e = (b, refl, cc)
+
     covers_at : (i j : ℕ) (x : Exchange) (a : Action) → Leads ss i x j → action_in r x ≡ a ∷ [] → (g : Group) × IsIn g gs × (action_of g.act ≡ a)
     covers_at i j x a l d =
         let m = moves.complete i j x l in
@@ -199,4 +204,36 @@ moves_silent ss r ms moves i (x ∷ xs) k p e =
 pub reach_is : (ss : List State) (r : NameId) (n : ℕ) (ms : List Move) (rows : List (Vec ℕ Global)) → AreMoves ss r ms → AreRowsFor n (GoesSilently ms) rows → AreRowsFor n (Silent ss r) rows
 reach_is ss r n ms rows moves are = record {
   size = are.size;
-  row = λ i h. set_same n _ _ (row_at rows i) (are.row i h) (λ j p. silent_moves ss r ms moves i p.0 j p.1) (λ j p. moves_silent ss r ms moves i p.path j p.is_path p.none) }
+  row = λ i h. set_same n _ _ (row_at rows i) (are.row i h) (λ j p. silent_moves ss r ms moves i p.0 j p.1) (λ j p. moves_silent ss r ms moves i p.path j p.is_path p.none);
+}
+
+-- what is handed to the table is what the table asks for
+pub acts_handed : (ss : List State) (r : NameId) (ms seen : List Move) (gs handed : List Group) → ms ≡ moves_from ss r 0 ss → seen ≡ ms → AreGroups seen gs → handed ≡ gs → AreActs ss r handed
+acts_handed ss r ms seen gs handed is same groups given =
+    subst (λ l. AreActs ss r l) (sym given) (acts_are ss r seen gs (subst (λ l. AreMoves ss r l) (sym (same ∙ is)) (collected ss r)) groups)
+
+pub reach_handed : (ss : List State) (r : NameId) (n : ℕ) (ms seen : List Move) (rows handed : List (Vec ℕ Global)) → ms ≡ moves_from ss r 0 ss → seen ≡ ms → AreRowsFor n (GoesSilently seen) rows → handed ≡ rows → AreRowsFor (length handed) (Silent ss r) handed
+reach_handed ss r n ms seen rows handed is same are given =
+    let long : length handed ≡ n = ap (λ (l : List (Vec ℕ Global)). length l) given ∙ are.size in
+    subst (λ k. AreRowsFor k (Silent ss r) handed) (sym long) (subst (λ l. AreRowsFor n (Silent ss r) l) (sym given) (reach_is ss r n seen rows (subst (λ l. AreMoves ss r l) (sym (same ∙ is)) (collected ss r)) are))
+
+pub circles_are : (ss : List State) (r : NameId) (n : ℕ) (ms seen : List Move) (rows : List (Vec ℕ Global)) (marks : List ℕ) → ms ≡ moves_from ss r 0 ss → seen ≡ ms → n ≡ length ss → AreRowsFor (length rows) (Silent ss r) rows → length rows ≡ n
+    → IsSetFor n (λ i. (j : ℕ) × HasMove seen i [] j × Has (row_at rows j) i) marks → IsSetFor (length ss) (Circles ss r) marks
+circles_are ss r n ms seen rows marks is same size are long was = subst (λ k. IsSetFor k (Circles ss r) marks) size (set_same n _ _ marks was there back)
+  where
+    moves : AreMoves ss r seen
+    moves = subst (λ l. AreMoves ss r l) (sym (same ∙ is)) (collected ss r)
+
+    there : (i : ℕ) → (j : ℕ) × HasMove seen i [] j × Has (row_at rows j) i → Circles ss r i
+    there i p =
+        let h = p.1 in
+        let s = moves.sound h.move h.among in
+        let l : Leads ss i s.0 p.0 = subst (λ m. Leads ss m s.0 p.0) h.from (subst (λ m. Leads ss h.move.from s.0 m) h.to s.1) in
+        record { exchange = s.0; next = p.0; leads = l; none = s.2 ∙ h.does; back = (are.row p.0 (row_within rows p.0 i p.2)).sound i p.2 }
+
+    back : (i : ℕ) → Circles ss r i → (j : ℕ) × HasMove seen i [] j × Has (row_at rows j) i
+    back i c =
+        let m = moves.complete i c.next c.exchange c.leads in
+        let h : HasMove seen i [] c.next = record { move = m.0; among = m.1; from = m.2; to = m.3; does = sym m.4 ∙ c.none } in
+        let w = (leads_within ss i c.exchange c.next c.leads).1 in
+        (c.next, h, (are.row c.next (omega (arith, w, size, long))).complete i c.back)

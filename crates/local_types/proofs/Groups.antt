@@ -65,13 +65,16 @@ pub edges_in : (ms : List Move) (i : ℕ) (d : Move) (a : Action) (old new : Lis
     → AreEdges (take (i + 1) ms) a new
 edges_in ms i d a old new h was does is = rw is (record {
   sound = λ e among. sound_at e (in_push e last old among);
-  complete = λ e m. complete_at e (move_of ms i d e.from (a ∷ []) e.to h m) })
+  complete = λ e m. complete_at e (move_of ms i d e.from (a ∷ []) e.to h m);
+})
   where
     last : Edge
     last = record { from = (slice_index_or ms i d).from; to = (slice_index_or ms i d).to }
+
     sound_at : (e : Edge) → IsIn e old ⊎ (last ≡ e) → HasMove (take (i + 1) ms) e.from (a ∷ []) e.to
     sound_at e (inl o) = move_kept ms i d e.from (a ∷ []) e.to h (was.sound e o)
     sound_at e (inr s) = subst (λ (v : Edge). HasMove (take (i + 1) ms) v.from (a ∷ []) v.to) s (move_new ms i d (a ∷ []) h does)
+
     complete_at : (e : Edge) → IsOf ms i d e.from (a ∷ []) e.to → IsIn e (old ++ last ∷ [])
     complete_at e (before m) = in_left e old (last ∷ []) (was.complete e m)
     complete_at e (that p q r) = let same : last ≡ e = ap (λ n. record { from = n; to = (slice_index_or ms i d).to }) p ∙ ap (λ n. record { from = e.from; to = n }) q in subst (λ v. IsIn v (old ++ last ∷ [])) same (in_last last old)
@@ -81,7 +84,8 @@ pub edges_out : (ms : List Move) (i : ℕ) (d : Move) (a : Action) (old : List E
     → AreEdges (take (i + 1) ms) a old
 edges_out ms i d a old h was not = record {
   sound = λ e o. move_kept ms i d e.from (a ∷ []) e.to h (was.sound e o);
-  complete = λ e m. complete_at e (move_of ms i d e.from (a ∷ []) e.to h m) }
+  complete = λ e m. complete_at e (move_of ms i d e.from (a ∷ []) e.to h m);
+}
   where
     complete_at : (e : Edge) → IsOf ms i d e.from (a ∷ []) e.to → IsIn e old
     complete_at e (before m) = was.complete e m
@@ -100,10 +104,12 @@ direct_in n ms i d s old h within from silent was = set_same n _ _ _ (set_put n 
   where
     to : (slice_index_or ms i d).to < n
     to = (within (slice_index_or ms i d) (in_of_at (slice_index_or ms i d) ms i (slice_get-get_or ms i d h))).1
+
     more : (j : ℕ) → ((s ≡ j) ⊎ HasMove (take i ms) s [] j) ⊎ ((slice_index_or ms i d).to ≡ j) → (s ≡ j) ⊎ HasMove (take (i + 1) ms) s [] j
     more j (inl (inl e)) = inl e
     more j (inl (inr m)) = inr (move_kept ms i d s [] j h m)
     more j (inr e) = inr (record { move = slice_index_or ms i d; among = in_new ms i d h; from = from; to = e; does = silent })
+
     less : (j : ℕ) → (s ≡ j) ⊎ HasMove (take (i + 1) ms) s [] j → ((s ≡ j) ⊎ HasMove (take i ms) s [] j) ⊎ ((slice_index_or ms i d).to ≡ j)
     less j (inl e) = inl (inl e)
     less j (inr m) = go (move_of ms i d s [] j h m) where
@@ -120,6 +126,7 @@ direct_out n ms i d s old h not was = set_same n _ _ old was more less
     more : (j : ℕ) → (s ≡ j) ⊎ HasMove (take i ms) s [] j → (s ≡ j) ⊎ HasMove (take (i + 1) ms) s [] j
     more j (inl e) = inl e
     more j (inr m) = inr (move_kept ms i d s [] j h m)
+
     less : (j : ℕ) → (s ≡ j) ⊎ HasMove (take (i + 1) ms) s [] j → (s ≡ j) ⊎ HasMove (take i ms) s [] j
     less j (inl e) = inl e
     less j (inr m) = go (move_of ms i d s [] j h m) where
@@ -133,6 +140,7 @@ direct_begins n ms s marks h none = set_same n _ _ _ (set_put n (λ i. ⊥) mark
     more : (j : ℕ) → ⊥ ⊎ (s ≡ j) → (s ≡ j) ⊎ HasMove (take 0 ms) s [] j
     more j (inl b) = absurd b
     more j (inr e) = inl e
+
     less : (j : ℕ) → (s ≡ j) ⊎ HasMove (take 0 ms) s [] j → ⊥ ⊎ (s ≡ j)
     less j (inl e) = inr e
     less j (inr m) = absurd m.among
@@ -150,11 +158,13 @@ pub groups_more : (ms : List Move) (acts : List Act) (i : ℕ) (d : Act) (old ne
     → record { edges : (k : Group) → IsIn k new → AreEdges ms (action_of k.act) k.edges.items; covers : (a : Act) → IsIn a (take (i + 1) acts) → (k : Group) × IsIn k new × (k.act ≡ a) }
 groups_more ms acts i d old new g h edges covers act own is = rw is (record {
   edges = λ k o. edges_at k (in_push k g old o);
-  covers = λ a o. covers_at a (in_more a acts i d h o) })
+  covers = λ a o. covers_at a (in_more a acts i d h o);
+})
   where
     edges_at : (k : Group) → IsIn k old ⊎ (g ≡ k) → AreEdges ms (action_of k.act) k.edges.items
     edges_at k (inl o) = edges k o
     edges_at k (inr e) = subst (λ (v : Group). AreEdges ms (action_of v.act) v.edges.items) e own
+
     covers_at : (a : Act) → IsIn a (take i acts) ⊎ (slice_index_or acts i d ≡ a) → (k : Group) × IsIn k (old ++ g ∷ []) × (k.act ≡ a)
     covers_at a (inl o) = let p = covers a o in (p.0, in_left p.0 old (g ∷ []) p.1, p.2)
     covers_at a (inr e) = (g, in_last g old, act ∙ e)
@@ -165,9 +175,47 @@ pub groups_whole : (ms : List Move) (acts : List Act) (i : ℕ) (gs : List Group
     → AreGroups ms gs
 groups_whole ms acts i gs h cover edges covers = record {
   edges = edges;
-  covers = λ m a among is. let p = cover m a among is in let q = covers p.0 (subst (λ l. IsIn p.0 l) (sym (take_all i acts h)) p.1) in (q.0, q.1, ap action_of q.2 ∙ p.2) }
+  covers = λ m a among is. let p = cover m a among is in let q = covers p.0 (subst (λ l. IsIn p.0 l) (sym (take_all i acts h)) p.1) in (q.0, q.1, ap action_of q.2 ∙ p.2);
+}
 
 -- ---- tests
 
 pub not_both : (b : Bool) → b ≡ true → b ≡ false → ⊥
 not_both b e f = absurd (let g : true ≡ false = sym e ∙ f in cc)
+
+-- ---- moves that others go back from
+
+pub circle_in : (n : ℕ) (B : ℕ → ℕ → Type 0) (ms : List Move) (i : ℕ) (d : Move) (old : List ℕ) → i < length ms → AreWithin n ms
+    → actions_in (slice_index_or ms i d).act ≡ [] → B (slice_index_or ms i d).to (slice_index_or ms i d).from
+    → IsSetFor n (λ p. (q : ℕ) × HasMove (take i ms) p [] q × B q p) old
+    → IsSetFor n (λ p. (q : ℕ) × HasMove (take (i + 1) ms) p [] q × B q p) (slice_set old (slice_index_or ms i d).from 1)
+circle_in n B ms i d old h within silent back was = set_same n _ _ _ (set_put n _ old (slice_index_or ms i d).from was from) more less
+  where
+    from : (slice_index_or ms i d).from < n
+    from = (within (slice_index_or ms i d) (in_of_at (slice_index_or ms i d) ms i (slice_get-get_or ms i d h))).0
+
+    more : (p : ℕ) → ((q : ℕ) × HasMove (take i ms) p [] q × B q p) ⊎ ((slice_index_or ms i d).from ≡ p) → (q : ℕ) × HasMove (take (i + 1) ms) p [] q × B q p
+    more p (inl x) = (x.0, move_kept ms i d p [] x.0 h x.1, x.2)
+    more p (inr e) = ((slice_index_or ms i d).to, record { move = slice_index_or ms i d; among = in_new ms i d h; from = e; to = refl; does = silent }, subst (λ v. B (slice_index_or ms i d).to v) e back)
+
+    less : (p : ℕ) → (q : ℕ) × HasMove (take (i + 1) ms) p [] q × B q p → ((q : ℕ) × HasMove (take i ms) p [] q × B q p) ⊎ ((slice_index_or ms i d).from ≡ p)
+    less p x = go (move_of ms i d p [] x.0 h x.1) where
+      go : IsOf ms i d p [] x.0 → ((q : ℕ) × HasMove (take i ms) p [] q × B q p) ⊎ ((slice_index_or ms i d).from ≡ p)
+      go (before b) = inl (x.0, b, x.2)
+      go (that a b e) = inr a
+
+pub circle_out : (n : ℕ) (B : ℕ → ℕ → Type 0) (ms : List Move) (i : ℕ) (d : Move) (old : List ℕ) → i < length ms
+    → ((actions_in (slice_index_or ms i d).act ≡ []) × B (slice_index_or ms i d).to (slice_index_or ms i d).from → ⊥)
+    → IsSetFor n (λ p. (q : ℕ) × HasMove (take i ms) p [] q × B q p) old
+    → IsSetFor n (λ p. (q : ℕ) × HasMove (take (i + 1) ms) p [] q × B q p) old
+circle_out n B ms i d old h not was = set_same n _ _ old was (λ p x. (x.0, move_kept ms i d p [] x.0 h x.1, x.2)) less
+  where
+    less : (p : ℕ) → (q : ℕ) × HasMove (take (i + 1) ms) p [] q × B q p → (q : ℕ) × HasMove (take i ms) p [] q × B q p
+    less p x = go (move_of ms i d p [] x.0 h x.1) where
+      go : IsOf ms i d p [] x.0 → (q : ℕ) × HasMove (take i ms) p [] q × B q p
+      go (before b) = (x.0, b, x.2)
+      go (that a b e) = absurd (not (e, subst (λ v. B v (slice_index_or ms i d).from) (sym b) (subst (λ v. B x.0 v) (sym a) x.2)))
+
+pub circle_whole : (n : ℕ) (B : ℕ → ℕ → Type 0) (ms : List Move) (i : ℕ) (marks : List ℕ) → length ms ≤ i
+    → IsSetFor n (λ p. (q : ℕ) × HasMove (take i ms) p [] q × B q p) marks → IsSetFor n (λ p. (q : ℕ) × HasMove ms p [] q × B q p) marks
+circle_whole n B ms i marks h was = subst (λ l. IsSetFor n (λ p. (q : ℕ) × HasMove l p [] q × B q p) marks) (take_all i ms h) was

@@ -6,3 +6,5 @@ pub mod Groups
 pub mod Tables
 pub mod Collected
 pub mod Verdicts
+pub mod Labels
+pub mod Firsts

@@ -1,9 +1,9 @@
 -- What stands in a list, and in its front.
 use Rattle.std.proofs.Common.{ℕ, ◌≡◌, ◌+◌, ◌<◌, ◌≤◌, List, [], ◌∷◌, ◌++◌, refl, ap, sym, subst, ◌∙◌, arith, inl, inr, zero, suc, length, take, get_or}
-use Rattle.std.specs.Prelude.{◌⊎◌, Option, Some, None, slice_get, slice_index_or}
+use Rattle.std.specs.Prelude.{◌⊎◌, Option, Some, None, slice_get, slice_index_or, map}
 use Rattle.std.specs.List.{Contains}
 use Rattle.std.specs.List.Sorted.{IsPermutation}
-use Rattle.std.proofs.lemmas.List.{take_more}
+use Rattle.std.proofs.lemmas.List.{take_more, take_all}
 use Rattle.std.proofs.lemmas.List.Sorted.{Contains-permutation}
 use Rattle.std.proofs.lemmas.Option.{slice_get-get_or, get_or_from_slice_get, slice_get_within}
 use Rattle.global_types.specs.Moves.{IsIn}
@@ -65,3 +65,29 @@ in_permuted x xs ys p h =
     let c : Contains xs x = (a.0, slice_get_within xs a.0 x a.1, get_or_from_slice_get xs a.0 x x a.1) in
     let d = Contains-permutation xs ys x p c in
     in_of_at x ys d.0 (slice_get-get_or ys d.0 x d.1 ∙ ap Some d.2)
+
+-- ---- images
+
+pub in_map : {A B : Type 0} (f : A → B) (x : A) (xs : List A) → IsIn x xs → IsIn (f x) (map f xs)
+in_map f x [] h = absurd h
+in_map f x (y ∷ xs) (inl e) = inl (ap f e)
+in_map f x (y ∷ xs) (inr h) = inr (in_map f x xs h)
+
+pub in_map_back : {A B : Type 0} (f : A → B) (b : B) (xs : List A) → IsIn b (map f xs) → (x : A) × IsIn x xs × (f x ≡ b)
+in_map_back f b [] h = absurd h
+in_map_back f b (y ∷ xs) (inl e) = (y, inl refl, e)
+in_map_back f b (y ∷ xs) (inr h) = let p = in_map_back f b xs h in (p.0, inr p.1, p.2)
+
+-- ---- a loop that looks for an item
+
+pub item_among : {A : Type 0} (xs : List A) (i : ℕ) (x : A) → i < length xs → x ≡ slice_index_or xs i x → IsIn x xs
+item_among {A} xs i x h is = in_of_at x xs i (slice_get-get_or xs i x h ∙ ap (λ (v : A). Some v) (sym is))
+
+pub none_more : {A : Type 0} (P : A → Type 0) (xs : List A) (i : ℕ) (x : A) → i < length xs → x ≡ slice_index_or xs i x → ((a : A) → IsIn a (take i xs) → P a → ⊥) → (P x → ⊥) → (a : A) → IsIn a (take (i + 1) xs) → P a → ⊥
+none_more P xs i x h is none not a among p = go (in_more a xs i x h among) where
+  go : IsIn a (take i xs) ⊎ (slice_index_or xs i x ≡ a) → ⊥
+  go (inl m) = none a m p
+  go (inr e) = not (subst P (sym (is ∙ e)) p)
+
+pub none_whole : {A : Type 0} (P : A → Type 0) (xs : List A) (i : ℕ) → length xs ≤ i → ((a : A) → IsIn a (take i xs) → P a → ⊥) → (a : A) → IsIn a xs → P a → ⊥
+none_whole {A} P xs i h none a among = none a (let Q : List A → Type 0 = λ l. IsIn a l in subst Q (sym (take_all i xs h)) among)

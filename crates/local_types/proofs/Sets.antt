@@ -26,7 +26,8 @@ set_none n = record {
   size = length-replicate {A = ℕ} n 0;
   bytes = λ i h. inl (get_or-replicate n i 0 0 h);
   sound = λ i h. none i h;
-  complete = λ i h. absurd h }
+  complete = λ i h. absurd h;
+}
   where
     none : (i : ℕ) → Has (replicate n 0) i → ⊥
     none i h =
@@ -45,16 +46,20 @@ set_put n P marks s old within = record {
   size = length-set marks s 1 ∙ old.size;
   bytes = λ i h. bytes_at i h (same_or_not i s);
   sound = λ i h. sound_at i h (same_or_not i s);
-  complete = λ i h. complete_at i h (same_or_not i s) }
+  complete = λ i h. complete_at i h (same_or_not i s);
+}
   where
     here : get_or (slice_set marks s 1) s 0 ≡ 1
     here = get_or-set_same marks s 1 0 (let e = old.size in omega (arith, e, within))
+
     bytes_at : (i : ℕ) → i < n → (i ≡ s) ⊎ (i ≢ s) → (slice_index_or (slice_set marks s 1) i 0 ≡ 0) ⊎ (slice_index_or (slice_set marks s 1) i 0 ≡ 1)
     bytes_at i h (inl e) = inr (rw e here)
     bytes_at i h (inr d) = rw (get_or-set_other marks s i 1 0 d) (old.bytes i h)
+
     sound_at : (i : ℕ) → Has (slice_set marks s 1) i → (i ≡ s) ⊎ (i ≢ s) → P i ⊎ (s ≡ i)
     sound_at i h (inl e) = inr (sym e)
     sound_at i h (inr d) = inl (old.sound i (sym (get_or-set_other marks s i 1 0 d) ∙ h))
+
     complete_at : (i : ℕ) → P i ⊎ (s ≡ i) → (i ≡ s) ⊎ (i ≢ s) → Has (slice_set marks s 1) i
     complete_at i h (inl e) = rw e here
     complete_at i (inl p) (inr d) = get_or-set_other marks s i 1 0 d ∙ old.complete i p
@@ -73,18 +78,23 @@ set_put_all n P old new others was len is short = record {
   size = len ∙ was.size;
   bytes = λ i h. bytes_at i h (slice_index_or others i 0 == 1) refl;
   sound = λ i h. sound_at i h (let e = was.size in let b : i < length new = has_within new i h in omega (arith, e, b, len)) (slice_index_or others i 0 == 1) refl;
-  complete = λ i h. complete_at i h (slice_index_or others i 0 == 1) refl }
+  complete = λ i h. complete_at i h (slice_index_or others i 0 == 1) refl;
+}
   where
     within : (i : ℕ) → i < n → i < length old
     within i h = let e = was.size in omega (arith, e, h)
+
     cell : (i : ℕ) → i < n → (b : Bool) → (slice_index_or others i 0 == 1) ≡ b → slice_index_or new i 0 ≡ (if b then 1 else slice_index_or old i 0)
     cell i h b e = is i (within i h) ∙ ap (λ c. if c then 1 else slice_index_or old i 0) e
+
     bytes_at : (i : ℕ) → i < n → (b : Bool) → (slice_index_or others i 0 == 1) ≡ b → (slice_index_or new i 0 ≡ 0) ⊎ (slice_index_or new i 0 ≡ 1)
     bytes_at i h true e = inr (cell i h true e)
     bytes_at i h false e = let c : slice_index_or new i 0 ≡ slice_index_or old i 0 = cell i h false e in rw c (was.bytes i h)
+
     sound_at : (i : ℕ) → Has new i → i < length old → (b : Bool) → (slice_index_or others i 0 == 1) ≡ b → P i ⊎ Has others i
     sound_at i h l true e = inr (grind (arith, nat_tests))
     sound_at i h l false e = inl (was.sound i (sym (cell i (let z = was.size in omega (arith, z, l)) false e) ∙ h))
+
     complete_at : (i : ℕ) → P i ⊎ Has others i → (b : Bool) → (slice_index_or others i 0 == 1) ≡ b → Has new i
     complete_at i (inl p) true e = cell i (let z = was.size in let q : i < length old = has_within old i (was.complete i p) in omega (arith, z, q)) true e
     complete_at i (inl p) false e = cell i (let z = was.size in let q : i < length old = has_within old i (was.complete i p) in omega (arith, z, q)) false e ∙ was.complete i p
@@ -121,6 +131,7 @@ sets_differ n P Q u v p q d = go (differs_at u v (p.size ∙ sym q.size) d) wher
   at i m (inr a) (inr b) = absurd (m (a ∙ sym b))
   at i m (inl a) (inr b) = inr (q.sound i b, λ h. zero_or_one (slice_index_or u i 0) a (p.complete i h))
   at i m (inr a) (inl b) = inl (p.sound i a, λ h. zero_or_one (slice_index_or v i 0) b (q.complete i h))
+
   go : (i : ℕ) × (i < length u) × (get_or u i 0 ≢ get_or v i 0) → Differ P Q
   go t = let within : t.0 < n = let z = p.size in let b = t.1 in omega (arith, z, b) in (t.0, at t.0 t.2 (p.bytes t.0 within) (q.bytes t.0 within))
 
@@ -140,6 +151,7 @@ pub row_within : (rows : List (Vec ℕ Global)) (k i : ℕ) → Has (row_at rows
 row_within rows k i h = go (cases_lt k (length rows)) where
   nothing : (marks : List ℕ) → marks ≡ [] → Has marks i → ⊥
   nothing marks e m = let z : slice_index_or marks i 0 ≡ 0 = ap (λ (l : List ℕ). slice_index_or l i 0) e in zero_or_one (slice_index_or marks i 0) z m
+
   go : (k < length rows) ⊎ (length rows ≤ k) → k < length rows
   go (inl l) = l
   go (inr g) = absurd (nothing (row_at rows k) (get_or_past (words_of rows) k [] (let e : length (words_of rows) ≡ length rows = length-words rows in omega (arith, e, g))) h)
@@ -165,6 +177,7 @@ union_in n marks rows k old new row at in_set len bytes short was =
     more : (i : ℕ) → ((m : ℕ) × (m < k) × Has marks m × Has (row_at rows m) i) ⊎ Has row i → (m : ℕ) × (m < k + 1) × Has marks m × Has (row_at rows m) i
     more i (inl p) = (p.0, (let b = p.1 in omega (arith, b)), p.2, p.3)
     more i (inr h) = (k, omega arith, in_set, subst (λ l. Has l i) (sym at) h)
+
     less : (i : ℕ) → (m : ℕ) × (m < k + 1) × Has marks m × Has (row_at rows m) i → ((m : ℕ) × (m < k) × Has marks m × Has (row_at rows m) i) ⊎ Has row i
     less i p = go (same_or_not p.0 k) where
       go : (p.0 ≡ k) ⊎ (p.0 ≢ k) → ((m : ℕ) × (m < k) × Has marks m × Has (row_at rows m) i) ⊎ Has row i
@@ -207,7 +220,8 @@ pub rows_more : (n : ℕ) (R : ℕ → ℕ → Type 0) (old new : List (Vec ℕ 
     → record { size : length new ≡ k + 1; row : (i : ℕ) → i < k + 1 → IsSetFor n (R i) (row_at new i) }
 rows_more n R old new k row len is own was = rw is (record {
   size = (let e : length (old ++ row ∷ []) ≡ length old + 1 = length-append old (row ∷ []) in omega (arith, e, len));
-  row = λ i h. at i h (same_or_not i k) })
+  row = λ i h. at i h (same_or_not i k);
+})
   where
     at : (i : ℕ) → i < k + 1 → (i ≡ k) ⊎ (i ≢ k) → IsSetFor n (R i) (row_at (old ++ row ∷ []) i)
     at i h (inl e) =
@@ -233,12 +247,15 @@ pub rows_put : (n : ℕ) (R : ℕ → ℕ → Type 0) (first old new : List (Vec
 rows_put n R first old new k row len done left is h own = rw is (record {
   size = length-set old k row ∙ len;
   done = λ i l. done_at i l (same_or_not i k);
-  left = λ i l. other i (λ e. absurd (let f : i ≡ k = e in omega (arith, l, f))) ∙ left i (omega (arith, l)) })
+  left = λ i l. other i (λ e. absurd (let f : i ≡ k = e in omega (arith, l, f))) ∙ left i (omega (arith, l));
+})
   where
     other : (i : ℕ) → i ≢ k → row_at (slice_set old k row) i ≡ row_at old i
     other i d = ap (λ l. slice_index_or l i []) (words-set old k row) ∙ get_or-set_other (words_of old) k i row.items [] d
+
     here : row_at (slice_set old k row) k ≡ row.items
     here = ap (λ l. slice_index_or l k []) (words-set old k row) ∙ get_or-set_same (words_of old) k row.items [] (let e : length (words_of old) ≡ length old = length-words old in omega (arith, e, h))
+
     done_at : (i : ℕ) → i < k + 1 → (i ≡ k) ⊎ (i ≢ k) → IsSetFor n (R i) (row_at (slice_set old k row) i)
     done_at i l (inl e) = subst (λ m. IsSetFor n (R m) (row_at (slice_set old k row) m)) (sym e) (subst (λ v. IsSetFor n (R k) v) (sym here) own)
     done_at i l (inr d) = subst (λ v. IsSetFor n (R i) v) (sym (other i d)) (done i (omega (arith, l, d)))
@@ -254,6 +271,7 @@ through_in n own more new s was are to len bytes =
     there : (j : ℕ) → Has own j ⊎ Has more j → Has own j ⊎ (Has own s × Has more j)
     there j (inl a) = inl a
     there j (inr b) = inr (to, b)
+
     back : (j : ℕ) → Has own j ⊎ (Has own s × Has more j) → Has own j ⊎ Has more j
     back j (inl a) = inl a
     back j (inr b) = inr b.1
@@ -264,3 +282,33 @@ through_out n own more s was out = set_same n _ _ own was (λ j a. inl a) back
     back : (j : ℕ) → Has own j ⊎ (Has own s × Has more j) → Has own j
     back j (inl a) = a
     back j (inr b) = absurd (out b.0)
+
+-- ---- states with a property, one after the other
+
+pub picked_in : (n k : ℕ) (P : ℕ → Type 0) (old : List ℕ) → k < n → P k → IsSetFor n (λ j. (j < k) × P j) old → IsSetFor n (λ j. (j < k + 1) × P j) (slice_set old k 1)
+picked_in n k P old h p was = set_same n _ _ _ (set_put n _ old k was h) there back
+  where
+    there : (j : ℕ) → ((j < k) × P j) ⊎ (k ≡ j) → (j < k + 1) × P j
+    there j (inl q) = ((let b = q.0 in omega (arith, b)), q.1)
+    there j (inr e) = (omega (arith, e), subst P e p)
+
+    back : (j : ℕ) → (j < k + 1) × P j → ((j < k) × P j) ⊎ (k ≡ j)
+    back j q = go (same_or_not j k) where
+      go : (j ≡ k) ⊎ (j ≢ k) → ((j < k) × P j) ⊎ (k ≡ j)
+      go (inl e) = inr (sym e)
+      go (inr d) = inl ((let b = q.0 in omega (arith, b, d)), q.1)
+
+pub picked_out : (n k : ℕ) (P : ℕ → Type 0) (old : List ℕ) → (P k → ⊥) → IsSetFor n (λ j. (j < k) × P j) old → IsSetFor n (λ j. (j < k + 1) × P j) old
+picked_out n k P old not was = set_same n _ _ old was (λ j q. ((let b = q.0 in omega (arith, b)), q.1)) back
+  where
+    back : (j : ℕ) → (j < k + 1) × P j → (j < k) × P j
+    back j q = go (same_or_not j k) where
+      go : (j ≡ k) ⊎ (j ≢ k) → (j < k) × P j
+      go (inl e) = absurd (not (subst P e q.1))
+      go (inr d) = ((let b = q.0 in omega (arith, b, d)), q.1)
+
+pub picked_none : (n : ℕ) (P : ℕ → Type 0) (marks : List ℕ) → IsSetFor n (λ i. ⊥) marks → IsSetFor n (λ j. (j < 0) × P j) marks
+picked_none n P marks none = set_same n _ _ marks none (λ j b. absurd b) (λ j q. absurd (let b = q.0 in omega (arith, b)))
+
+pub picked_all : (n k : ℕ) (P : ℕ → Type 0) (marks : List ℕ) → n ≤ k → ((j : ℕ) → P j → j < n) → IsSetFor n (λ j. (j < k) × P j) marks → IsSetFor n P marks
+picked_all n k P marks h within was = set_same n _ _ marks was (λ j q. q.1) (λ j p. ((let b = within j p in omega (arith, b, h)), p))

@@ -44,9 +44,11 @@ target_in n still es i d old h inside has was = set_same n _ _ _ (set_put n _ ol
   where
     to : (slice_index_or es i d).to < n
     to = inside (slice_index_or es i d) (in_of_at (slice_index_or es i d) es i (slice_get-get_or es i d h))
+
     more : (j : ℕ) → ((e : Edge) × IsIn e (take i es) × Has still e.from × (e.to ≡ j)) ⊎ ((slice_index_or es i d).to ≡ j) → (e : Edge) × IsIn e (take (i + 1) es) × Has still e.from × (e.to ≡ j)
     more j (inl p) = (p.0, in_kept p.0 es i d h p.1, p.2, p.3)
     more j (inr e) = (slice_index_or es i d, in_new es i d h, has, e)
+
     less : (j : ℕ) → (e : Edge) × IsIn e (take (i + 1) es) × Has still e.from × (e.to ≡ j) → ((e : Edge) × IsIn e (take i es) × Has still e.from × (e.to ≡ j)) ⊎ ((slice_index_or es i d).to ≡ j)
     less j p = go (in_more p.0 es i d h p.1) where
       go : IsIn p.0 (take i es) ⊎ (slice_index_or es i d ≡ p.0) → ((e : Edge) × IsIn e (take i es) × Has still e.from × (e.to ≡ j)) ⊎ ((slice_index_or es i d).to ≡ j)
@@ -79,6 +81,7 @@ target_is ss r gs g n still word acts among was = set_same n _ _ word was there 
   where
     there : (j : ℕ) → (e : Edge) × IsIn e g.edges.items × Has still e.from × (e.to ≡ j) → Target ss r still (action_of g.act) j
     there j p = let s = acts.sound g among p.0 p.1 in record { from = p.0.from; exchange = s.0; is_still = p.2; leads = subst (λ m. Leads ss p.0.from s.0 m) p.3 s.1; does = s.2 }
+
     back : (j : ℕ) → Target ss r still (action_of g.act) j → (e : Edge) × IsIn e g.edges.items × Has still e.from × (e.to ≡ j)
     back j t = let e : Edge = record { from = t.from; to = j } in (e, acts.whole g among e t.exchange t.leads t.does, t.is_still, refl)
 
@@ -90,6 +93,7 @@ word_kept ws w k v h = go (list_any (bytes_eq w) ws) where
   left [] i e = absurd (cc)
   left (x ∷ xs) zero e = e
   left (x ∷ xs) (suc i) e = left xs i e
+
   go : (b : Bool) → slice_get (if b then ws else ws ++ w ∷ []) k ≡ Some v
   go true = h
   go false = left ws k h
@@ -101,6 +105,7 @@ word_fresh ws w k v h = go (list_any (bytes_eq w) ws) h where
   last [] (suc i) e = absurd (cc)
   last (x ∷ xs) zero e = inl e
   last (x ∷ xs) (suc i) e = last xs i e
+
   go : (b : Bool) → slice_get (if b then ws else ws ++ w ∷ []) k ≡ Some v → (slice_get ws k ≡ Some v) ⊎ (w ≡ v)
   go true e = inl e
   go false e = last ws k e
@@ -117,7 +122,8 @@ grown_begins ss r n still sets = record { kept = λ k v h. h; fresh = λ k v h. 
 pub grown_more : (ss : List State) (r : NameId) (n : ℕ) (still : List ℕ) (first old new : List (List ℕ)) (word : List ℕ) → HasGrown ss r n still first old → new ≡ with_word old word → IsNext ss r n still word → HasGrown ss r n still first new
 grown_more ss r n still first old new word was is next = rw is (record {
   kept = λ k v h. word_kept old word k v (was.kept k v h);
-  fresh = λ k v h. fresh_at k v (word_fresh old word k v h) })
+  fresh = λ k v h. fresh_at k v (word_fresh old word k v h);
+})
   where
     fresh_at : (k : ℕ) (v : List ℕ) → (slice_get old k ≡ Some v) ⊎ (word ≡ v) → (slice_get first k ≡ Some v) ⊎ IsNext ss r n still v
     fresh_at k v (inl h) = was.fresh k v h
@@ -143,9 +149,12 @@ pub arm_of : (ss : List State) (r : NameId) (gs : List Group) (g : Group) (n : �
 arm_of ss r gs g n still word sets arm acts among p was act at =
     let s = acts.sound g among p.0 p.1 in
     record {
-      word = word; state = p.0.to; at = at;
+      word = word;
+      state = p.0.to;
+      at = at;
       set = subst (λ a. IsSetFor n (Target ss r still (action_of a)) word) (sym act) (target_is ss r gs g n still word acts among was);
-      reached = subst (λ a. Target ss r still (action_of a) p.0.to) (sym act) (record { from = p.0.from; exchange = s.0; is_still = p.2; leads = s.1; does = s.2 }) }
+      reached = subst (λ a. Target ss r still (action_of a) p.0.to) (sym act) (record { from = p.0.from; exchange = s.0; is_still = p.2; leads = s.1; does = s.2 });
+    }
 
 pub arms_whole : (ss : List State) (r : NameId) (gs : List Group) (n i : ℕ) (sets : List (List ℕ)) (still : List ℕ) (arms : List Arm) → AreActs ss r gs → length gs ≤ i
     → ((arm : Arm) → IsIn arm arms → IsArm ss r n sets still arm)
@@ -169,6 +178,7 @@ still_set ss r n w word still was after = set_same n _ _ still after there back
   where
     there : (i : ℕ) → (j : ℕ) × Has word j × Silent ss r j i → Still ss r w i
     there i p = still_silent ss r w p.0 i (at_is_still ss r w p.0 (was.sound p.0 p.1)) p.2
+
     back : (i : ℕ) → Still ss r w i → (j : ℕ) × Has word j × Silent ss r j i
     back i s = let t = still_is_tail ss r w i s in (t.after, was.complete t.after t.is_at, t.silent)
 
@@ -178,6 +188,7 @@ next_set ss r n w a still word was after = set_same n _ _ word after there back
   where
     there : (j : ℕ) → Target ss r still a j → At ss r (w ++ a ∷ []) j
     there j t = at_after ss r w t.from j t.exchange a (was.sound t.from t.is_still) t.leads t.does
+
     back : (j : ℕ) → At ss r (w ++ a ∷ []) j → Target ss r still a j
     back j h = let b = at_before ss r w a j h in record { from = b.from; exchange = b.exchange; is_still = was.complete b.from b.still; leads = b.leads; does = b.does }
 
@@ -195,6 +206,7 @@ first_found ss r n marks h none = set_same n _ _ _ (set_put n (λ i. ⊥) marks 
     there : (j : ℕ) → ⊥ ⊎ (0 ≡ j) → At ss r [] j
     there j (inl b) = absurd b
     there j (inr e) = inl (refl, sym e)
+
     back : (j : ℕ) → At ss r [] j → ⊥ ⊎ (0 ≡ j)
     back j (inl p) = inr (sym p.1)
     back j (inr a) = absurd (nil_not_push a.before a.action (sym a.parts))
@@ -203,7 +215,8 @@ pub table_begins : (ss : List State) (r : NameId) (n : ℕ) (word : List ℕ) �
 table_begins ss r n word set = record {
   first = (word, refl, set);
   found = λ k v h. found_at k v h;
-  follows = λ k v row h. absurd (cc) }
+  follows = λ k v row h. absurd (cc);
+}
   where
     found_at : (k : ℕ) (v : List ℕ) → slice_get (word ∷ []) k ≡ Some v → IsFound ss r n v
     found_at zero v h = let e : word ≡ v = cc in subst (λ u. IsFound ss r n u) e (record { actions = []; state = 0; is_at = inl (refl, refl); set = set })
@@ -226,7 +239,8 @@ pub table_more : (ss : List State) (r : NameId) (n : ℕ) (old new : List (List 
 table_more ss r n old new rows more word row was at after grown arms is = rw is (record {
   first = (was.first.0, grown.kept 0 was.first.0 was.first.1, was.first.2);
   found = found_more ss r n old new word row.still.items was.found (was.found (length rows) word at) after grown;
-  follows = λ k v one h e. follows_at k v one (split rows k one h) e })
+  follows = λ k v one h e. follows_at k v one (split rows k one h) e;
+})
   where
     split : (xs : List Row) (k : ℕ) (one : Row) → slice_get (xs ++ row ∷ []) k ≡ Some one → ((slice_get xs k ≡ Some one) × (k < length xs)) ⊎ ((k ≡ length xs) × (row ≡ one))
     split [] zero one h = inr (refl, cc)
@@ -236,10 +250,13 @@ table_more ss r n old new rows more word row was at after grown arms is = rw is 
       go : ((slice_get xs k ≡ Some one) × (k < length xs)) ⊎ ((k ≡ length xs) × (row ≡ one)) → ((slice_get (x ∷ xs) (suc k) ≡ Some one) × (suc k < length (x ∷ xs))) ⊎ ((suc k ≡ length (x ∷ xs)) × (row ≡ one))
       go (inl p) = inl (p.0, (let b = p.1 in omega (arith, b)))
       go (inr p) = inr (ap suc p.0, p.1)
+
     same_word : (k : ℕ) (v : List ℕ) → slice_get new k ≡ Some v → (u : List ℕ) → slice_get old k ≡ Some u → u ≡ v
     same_word k v e u f = let g = grown.kept k u f in cc
+
     old_at : (k : ℕ) → k < length rows → (u : List ℕ) × (slice_get old k ≡ Some u)
     old_at k h = let b : length rows < length old = slice_get_within old (length rows) word at in (slice_index_or old k [], slice_get-get_or old k [] (omega (arith, h, b)))
+
     follows_at : (k : ℕ) (v : List ℕ) (one : Row) → ((slice_get rows k ≡ Some one) × (k < length rows)) ⊎ ((k ≡ length rows) × (row ≡ one)) → slice_get new k ≡ Some v → IsRow ss r n new v one
     follows_at k v one (inl p) e =
         let o = old_at k p.1 in
@@ -258,6 +275,7 @@ union_is ss r n reach word still are len was = subst (λ m. IsSetFor m (λ i. (j
   where
     there : (i : ℕ) → (k : ℕ) × Has word k × Has (row_at reach k) i → (j : ℕ) × Has word j × Silent ss r j i
     there i p = (p.0, p.1, (are.row p.0 (let b = has_within word p.0 p.1 in omega (arith, b, len))).sound i p.2)
+
     back : (i : ℕ) → (j : ℕ) × Has word j × Silent ss r j i → (k : ℕ) × Has word k × Has (row_at reach k) i
     back i p = (p.0, p.1, (are.row p.0 (let b = has_within word p.0 p.1 in omega (arith, b, len))).complete i p.2)
 
@@ -280,8 +298,14 @@ pub record ArmsSoFar (gs : List Group) (still : List ℕ) (first : List (List �
 
 pub arms_begin : (gs : List Group) (still : List ℕ) (sets : List (List ℕ)) → length sets ≤ 1024 → AllDistinct sets → ArmsSoFar gs still sets 0 sets []
 arms_begin gs still sets few distinct = record {
-  few = few; longer = omega arith; distinct = distinct; sizes = λ k v h. inl h; grown = λ ss r acts. grown_begins ss r (length still) still sets;
-  sound = λ ss r acts arm m. absurd m; complete = λ g m. absurd m }
+  few = few;
+  longer = omega arith;
+  distinct = distinct;
+  sizes = λ k v h. inl h;
+  grown = λ ss r acts. grown_begins ss r (length still) still sets;
+  sound = λ ss r acts arm m. absurd m;
+  complete = λ g m. absurd m;
+}
 
 pub group_among : (gs : List Group) (i : ℕ) (g : Group) → i < length gs → g ≡ slice_index_or gs i g → IsIn g gs
 group_among gs i g h is = in_of_at g gs i (slice_get-get_or gs i g h ∙ ap (λ (v : Group). Some v) (sym is))
@@ -312,17 +336,22 @@ pub arms_in : (gs : List Group) (still : List ℕ) (first : List (List ℕ)) (i 
     → more ≡ arms ++ arm ∷ []
     → ArmsSoFar gs still first (i + 1) new more
 arms_in gs still first i sets arms g word new arm more was h is allowed set added distinct few act at grows = rw grows (record {
-  few = few; longer = word_longer first sets new word added was.longer; distinct = distinct;
+  few = few;
+  longer = word_longer first sets new word added was.longer;
+  distinct = distinct;
   sizes = sizes_more still first sets new word added set.size was.sizes;
   grown = grown_over gs still first i sets arms g word new was h is allowed set added;
   sound = λ ss r acts a m. sound_at ss r acts a (in_push a arm arms m);
-  complete = λ k m e o p. complete_at k e o p (in_more k gs i g h m) })
+  complete = λ k m e o p. complete_at k e o p (in_more k gs i g h m);
+})
   where
     keeps : Keeps sets new
     keeps = let P : List (List ℕ) → Type 0 = λ s. Keeps sets s in subst P (sym added) (word_kept sets word)
+
     sound_at : (ss : List State) (r : NameId) → AreActs ss r gs → (a : Arm) → IsIn a arms ⊎ (arm ≡ a) → IsArm ss r (length still) new still a
     sound_at ss r acts a (inl m) = arm_kept ss r (length still) sets new still a keeps (was.sound ss r acts a m)
     sound_at ss r acts a (inr e) = subst (λ b. IsArm ss r (length still) new still b) e (arm_of ss r gs g (length still) still word new arm acts (group_among gs i g h is) allowed set act at)
+
     complete_at : (k : Group) (e : Edge) → IsIn e k.edges.items → Has still e.from → IsIn k (take i gs) ⊎ (slice_index_or gs i g ≡ k) → (a : Arm) × IsIn a (arms ++ arm ∷ []) × (a.act ≡ k.act)
     complete_at k e o p (inl m) = let q = was.complete k m e o p in (q.0, in_left q.0 arms (arm ∷ []) q.1, q.2)
     complete_at k e o p (inr s) = (arm, in_last arm arms, act ∙ ap (λ (v : Group). v.act) (is ∙ s))
@@ -332,8 +361,14 @@ pub arms_out : (gs : List Group) (still : List ℕ) (first : List (List ℕ)) (i
     → ((e : Edge) → IsIn e g.edges.items → Has still e.from → ⊥)
     → ArmsSoFar gs still first (i + 1) sets arms
 arms_out gs still first i sets arms g was h is not = record {
-  few = was.few; longer = was.longer; distinct = was.distinct; sizes = was.sizes; grown = was.grown; sound = was.sound;
-  complete = λ k m e o p. complete_at k e o p (in_more k gs i g h m) }
+  few = was.few;
+  longer = was.longer;
+  distinct = was.distinct;
+  sizes = was.sizes;
+  grown = was.grown;
+  sound = was.sound;
+  complete = λ k m e o p. complete_at k e o p (in_more k gs i g h m);
+}
   where
     complete_at : (k : Group) (e : Edge) → IsIn e k.edges.items → Has still e.from → IsIn k (take i gs) ⊎ (slice_index_or gs i g ≡ k) → (a : Arm) × IsIn a arms × (a.act ≡ k.act)
     complete_at k e o p (inl m) = was.complete k m e o p
@@ -365,10 +400,12 @@ pub rows_begin : (gs : List Group) (reach : List (Vec ℕ Global)) (marks word :
     → IsSetFor (length reach) (λ i. ⊥) marks → word ≡ slice_set marks 0 1 → sets ≡ word ∷ [] → AllDistinct sets → rows ≡ []
     → RowsSoFar gs reach sets rows
 rows_begin gs reach marks word sets rows h none is one distinct empty = rw (one, empty) (record {
-  few = omega arith; done = omega arith;
+  few = omega arith;
+  done = omega arith;
   distinct = (let P : List (List ℕ) → Type 0 = λ s. AllDistinct s in subst P one distinct);
   sizes = λ k v e. sizes_at k v e;
-  table = λ ss r are acts. table_begins ss r (length reach) word (rw is (first_found ss r (length reach) marks h none)) })
+  table = λ ss r are acts. table_begins ss r (length reach) word (rw is (first_found ss r (length reach) marks h none));
+})
   where
     sizes_at : (k : ℕ) (v : List ℕ) → slice_get (word ∷ []) k ≡ Some v → length v ≡ length reach
     sizes_at zero v e = let s : word ≡ v = cc in subst (λ (u : List ℕ). length u ≡ length reach) (sym is ∙ s) (length-set marks 0 1 ∙ none.size)
@@ -389,22 +426,31 @@ rows_in gs reach sets new rows more word row was at still distinct few long size
   distinct = distinct;
   sizes = λ k v e. sizes_at k v (sizes k v e);
   table = λ ss r are acts. table_more ss r (length reach) sets new rows more word row (was.table ss r are acts) at (union_is ss r (length reach) reach word row.still.items are size still)
-      (subst (λ n. HasGrown ss r n row.still.items sets new) still_size (grown ss r acts)) (subst (λ n. AreArms ss r n new row.still.items row.arms.items) still_size (arms ss r acts)) is }
+      (subst (λ n. HasGrown ss r n row.still.items sets new) still_size (grown ss r acts)) (subst (λ n. AreArms ss r n new row.still.items row.arms.items) still_size (arms ss r acts)) is;
+}
   where
     size : length word ≡ length reach
     size = was.sizes (length rows) word at
+
     still_size : length row.still.items ≡ length reach
     still_size = still.size ∙ size
+
     sizes_at : (k : ℕ) (v : List ℕ) → (slice_get sets k ≡ Some v) ⊎ (length v ≡ length row.still.items) → length v ≡ length reach
     sizes_at k v (inl e) = was.sizes k v e
     sizes_at k v (inr e) = e ∙ still_size
+
     longer : length rows < length new
     longer = let b = slice_get_within sets (length rows) word at in omega (arith, b, long)
 
 pub rows_end : (gs : List Group) (reach : List (Vec ℕ Global)) (sets : List (List ℕ)) (rows : List Row) → RowsSoFar gs reach sets rows → length sets ≤ length rows
     → (ss : List State) (r : NameId) → AreRowsFor (length reach) (Silent ss r) reach → AreActs ss r gs → IsWhole ss r (length reach) rows
 rows_end gs reach sets rows was h ss r are acts = record {
-  sets = sets; distinct = was.distinct; whole = (let d = was.done in omega (arith, d, h)); few = was.few; table = was.table ss r are acts }
+  sets = sets;
+  distinct = was.distinct;
+  whole = (let d = was.done in omega (arith, d, h));
+  few = was.few;
+  table = was.table ss r are acts;
+}
 
 pub rows_over : (gs : List Group) (reach : List (Vec ℕ Global)) (sets new : List (List ℕ)) (rows : List Row) (word still : List ℕ)
     → RowsSoFar gs reach sets rows → slice_get sets (length rows) ≡ Some word
@@ -413,9 +459,12 @@ pub rows_over : (gs : List Group) (reach : List (Vec ℕ Global)) (sets new : Li
     → ((ss : List State) (r : NameId) → AreActs ss r gs → HasGrown ss r (length still) still sets new)
     → (ss : List State) (r : NameId) → AreRowsFor (length reach) (Silent ss r) reach → AreActs ss r gs → AreTooMany ss r (length reach)
 rows_over gs reach sets new rows word still was at after distinct many grown ss r are acts = record {
-  sets = new; distinct = distinct; many = many;
+  sets = new;
+  distinct = distinct;
+  many = many;
   found = found_more ss r (length reach) sets new word still (was.table ss r are acts).found ((was.table ss r are acts).found (length rows) word at)
-      (union_is ss r (length reach) reach word still are size after) (subst (λ n. HasGrown ss r n still sets new) (after.size ∙ size) (grown ss r acts)) }
+      (union_is ss r (length reach) reach word still are size after) (subst (λ n. HasGrown ss r n still sets new) (after.size ∙ size) (grown ss r acts));
+}
   where
     size : length word ≡ length reach
     size = was.sizes (length rows) word at

@@ -50,7 +50,8 @@ pub silent_trans : (ss : List State) (r : NameId) (i j k : ℕ) → Silent ss r 
 silent_trans ss r i j k p q = record {
   path = p.path ++ q.path;
   is_path = path_append ss i p.path j q.path k p.is_path q.is_path;
-  none = actions-append r p.path q.path ∙ ap (λ l. l ++ actions_of r q.path) p.none ∙ q.none }
+  none = actions-append r p.path q.path ∙ ap (λ l. l ++ actions_of r q.path) p.none ∙ q.none;
+}
 
 pub silent_one : (ss : List State) (r : NameId) (i j : ℕ) (x : Exchange) → Leads ss i x j → action_in r x ≡ [] → Silent ss r i j
 silent_one ss r i j x l e = record { path = x ∷ []; is_path = (j, l, refl); none = append-nil (action_in r x) ∙ e }
@@ -59,7 +60,8 @@ pub still_silent : (ss : List State) (r : NameId) (w : List Action) (i j : ℕ) 
 still_silent ss r w i j s q = record {
   path = s.path ++ q.path;
   is_path = path_append ss 0 s.path i q.path j s.is_path q.is_path;
-  actions = actions-append r s.path q.path ∙ ap (λ l. l ++ actions_of r q.path) s.actions ∙ ap (λ l. w ++ l) q.none ∙ append-nil w }
+  actions = actions-append r s.path q.path ∙ ap (λ l. l ++ actions_of r q.path) s.actions ∙ ap (λ l. w ++ l) q.none ∙ append-nil w;
+}
 
 -- ---- right after an action
 
@@ -67,7 +69,8 @@ pub still_acts : (ss : List State) (r : NameId) (w : List Action) (i j : ℕ) (x
 still_acts ss r w i j x a s l e = record {
   path = s.path ++ x ∷ [];
   is_path = path_append ss 0 s.path i (x ∷ []) j s.is_path (j, l, refl);
-  actions = actions-append r s.path (x ∷ []) ∙ ap (λ l. l ++ actions_of r (x ∷ [])) s.actions ∙ ap (λ l. w ++ l) (append-nil (action_in r x) ∙ e) }
+  actions = actions-append r s.path (x ∷ []) ∙ ap (λ l. l ++ actions_of r (x ∷ [])) s.actions ∙ ap (λ l. w ++ l) (append-nil (action_in r x) ∙ e);
+}
 
 pub at_is_still : (ss : List State) (r : NameId) (w : List Action) (j : ℕ) → At ss r w j → Still ss r w j
 at_is_still ss r w j (inl h) = record { path = []; is_path = sym h.1; actions = sym h.0 }
@@ -104,11 +107,11 @@ tail_path ss r w i [] k t p = subst (λ v. Tail ss r v k) (sym (append-nil w)) (
 tail_path ss r w i (x ∷ xs) k t p = go (acts_or_not r x) (λ v h. tail_path ss r v p.0 xs k h p.2) where
   go : Acts r x → ((v : List Action) → Tail ss r v p.0 → Tail ss r (v ++ actions_of r xs) k) → Tail ss r (w ++ (action_in r x ++ actions_of r xs)) k
   go (silent e) hyp =
-    let next : Tail ss r w p.0 = record { after = t.after; is_at = t.is_at; silent = silent_trans ss r t.after i p.0 t.silent (silent_one ss r i p.0 x p.1 e) } in
-    rw e (hyp w next)
+      let next : Tail ss r w p.0 = record { after = t.after; is_at = t.is_at; silent = silent_trans ss r t.after i p.0 t.silent (silent_one ss r i p.0 x p.1 e) } in
+      rw e (hyp w next)
   go (acts a e) hyp =
-    let next : Tail ss r (w ++ a ∷ []) p.0 = record { after = p.0; is_at = at_after ss r w i p.0 x a (tail_is_still ss r w i t) p.1 e; silent = silent_here ss r p.0 } in
-    rw e (subst (λ v. Tail ss r v k) (append_assoc w (a ∷ []) (actions_of r xs)) (hyp (w ++ a ∷ []) next))
+      let next : Tail ss r (w ++ a ∷ []) p.0 = record { after = p.0; is_at = at_after ss r w i p.0 x a (tail_is_still ss r w i t) p.1 e; silent = silent_here ss r p.0 } in
+      rw e (subst (λ v. Tail ss r v k) (append_assoc w (a ∷ []) (actions_of r xs)) (hyp (w ++ a ∷ []) next))
 
 pub still_is_tail : (ss : List State) (r : NameId) (w : List Action) (k : ℕ) → Still ss r w k → Tail ss r w k
 still_is_tail ss r w k s =

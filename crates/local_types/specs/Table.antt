@@ -6,12 +6,13 @@ use Rattle.chor_base.specs.Words.{AllDistinct}
 use Rattle.chor_tree.specs.declared.protocol.State.{State}
 use Rattle.global_types.specs.Moves.{IsIn, Exchange, Leads}
 use Rattle.global_types.specs.Paths.{IsPath, Action, action_in, actions_of, Still, At}
+use Rattle.global_types.specs.Views.{IsApart}
 use Rattle.local_types.specs.declared.graph.Edge.{Edge}
 use Rattle.local_types.specs.declared.graph.Group.{Group}
 use Rattle.local_types.specs.declared.table.Arm.{Arm}
 use Rattle.local_types.specs.declared.table.Row.{Row}
 use Rattle.local_types.specs.Moves.{action_of}
-use Rattle.local_types.specs.Sets.{Has, IsSetFor}
+use Rattle.local_types.specs.Sets.{Has, row_at, IsSetFor}
 use Rattle.local_types.specs.Graph.{AreRowsFor}
 
 -- a path from i to j on which the role has no action
@@ -95,3 +96,33 @@ pub record IsWhole (ss : List State) (r : NameId) (n : ℕ) (rows : List Row) : 
   pub whole : length sets ≡ length rows
   pub few : length sets ≤ 1024
   pub table : IsTable ss r n sets rows
+
+-- ---- what the rules of views ask of a state
+
+-- others can go in a circle from this state, which the role doesn't see
+pub record Circles (ss : List State) (r : NameId) (i : ℕ) : Type 0 where
+  pub exchange : Exchange
+  pub next : ℕ
+  pub leads : Leads ss i exchange next
+  pub none : action_in r exchange ≡ []
+  pub back : Silent ss r next i
+
+-- the step of state i is apart from that of state j
+pub record ApartAt (ss : List State) (r : NameId) (i j : ℕ) : Type 0 where
+  pub one : State
+  pub other : State
+  pub is_one : slice_get ss i ≡ Some one
+  pub is_other : slice_get ss j ≡ Some other
+  pub is_apart : IsApart r one.step other.step
+
+-- some state is in both sets
+abbrev pub Meets : List ℕ → List ℕ → Type 0
+Meets xs ys = (i : ℕ) × Has xs i × Has ys i
+
+-- the states of a row hold one that circles and one that is named
+abbrev pub IsLeft : List ℕ → List ℕ → Row → Type 0
+IsLeft circling named row = Meets row.still.items circling × Meets row.still.items named
+
+-- the states of a row hold one that is apart from another
+abbrev pub IsTorn : List (Vec ℕ Global) → List ℕ → Type 0
+IsTorn apart still = (i : ℕ) × Has still i × Meets still (row_at apart i)

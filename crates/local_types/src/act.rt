@@ -35,7 +35,9 @@ pub fn same_payload(one: &Payload, other: &Payload) -> bool
                 state: state2,
                 role: role2,
             },
-        ) => protocol.name == protocol2.name && state.name == state2.name && role.name == role2.name,
+        ) => protocol.name == protocol2.name
+            && state.name == state2.name
+            && role.name == role2.name,
         _ => false,
     }
 }

@@ -134,12 +134,7 @@ fn direct(alloc: Global, count: usize, moves: &[Move]) -> Result<Vec<Vec<u8>>, M
     Ok(rows)
 }
 
-fn direct_row(
-    alloc: Global,
-    count: usize,
-    moves: &[Move],
-    state: usize,
-) -> Result<Vec<u8>, Memory>
+fn direct_row(alloc: Global, count: usize, moves: &[Move], state: usize) -> Result<Vec<u8>, Memory>
     requires within { AreWithin count moves.now }
     requires state { state < count }
     ensures { IfOk result (λ v. IsSetFor count (λ j. (state ≡ j) ⊎ HasMove moves.now state [] j) v.items) }
@@ -186,19 +181,31 @@ pub fn circling(
     count: usize,
     moves: &[Move],
     reach: &[Vec<u8>],
-) -> Result<Vec<u8>, Memory> {
+) -> Result<Vec<u8>, Memory>
+    requires { AreWithin count moves.now }
+    ensures { IfOk result (λ v. IsSetFor count (λ i. (j : ℕ) × HasMove moves.now i [] j × Has (row_at reach.now j) i) v.items) }
+{
     let mut marks = no_marks(alloc, count)?;
     for item in moves {
-        if item.act.is_none() && leads_back(reach, item) {
+        if leads_back(reach, item) {
             put(&mut marks, item.from as usize);
         }
     }
     Ok(marks)
 }
 
-fn leads_back(reach: &[Vec<u8>], item: &Move) -> bool {
-    match reach.get(item.to as usize) {
-        Some(row) => has(row.as_slice(), item.from as usize),
-        None => false,
+// Whether a move isn't the role's, and silent exchanges lead back from it.
+fn leads_back(reach: &[Vec<u8>], item: &Move) -> bool
+    ensures { IsTrue result ↔ ((actions_in item.now.act ≡ []) × Has (row_at reach.now item.now.to) item.now.from) }
+{
+    match &item.act {
+        Some(_) => false,
+        None => is_in_row(reach, item.to as usize, item.from as usize),
     }
+}
+
+fn is_in_row(rows: &[Vec<u8>], number: usize, state: usize) -> bool
+    ensures { IsTrue result ↔ (Has (row_at rows.now number) state) }
+{
+    number < rows.len() && has(rows[number].as_slice(), state)
 }

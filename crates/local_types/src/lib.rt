@@ -4,7 +4,6 @@
 mod act;
 mod apart;
 mod graph;
-mod view;
 mod local_type;
 mod marks;
 mod moves;
@@ -12,7 +11,8 @@ mod print;
 mod table;
 #[cfg(test)]
 mod tests;
+mod view;
 
-pub use view::{check_views, local};
 pub use local_type::{LocalState, LocalType};
 pub use print::print_local;
+pub use view::{check_views, local};

@@ -34,11 +34,7 @@ pub struct Row {
 
 // The rows of all sets, of which the first is that of the first state alone. There is none where
 // there are more sets than a view may have.
-pub fn rows(
-    alloc: Global,
-    groups: &[Group],
-    reach: &[Vec<u8>],
-) -> Result<Option<Vec<Row>>, Memory>
+pub fn rows(alloc: Global, groups: &[Group], reach: &[Vec<u8>]) -> Result<Option<Vec<Row>>, Memory>
     requires first { 0 < length reach.now }
     requires reach { (k i : ℕ) → Has (row_at reach.now k) i → i < length reach.now }
     requires inside { AreInside (length reach.now) groups.now }

@@ -133,7 +133,8 @@ fn branches_told_by_labels(rt: HostRuntime) -> Result<(), Fail> {
     let roles: [(&[u8], u32); 2] = [(b"R", 13), (b"P", 16)];
     let protocol = protocol(alloc, &mut names, roles.as_slice(), states)?;
     let text = types(alloc, &protocol, &names)?;
-    let expected = b"local V@R\n0: pick P ko 1 ok 1\n1: end\nlocal V@P\n0: branch R ko 1 ok 1\n1: end\n";
+    let expected =
+        b"local V@R\n0: pick P ko 1 ok 1\n1: end\nlocal V@P\n0: branch R ko 1 ok 1\n1: end\n";
     assert!(rt; text.as_slice() == expected.as_slice());
     Ok(())
 }
@@ -184,7 +185,8 @@ fn a_role_that_has_done_its_part(rt: HostRuntime) -> Result<(), Fail> {
     let roles: [(&[u8], u32); 2] = [(b"C", 13), (b"A", 16)];
     let protocol = protocol(alloc, &mut names, roles.as_slice(), states)?;
     let text = types(alloc, &protocol, &names)?;
-    let expected = b"local V@C\n0: recv A int 1\n1: end\nlocal V@A\n0: send C int 1\n1: pick B done 2 more 1\n2: end\n";
+    let expected =
+        b"local V@C\n0: recv A int 1\n1: end\nlocal V@A\n0: send C int 1\n1: pick B done 2 more 1\n2: end\n";
     assert!(rt; text.as_slice() == expected.as_slice());
     Ok(())
 }

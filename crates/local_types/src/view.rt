@@ -1,9 +1,13 @@
 //! The type of a role, and the rules that its view keeps.
 
-ghost use Rattle.std.specs.Prelude.{◌≡◌, ◌<◌, ◌≤◌, ◌^◌, ℕ, length};
+ghost use Rattle.std.specs.Prelude.{◌≡◌, IfOk, IfErr, OnOk, IsSome, Some, MatchBool, MatchOption, length};
+ghost use Rattle.global_types.specs.Views.{HasTooMany, HasNoViewFault};
+ghost use Rattle.local_types.specs.Sets.{IsSetFor};
+ghost use Rattle.local_types.specs.declared.table.Row.{Row};
+ghost use Rattle.local_types.specs.Table.{IsLeft, IsTorn, IsWhole, Circles};
 ghost use Rattle.chor_tree.specs.declared.protocol.Protocol.{Protocol};
 ghost use Rattle.global_types.specs.Moves.{IsIn};
-ghost use Rattle.local_types.specs.Reading.{IsProper};
+ghost use Rattle.local_types.specs.Reading.{IsProper, role_place, IsRefusal, IsRefusalBy, HasFineRoles, IsFirstRole, IsFirstRefusal};
 
 use crate::act::Act;
 use crate::apart::{apart, has_clash, named};
@@ -28,33 +32,79 @@ pub fn local(
     role: NameId,
     names: &Names,
 ) -> Result<LocalType, Denied>
+    requires proper { IsProper protocol.now }
+    requires role { IsSome (role_place protocol.now.roles role) }
+    ensures fine { OnOk result (HasNoViewFault protocol.now.states role) }
+    ensures refused { IfErr result (IsRefusal protocol.now role) }
+{
+    match sight_of(alloc, protocol, role, names)? {
+        Some(sight) => judged(alloc, protocol, role, &sight),
+        None => Err(refused(protocol, role, Rule::V3)),
+    }
+}
+
+// The type of a role that has no more than it can tell apart.
+fn judged(
+    alloc: Global,
+    protocol: &Protocol,
+    role: NameId,
+    sight: &Sight,
+) -> Result<LocalType, Denied>
+    requires proper { IsProper protocol.now }
+    requires role { IsSome (role_place protocol.now.roles role) }
+    requires whole { IsWhole protocol.now.states role (length protocol.now.states) sight.now.rows.items }
+    requires circling { IsSetFor (length protocol.now.states) (Circles protocol.now.states role) sight.now.circling.items }
+    ensures fine { OnOk result (HasNoViewFault protocol.now.states role) }
+    ensures refused { IfErr result (IsRefusal protocol.now role) }
+{
+    let rows = sight.rows.as_slice();
+    let states = protocol.states.as_slice();
+    let named = named(alloc, states, role)?;
+    if leaves_behind(rows, sight.circling.as_slice(), named.as_slice()) {
+        return Err(refused(protocol, role, Rule::V2));
+    }
+    let apart = apart(alloc, states, role)?;
+    if clashes(rows, apart.as_slice()) {
+        return Err(refused(protocol, role, Rule::V1));
+    }
+    Ok(LocalType {
+        states: states_of(alloc, rows)?,
+    })
+}
+
+// What a role can tell apart, and the states from which others may go in a circle without it.
+#[derive(Drop)]
+struct Sight {
+    rows: Vec<Row>,
+    circling: Vec<u8>,
+}
+
+// There is none where the role would have to tell too much apart.
+fn sight_of(
+    alloc: Global,
+    protocol: &Protocol,
+    role: NameId,
+    names: &Names,
+) -> Result<Option<Sight>, Memory>
     requires { IsProper protocol.now }
+    ensures { IfOk result (λ o. MatchOption o (HasTooMany protocol.now.states role) (λ s. IsWhole protocol.now.states role (length protocol.now.states) s.rows.items × IsSetFor (length protocol.now.states) (Circles protocol.now.states role) s.circling.items)) }
 {
     let moves = moves(alloc, protocol, role)?;
     let groups = groups(alloc, moves.as_slice(), names)?;
     let count = protocol.states.len();
     let reach = reach(alloc, count, moves.as_slice())?;
-    let rows = match rows(alloc, groups.as_slice(), reach.as_slice())? {
-        Some(rows) => rows,
-        None => return Err(refused(protocol, role, Rule::V3)),
-    };
-    let states = protocol.states.as_slice();
     let circling = circling(alloc, count, moves.as_slice(), reach.as_slice())?;
-    let named = named(alloc, states, role)?;
-    if leaves_behind(rows.as_slice(), circling.as_slice(), named.as_slice()) {
-        return Err(refused(protocol, role, Rule::V2));
+    match rows(alloc, groups.as_slice(), reach.as_slice())? {
+        Some(rows) => Ok(Some(Sight { rows, circling })),
+        None => Ok(None),
     }
-    let apart = apart(alloc, states, role)?;
-    if clashes(rows.as_slice(), apart.as_slice()) {
-        return Err(refused(protocol, role, Rule::V1));
-    }
-    Ok(LocalType {
-        states: states_of(alloc, rows.as_slice())?,
-    })
 }
 
 // The refusal of a role.
-fn refused(protocol: &Protocol, role: NameId, rule: Rule) -> Denied {
+fn refused(protocol: &Protocol, role: NameId, rule: Rule) -> Denied
+    requires { IsSome (role_place protocol.now.roles role) }
+    ensures { IsRefusalBy rule protocol.now role result }
+{
     Denied::Refused(Refusal {
         rule,
         place: place_of(protocol.roles.as_slice(), role),
@@ -63,27 +113,40 @@ fn refused(protocol: &Protocol, role: NameId, rule: Rule) -> Denied {
 }
 
 // Where a role stands among these.
-fn place_of(roles: &[Named], role: NameId) -> Place {
+fn place_of(roles: &[Named], role: NameId) -> Place
+    requires { IsSome (role_place roles.now role) }
+    ensures { role_place roles.now role ≡ Some result }
+{
     for named in roles {
         if named.name == role {
             return named.place;
         }
     }
-    Place { line: 1, col: 1 }
+    unreachable!()
 }
 
 // Whether in some set of states one is circling and one names the role.
-fn leaves_behind(rows: &[Row], circling: &[u8], named: &[u8]) -> bool {
+fn leaves_behind(rows: &[Row], circling: &[u8], named: &[u8]) -> bool
+    ensures { MatchBool result ((row : Row) × IsIn row rows.now × IsLeft circling.now named.now row) ((row : Row) → IsIn row rows.now → IsLeft circling.now named.now row → ⊥) }
+{
     for row in rows {
-        if meets(row.still.as_slice(), circling) && meets(row.still.as_slice(), named) {
+        if is_left(row, circling, named) {
             return true;
         }
     }
     false
 }
 
+fn is_left(row: &Row, circling: &[u8], named: &[u8]) -> bool
+    ensures { MatchBool result (IsLeft circling.now named.now row.now) (IsLeft circling.now named.now row.now → ⊥) }
+{
+    meets(row.still.as_slice(), circling) && meets(row.still.as_slice(), named)
+}
+
 // Whether in some set of states two are apart.
-fn clashes(rows: &[Row], apart: &[Vec<u8>]) -> bool {
+fn clashes(rows: &[Row], apart: &[Vec<u8>]) -> bool
+    ensures { MatchBool result ((row : Row) × IsIn row rows.now × IsTorn apart.now row.still.items) ((row : Row) → IsIn row rows.now → IsTorn apart.now row.still.items → ⊥) }
+{
     for row in rows {
         if has_clash(row.still.as_slice(), apart) {
             return true;
@@ -129,18 +192,28 @@ fn labels(alloc: Global, arms: &[Arm]) -> Result<List<(NameId, u32)>, Memory> {
 /// order of the file.
 pub fn check_views(alloc: Global, file: &File) -> Result<(), Denied>
     requires { (p : Protocol) → IsIn p file.now.protocols → IsProper p }
+    ensures fine { OnOk result ((p : Protocol) → IsIn p file.now.protocols → HasFineRoles p p.roles) }
+    ensures refused { IfErr result (IsFirstRefusal file.now.protocols) }
 {
     for protocol in file.protocols.as_slice() {
-        check_roles(alloc, protocol, &file.names)?;
+        match check_roles(alloc, protocol, &file.names) {
+            Ok(()) => {}
+            Err(denied) => return Err(denied),
+        }
     }
     Ok(())
 }
 
 fn check_roles(alloc: Global, protocol: &Protocol, names: &Names) -> Result<(), Denied>
     requires { IsProper protocol.now }
+    ensures fine { OnOk result (HasFineRoles protocol.now protocol.now.roles) }
+    ensures refused { IfErr result (IsFirstRole protocol.now) }
 {
     for role in protocol.roles.as_slice() {
-        local(alloc, protocol, role.name, names)?;
+        match local(alloc, protocol, role.name, names) {
+            Ok(_) => {}
+            Err(denied) => return Err(denied),
+        }
     }
     Ok(())
 }

@@ -7,4 +7,5 @@ use Rattle.local_types.proofs.graph.direct.Given as goal
 abbrev pub invariant-loop-state : goal.invariant-loop-state
 invariant-loop-state l = record {
   size : length l.rows.items ≡ l.state;
-  row : (i : ℕ) → i < l.state → IsSetFor l.count (λ j. (i ≡ j) ⊎ HasMove l.moves i [] j) (row_at l.rows.items i) }
+  row : (i : ℕ) → i < l.state → IsSetFor l.count (λ j. (i ≡ j) ⊎ HasMove l.moves i [] j) (row_at l.rows.items i);
+}

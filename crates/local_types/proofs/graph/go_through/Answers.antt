@@ -25,15 +25,16 @@ loop-number-preserved c =
     let through : row_at first s ≡ c.in_ok-through.through.items = row_is first s c.index.result.now c.requires.state c.index.ensures ∙ sym c.as_slice.ensures.value ∙ sym c.in_ok-through.ensures.items in
     let R : ℕ → ℕ → Type 0 = λ i j. Has (row_at first i) j ⊎ (Has (row_at first i) s × Has (row_at first s) j) in
     elim c.if-has.branch [
-    then-has w ↦
-      let to = tested_in row.items s c.has.result (c.has.ensures ∙ ap (λ l. slice_index_or l s 0 == 1) c.as_slice-in-loop-number.ensures.value) w.if-has.true in
-      let bytes : (i : ℕ) → i < length row.items → slice_index_or w.put_all.new.marks.items i 0 ≡ (if slice_index_or (row_at first s) i 0 == 1 then 1 else slice_index_or row.items i 0) =
-        λ i h. w.put_all.ensures.bytes i h ∙ ap (λ l. if slice_index_or l i 0 == 1 then 1 else slice_index_or row.items i 0) (w.as_slice-then-has.ensures.value ∙ sym through) in
-      let there = through_in n row.items (row_at first s) w.put_all.new.marks.items s mine more to w.put_all.ensures.len bytes in
-      let there_too : IsSetFor n (R k) w.put_all.new.marks.items = subst (λ l. IsSetFor n (λ j. Has l j ⊎ (Has l s × Has (row_at first s) j)) w.put_all.new.marks.items) (sym own) there in
-      rows_put n R first old c.if-has.rows.items k w.put_all.new.marks size inv.done inv.left (ap (λ (v : Vec (Vec ℕ Global) Global). v.items) w.rows-is) within there_too
-  | else-has w ↦
-      let out = tested_out row.items s c.has.result (c.has.ensures ∙ ap (λ l. slice_index_or l s 0 == 1) c.as_slice-in-loop-number.ensures.value) w.if-has.false in
-      let there = through_out n row.items (row_at first s) s mine out in
-      let there_too : IsSetFor n (R k) row.items = subst (λ l. IsSetFor n (λ j. Has l j ⊎ (Has l s × Has (row_at first s) j)) row.items) (sym own) there in
-      rows_put n R first old c.if-has.rows.items k row size inv.done inv.left (ap (λ (v : Vec (Vec ℕ Global) Global). v.items) w.rows-is) within there_too ]
+      | then-has w ↦
+          let to = tested_in row.items s c.has.result (c.has.ensures ∙ ap (λ l. slice_index_or l s 0 == 1) c.as_slice-in-loop-number.ensures.value) w.if-has.true in
+          let bytes : (i : ℕ) → i < length row.items → slice_index_or w.put_all.new.marks.items i 0 ≡ (if slice_index_or (row_at first s) i 0 == 1 then 1 else slice_index_or row.items i 0) =
+          λ i h. w.put_all.ensures.bytes i h ∙ ap (λ l. if slice_index_or l i 0 == 1 then 1 else slice_index_or row.items i 0) (w.as_slice-then-has.ensures.value ∙ sym through) in
+          let there = through_in n row.items (row_at first s) w.put_all.new.marks.items s mine more to w.put_all.ensures.len bytes in
+          let there_too : IsSetFor n (R k) w.put_all.new.marks.items = subst (λ l. IsSetFor n (λ j. Has l j ⊎ (Has l s × Has (row_at first s) j)) w.put_all.new.marks.items) (sym own) there in
+          rows_put n R first old c.if-has.rows.items k w.put_all.new.marks size inv.done inv.left (ap (λ (v : Vec (Vec ℕ Global) Global). v.items) w.rows-is) within there_too
+      | else-has w ↦
+          let out = tested_out row.items s c.has.result (c.has.ensures ∙ ap (λ l. slice_index_or l s 0 == 1) c.as_slice-in-loop-number.ensures.value) w.if-has.false in
+          let there = through_out n row.items (row_at first s) s mine out in
+          let there_too : IsSetFor n (R k) row.items = subst (λ l. IsSetFor n (λ j. Has l j ⊎ (Has l s × Has (row_at first s) j)) row.items) (sym own) there in
+          rows_put n R first old c.if-has.rows.items k row size inv.done inv.left (ap (λ (v : Vec (Vec ℕ Global) Global). v.items) w.rows-is) within there_too
+    ]

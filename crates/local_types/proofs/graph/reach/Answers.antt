@@ -10,7 +10,7 @@ loop-state-init c = walk_begins c.args.moves.now c.args.count c.in_ok-rows.rows.
 pub loop-state-preserved : goal.loop-state-preserved
 loop-state-preserved c =
     walk_more c.args.moves.now c.args.count c.loop-state.state c.loop-state.rows.items c.go_through.new.rows.items c.loop-state.invariant c.loop-state-test.true
-      (subst (λ n. IsThrough n c.loop-state.state c.loop-state.rows.items c.go_through.new.rows.items) c.loop-state.invariant.size c.in_ok-go_through.ensures)
+    (subst (λ n. IsThrough n c.loop-state.state c.loop-state.rows.items c.go_through.new.rows.items) c.loop-state.invariant.size c.in_ok-go_through.ensures)
 
 pub returns : goal.returns
 returns c =

@@ -31,10 +31,10 @@ loop-alloc-preserved c =
     let value = c.as_slice-in-loop-alloc.ensures.value in
     let few : length new ≤ 1024 = MatchOption-at_some (length new ≡ 1025) (λ v. length new ≤ 1024) c.in-Some.arms c.in-Some.is c.in_ok-arms.ensures.count in
     rows_in c.args.groups.now c.args.reach.now sets new c.loop-alloc.rows.items c.push.new.self.items c.at.result.now _ c.loop-alloc.invariant at c.in_ok-still.ensures c.in_ok-arms.ensures.distinct few c.in_ok-arms.ensures.longer
-      (subst (λ (l : List ℕ). (k : ℕ) (v : List ℕ) → slice_get new k ≡ Some v → (slice_get sets k ≡ Some v) ⊎ (length v ≡ length l)) value c.in_ok-arms.ensures.sizes)
-      (subst (λ (l : List ℕ). (ss : List State) (r : NameId) → AreActs ss r c.args.groups.now → HasGrown ss r (length l) l sets new) value c.in_ok-arms.ensures.grown)
-      (λ ss r acts. subst (λ (l : List ℕ). AreArms ss r (length l) new l c.in-Some.arms.items) value (MatchOption-at_some (Unit {0}) (λ v. AreArms ss r (length c.as_slice-in-loop-alloc.result.now) new c.as_slice-in-loop-alloc.result.now v.items) c.in-Some.arms c.in-Some.is (c.in_ok-arms.ensures.arms ss r acts)))
-      c.in_ok-push-in-Some.ensures.items
+    (subst (λ (l : List ℕ). (k : ℕ) (v : List ℕ) → slice_get new k ≡ Some v → (slice_get sets k ≡ Some v) ⊎ (length v ≡ length l)) value c.in_ok-arms.ensures.sizes)
+    (subst (λ (l : List ℕ). (ss : List State) (r : NameId) → AreActs ss r c.args.groups.now → HasGrown ss r (length l) l sets new) value c.in_ok-arms.ensures.grown)
+    (λ ss r acts. subst (λ (l : List ℕ). AreArms ss r (length l) new l c.in-Some.arms.items) value (MatchOption-at_some (Unit {0}) (λ v. AreArms ss r (length c.as_slice-in-loop-alloc.result.now) new c.as_slice-in-loop-alloc.result.now v.items) c.in-Some.arms c.in-Some.is (c.in_ok-arms.ensures.arms ss r acts)))
+    c.in_ok-push-in-Some.ensures.items
 
 pub returns-in-None : goal.returns-in-None
 returns-in-None c =
@@ -42,7 +42,7 @@ returns-in-None c =
     let new = c.arms.new.sets in
     let many : length new ≡ 1025 = MatchOption-at_none (length new ≡ 1025) (λ v. length new ≤ 1024) c.in-None.is c.in_ok-arms.ensures.count in
     rows_over c.args.groups.now c.args.reach.now c.loop-alloc.sets new c.loop-alloc.rows.items c.at.result.now c.in_ok-still.still.items c.loop-alloc.invariant at c.in_ok-still.ensures c.in_ok-arms.ensures.distinct many
-      (subst (λ (l : List ℕ). (ss : List State) (r : NameId) → AreActs ss r c.args.groups.now → HasGrown ss r (length l) l c.loop-alloc.sets new) c.as_slice-in-loop-alloc.ensures.value c.in_ok-arms.ensures.grown)
+    (subst (λ (l : List ℕ). (ss : List State) (r : NameId) → AreActs ss r c.args.groups.now → HasGrown ss r (length l) l c.loop-alloc.sets new) c.as_slice-in-loop-alloc.ensures.value c.in_ok-arms.ensures.grown)
 
 pub returns : goal.returns
 returns c = rows_end c.args.groups.now c.args.reach.now c.loop-alloc.sets c.loop-alloc.rows.items c.loop-alloc.invariant

@@ -1,14 +1,18 @@
 use Rattle.std.proofs.Common.{ap, ◌∙◌, ◌≡◌, sym, subst}
-use Rattle.std.specs.Prelude.{slice_get, Some}
-use Rattle.chor_tree.specs.declared.protocol.Protocol.{Protocol}
 use Rattle.global_types.specs.Moves.{IsIn}
-use Rattle.std.proofs.lemmas.Option.{slice_get-get_or}
-use Rattle.local_types.proofs.Lists.{in_of_at}
+use Rattle.local_types.proofs.Lists.{item_among}
+use Rattle.local_types.proofs.Firsts.{first_refusal, protocols_more, protocols_whole}
 use Rattle.local_types.proofs.view.check_views.Goals as goal
 
 pub check_roles-requires : goal.check_roles-requires
 check_roles-requires c =
-    let p = c.protocol-item.result in
-    let items = c.as_slice-protocol-items.result.now in
-    let among : IsIn p items = in_of_at p items c.loop-protocol.protocol-index (slice_get-get_or items c.loop-protocol.protocol-index p c.loop-protocol-test.true ∙ ap (λ (v : Protocol). Some v) (sym c.protocol-item.is)) in
-    c.requires p (subst (λ l. IsIn p l) c.as_slice-protocol-items.ensures among)
+    c.requires c.protocol-item.result (subst (λ l. IsIn c.protocol-item.result l) c.as_slice-protocol-items.ensures (item_among c.as_slice-protocol-items.result.now c.loop-protocol.protocol-index c.protocol-item.result c.loop-protocol-test.true c.protocol-item.is))
+
+pub returns-in-Err-clause-refused : goal.returns-in-Err-clause-refused
+returns-in-Err-clause-refused c = first_refusal c.args.file.now.protocols c.as_slice-protocol-items.result.now c.loop-protocol.protocol-index c.protocol-item.result c.in-Err.denied c.as_slice-protocol-items.ensures c.loop-protocol-test.true c.protocol-item.is c.loop-protocol.invariant c.in-Err.ensures.refused
+
+pub loop-protocol-preserved : goal.loop-protocol-preserved
+loop-protocol-preserved c = protocols_more c.args.file.now.protocols c.as_slice-protocol-items.result.now c.loop-protocol.protocol-index c.protocol-item.result c.as_slice-protocol-items.ensures c.loop-protocol-test.true c.protocol-item.is c.loop-protocol.invariant c.in-Ok.ensures.fine
+
+pub returns-clause-fine : goal.returns-clause-fine
+returns-clause-fine c = protocols_whole c.args.file.now.protocols c.as_slice-protocol-items.result.now c.loop-protocol.protocol-index c.as_slice-protocol-items.ensures c.loop-protocol-test.false c.loop-protocol.invariant

@@ -1,0 +1,68 @@
+use Rattle.std.proofs.Common.{ℕ, List, ◌≡◌, sym, ap, ◌∙◌, refl, subst, length}
+use Rattle.std.specs.Prelude.{Vec, Some}
+use Rattle.std.specs.declared.alloc.Global.{Global}
+use Rattle.chor_base.specs.declared.names.NameId.{NameId}
+use Rattle.chor_base.specs.declared.rule.Rule.{Rule}
+use Rattle.chor_base.specs.declared.rule.Rule.TheVariants.{V1, V2}
+use Rattle.chor_base.specs.declared.rule.Denied.{Denied}
+use Rattle.chor_base.specs.declared.rule.Denied.TheVariants.{Refused, Memory}
+use Rattle.chor_tree.specs.declared.protocol.Protocol.{Protocol}
+use Rattle.chor_tree.specs.declared.protocol.State.{State}
+use Rattle.global_types.specs.Views.{NamesAt, IsViewFault}
+use Rattle.local_types.specs.declared.table.Row.{Row}
+use Rattle.local_types.specs.Reading.{IsRefusal, IsRefusalBy}
+use Rattle.local_types.specs.Sets.{IsSetFor}
+use Rattle.local_types.specs.Graph.{AreRowsFor}
+use Rattle.local_types.specs.Table.{IsWhole, Circles, ApartAt}
+use Rattle.local_types.proofs.Verdicts.{few_sets, left_behind, not_left, torn, not_torn}
+use Rattle.local_types.proofs.view.judged.Goals as goal
+
+refusal_by : (rule : Rule) (p : Protocol) (r : NameId) (d : Denied) → IsRefusalBy rule p r d → IsViewFault p.states r rule → IsRefusal p r d
+refusal_by rule p r (Refused f) h fault = (subst (λ v. IsViewFault p.states r v) (sym h.0) fault, h.1, h.2)
+refusal_by rule p r Memory h fault = absurd h
+
+named_handed : (ss seen : List State) (r : NameId) (marks handed : List ℕ) → seen ≡ ss → handed ≡ marks → IsSetFor (length seen) (NamesAt seen r) marks → IsSetFor (length ss) (NamesAt ss r) handed
+named_handed ss seen r marks handed e f was = subst (λ l. IsSetFor (length l) (NamesAt l r) handed) e (subst (λ m. IsSetFor (length seen) (NamesAt seen r) m) (sym f) was)
+
+apart_handed : (ss seen : List State) (r : NameId) (rows handed : List (Vec ℕ Global)) → seen ≡ ss → handed ≡ rows → AreRowsFor (length seen) (ApartAt seen r) rows → AreRowsFor (length ss) (ApartAt ss r) handed
+apart_handed ss seen r rows handed e f was = subst (λ l. AreRowsFor (length l) (ApartAt l r) handed) e (subst (λ m. AreRowsFor (length seen) (ApartAt seen r) m) (sym f) was)
+
+pub returns-then-leaves_behind-clause-refused : goal.returns-then-leaves_behind-clause-refused
+returns-then-leaves_behind-clause-refused c =
+    let ss = c.args.protocol.now.states in
+    let r = c.args.role in
+    let n = length ss in
+    let rows = c.as_slice-rows.result.now in
+    let whole = subst (λ l. IsWhole ss r n l) (sym c.as_slice-rows.ensures.value) c.requires.whole in
+    let circling = subst (λ m. IsSetFor n (Circles ss r) m) (sym c.as_slice.ensures.value) c.requires.circling in
+    let names = named_handed ss c.as_slice-states.result.now r c.in_ok-named.named.items c.as_slice-2.result.now c.as_slice-states.ensures c.as_slice-2.ensures.value c.in_ok-named.ensures in
+    refusal_by V2 c.args.protocol.now r c.refused.result c.refused.ensures (few_sets ss r n rows whole, left_behind ss r n rows c.as_slice.result.now c.as_slice-2.result.now whole circling names c.if-leaves_behind.ensures)
+
+pub returns-then-clashes-clause-refused : goal.returns-then-clashes-clause-refused
+returns-then-clashes-clause-refused c =
+    let ss = c.args.protocol.now.states in
+    let r = c.args.role in
+    let n = length ss in
+    let rows = c.as_slice-rows.result.now in
+    let whole = subst (λ l. IsWhole ss r n l) (sym c.as_slice-rows.ensures.value) c.requires.whole in
+    let circling = subst (λ m. IsSetFor n (Circles ss r) m) (sym c.as_slice.ensures.value) c.requires.circling in
+    let names = named_handed ss c.as_slice-states.result.now r c.in_ok-named.named.items c.as_slice-2.result.now c.as_slice-states.ensures c.as_slice-2.ensures.value c.in_ok-named.ensures in
+    let apart = apart_handed ss c.as_slice-states.result.now r c.in_ok-apart.apart.items c.as_slice-3.result.now c.as_slice-states.ensures c.as_slice-3.ensures.value c.in_ok-apart.ensures in
+    refusal_by V1 c.args.protocol.now r c.refused-then-clashes.result c.refused-then-clashes.ensures
+    (few_sets ss r n rows whole, not_left ss r n rows c.as_slice.result.now c.as_slice-2.result.now whole circling names c.if-leaves_behind.ensures, torn ss r n rows c.as_slice-3.result.now whole apart c.if-clashes.ensures)
+
+pub returns-clause-fine : goal.returns-clause-fine
+returns-clause-fine c =
+    let ss = c.args.protocol.now.states in
+    let r = c.args.role in
+    let n = length ss in
+    let rows = c.as_slice-rows.result.now in
+    let whole = subst (λ l. IsWhole ss r n l) (sym c.as_slice-rows.ensures.value) c.requires.whole in
+    let circling = subst (λ m. IsSetFor n (Circles ss r) m) (sym c.as_slice.ensures.value) c.requires.circling in
+    let names = named_handed ss c.as_slice-states.result.now r c.in_ok-named.named.items c.as_slice-2.result.now c.as_slice-states.ensures c.as_slice-2.ensures.value c.in_ok-named.ensures in
+    let apart = apart_handed ss c.as_slice-states.result.now r c.in_ok-apart.apart.items c.as_slice-3.result.now c.as_slice-states.ensures c.as_slice-3.ensures.value c.in_ok-apart.ensures in
+    record {
+      few = few_sets ss r n rows whole;
+      kept = not_left ss r n rows c.as_slice.result.now c.as_slice-2.result.now whole circling names c.if-leaves_behind.ensures;
+      clear = not_torn ss r n rows c.as_slice-3.result.now whole apart refl c.if-clashes.ensures;
+    }
