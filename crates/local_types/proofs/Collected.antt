@@ -1,5 +1,5 @@
 -- The moves of a protocol as they are collected are its exchanges.
-use Rattle.std.proofs.Common.{ℕ, ◌≡◌, ◌+◌, ◌<◌, ◌≤◌, List, [], ◌∷◌, ◌++◌, Bool, true, false, refl, ap, sym, subst, ◌∙◌, arith, inl, inr, length, zero, suc}
+use Rattle.std.proofs.Common.{ℕ, ◌≡◌, ◌+◌, ◌<◌, List, [], ◌∷◌, ◌++◌, Bool, true, false, refl, ap, sym, subst, ◌∙◌, arith, inl, inr, length, zero, suc}
 use Rattle.std.specs.Prelude.{◌⊎◌, ◌==◌, Option, Some, None, slice_get, if◌then◌else◌, map, Vec}
 use Rattle.std.proofs.lemmas.Option.{slice_get_within}
 use Rattle.chor_base.specs.declared.names.NameId.{NameId}

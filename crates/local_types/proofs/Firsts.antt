@@ -1,10 +1,9 @@
 -- Roles and protocols, one after the other.
 use Rattle.std.proofs.Common.{ℕ, ◌≡◌, ◌+◌, ◌<◌, ◌≤◌, List, [], ◌∷◌, Bool, true, false, refl, ap, sym, subst, ◌∙◌, arith, inl, inr, length, take}
-use Rattle.std.specs.Prelude.{◌⊎◌, ◌==◌, Option, Some, None, IsSome, slice_get, slice_index_or, if◌then◌else◌, nat_eq}
+use Rattle.std.specs.Prelude.{◌⊎◌, ◌==◌, Some, IsSome, slice_get, slice_index_or, if◌then◌else◌}
 use Rattle.std.proofs.lemmas.List.{take_all}
 use Rattle.std.proofs.lemmas.Option.{slice_get-get_or}
 use Rattle.std.proofs.lemmas.Bool.Decides.{nat_tests}
-use Rattle.chor_base.specs.declared.names.NameId.{NameId}
 use Rattle.chor_base.specs.declared.rule.Denied.{Denied}
 use Rattle.chor_base.specs.declared.rule.Denied.TheVariants.{Refused, Memory}
 use Rattle.chor_tree.specs.declared.file.Named.{Named}
@@ -12,7 +11,7 @@ use Rattle.chor_tree.specs.declared.protocol.Protocol.{Protocol}
 use Rattle.global_types.specs.Moves.{IsIn}
 use Rattle.global_types.specs.Views.{HasNoViewFault}
 use Rattle.local_types.specs.Reading.{role_place, IsRefusal, HasFineRoles, IsFirstRole, IsFirstRefusal}
-use Rattle.local_types.proofs.Lists.{in_more, in_of_at}
+use Rattle.local_types.proofs.Lists.{in_more}
 
 pub place_there : (roles : List Named) (n : Named) → IsIn n roles → IsSome (role_place roles n.name)
 place_there [] n h = absurd h

@@ -1,6 +1,6 @@
 -- The acts of a role and their edges, found move by move.
-use Rattle.std.proofs.Common.{ℕ, ◌≡◌, ◌+◌, ◌<◌, ◌≤◌, List, [], ◌∷◌, ◌++◌, Bool, true, false, refl, ap, sym, subst, ◌∙◌, arith, inl, inr, length, take}
-use Rattle.std.specs.Prelude.{◌⊎◌, Option, Some, None, slice_index_or, slice_set, IsTrue, MatchBool}
+use Rattle.std.proofs.Common.{ℕ, ◌≡◌, ◌+◌, ◌<◌, ◌≤◌, List, [], ◌∷◌, ◌++◌, Bool, true, false, refl, ap, sym, subst, ◌∙◌, inl, inr, length, take}
+use Rattle.std.specs.Prelude.{◌⊎◌, Some, slice_index_or, slice_set, MatchBool}
 use Rattle.std.specs.List.Sorted.{IsPermutation}
 use Rattle.std.proofs.lemmas.List.{take_all}
 use Rattle.global_types.specs.Moves.{IsIn}

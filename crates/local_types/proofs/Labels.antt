@@ -1,5 +1,5 @@
 -- Labels of choices.
-use Rattle.std.proofs.Common.{ℕ, ◌≡◌, ◌+◌, ◌<◌, ◌≤◌, List, [], ◌∷◌, Bool, true, false, refl, ap, sym, subst, ◌∙◌, arith, inl, inr, length, take}
+use Rattle.std.proofs.Common.{ℕ, ◌≡◌, ◌+◌, ◌<◌, ◌≤◌, List, Bool, true, false, refl, ap, sym, subst, ◌∙◌, arith, inl, inr, length, take}
 use Rattle.std.specs.Prelude.{◌⊎◌, slice_index_or, nat_eq, not}
 use Rattle.std.proofs.lemmas.List.{take_all}
 use Rattle.std.proofs.lemmas.Bool.Decides.{nat_tests}

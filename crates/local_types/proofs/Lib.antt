@@ -8,3 +8,6 @@ pub mod Collected
 pub mod Verdicts
 pub mod Labels
 pub mod Firsts
+pub mod States
+pub mod Kin
+pub mod Readings

@@ -1,6 +1,6 @@
 -- What stands in a list, and in its front.
-use Rattle.std.proofs.Common.{ℕ, ◌≡◌, ◌+◌, ◌<◌, ◌≤◌, List, [], ◌∷◌, ◌++◌, refl, ap, sym, subst, ◌∙◌, arith, inl, inr, zero, suc, length, take, get_or}
-use Rattle.std.specs.Prelude.{◌⊎◌, Option, Some, None, slice_get, slice_index_or, map}
+use Rattle.std.proofs.Common.{ℕ, ◌≡◌, ◌+◌, ◌<◌, ◌≤◌, List, [], ◌∷◌, ◌++◌, refl, ap, sym, subst, ◌∙◌, inl, inr, zero, suc, length, take, get_or}
+use Rattle.std.specs.Prelude.{◌⊎◌, Some, slice_get, slice_index_or, map, false, ◌==◌}
 use Rattle.std.specs.List.{Contains}
 use Rattle.std.specs.List.Sorted.{IsPermutation}
 use Rattle.std.proofs.lemmas.List.{take_more, take_all}
@@ -91,3 +91,8 @@ none_more P xs i x h is none not a among p = go (in_more a xs i x h among) where
 
 pub none_whole : {A : Type 0} (P : A → Type 0) (xs : List A) (i : ℕ) → length xs ≤ i → ((a : A) → IsIn a (take i xs) → P a → ⊥) → (a : A) → IsIn a xs → P a → ⊥
 none_whole {A} P xs i h none a among = none a (let Q : List A → Type 0 = λ l. IsIn a l in subst Q (sym (take_all i xs h)) among)
+
+-- a list that isn't empty has a first item
+pub first_among : {A : Type 0} (xs : List A) (d : A) → false ≡ (length xs == 0) → IsIn (slice_index_or xs 0 d) xs
+first_among [] d e = absurd (cc)
+first_among (x ∷ xs) d e = inl refl

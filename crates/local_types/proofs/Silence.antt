@@ -1,13 +1,12 @@
 -- Where silent exchanges lead, found state by state.
-use Rattle.std.proofs.Common.{ℕ, ◌≡◌, ◌+◌, ◌<◌, ◌≤◌, List, [], ◌∷◌, ◌++◌, refl, ap, sym, subst, ◌∙◌, arith, inl, inr, zero, suc, length, take}
+use Rattle.std.proofs.Common.{ℕ, ◌≡◌, ◌+◌, ◌<◌, ◌≤◌, List, [], ◌∷◌, ◌++◌, refl, sym, subst, ◌∙◌, arith, inl, inr, length}
 use Rattle.std.specs.declared.alloc.Global.{Global}
-use Rattle.std.specs.Prelude.{◌⊎◌, Vec, slice_index_or}
+use Rattle.std.specs.Prelude.{◌⊎◌, Vec}
 use Rattle.std.proofs.lemmas.Bool.{cases_lt}
-use Rattle.global_types.specs.Moves.{IsIn}
 use Rattle.local_types.specs.declared.moves.Move.{Move}
 use Rattle.local_types.specs.Sets.{Has, row_at, IsSetFor}
 use Rattle.local_types.specs.Graph.{HasMove, IsSilentPath, GoesSilently, AreWithin, AreRowsFor, IsThrough}
-use Rattle.local_types.proofs.Sets.{has_within, set_same, row_within}
+use Rattle.local_types.proofs.Sets.{set_same, row_within}
 
 pub go_here : (ms : List Move) (i : ℕ) → GoesSilently ms i i
 go_here ms i = ([], refl)

@@ -1,27 +1,26 @@
 -- The table of a role's view, set by set.
 use Rattle.std.proofs.Common.{ℕ, ◌≡◌, ◌+◌, ◌<◌, ◌≤◌, List, [], ◌∷◌, ◌++◌, Bool, true, false, refl, ap, sym, subst, ◌∙◌, arith, inl, inr, length, take, zero, suc, length-append, length-set}
 use Rattle.std.specs.declared.alloc.Global.{Global}
-use Rattle.std.specs.Prelude.{◌⊎◌, Option, Some, None, Vec, slice_get, slice_index_or, slice_set, bytes_eq, if◌then◌else◌, MatchBool}
+use Rattle.std.specs.Prelude.{◌⊎◌, Some, Vec, slice_get, slice_index_or, slice_set, bytes_eq, if◌then◌else◌, MatchBool}
 use Rattle.std.specs.List.{list_any}
 use Rattle.std.proofs.lemmas.List.{take_all}
 use Rattle.std.proofs.lemmas.Option.{slice_get-get_or, slice_get_within}
 use Rattle.chor_base.specs.declared.names.NameId.{NameId}
 use Rattle.chor_base.specs.Words.{AllDistinct, with_word}
 use Rattle.chor_tree.specs.declared.protocol.State.{State}
-use Rattle.global_types.specs.Moves.{IsIn, Exchange, Leads}
-use Rattle.global_types.specs.Paths.{Action, action_in, Still, At}
-use Rattle.local_types.specs.declared.act.Act.{Act}
+use Rattle.global_types.specs.Moves.{IsIn, Leads}
+use Rattle.global_types.specs.Paths.{Action, Still, At}
 use Rattle.local_types.specs.declared.graph.Edge.{Edge}
 use Rattle.local_types.specs.declared.graph.Group.{Group}
 use Rattle.local_types.specs.declared.table.Arm.{Arm}
 use Rattle.local_types.specs.declared.table.Row.{Row}
 use Rattle.local_types.specs.Moves.{action_of}
 use Rattle.local_types.specs.Sets.{Has, row_at, IsSetFor}
-use Rattle.local_types.specs.Graph.{AreRowsFor, AreInside}
+use Rattle.local_types.specs.Graph.{AreRowsFor}
 use Rattle.local_types.specs.Table.{Silent, AreActs, Target, IsNext, Keeps, HasGrown, IsArm, AreArms, IsRow, IsFound, IsTable, AreTooMany, IsWhole}
 use Rattle.local_types.proofs.Lists.{in_more, in_kept, in_new, in_push, in_left, in_last, in_of_at}
-use Rattle.local_types.proofs.Sets.{set_put, set_same, set_none, has_within, row_within}
-use Rattle.local_types.proofs.Walks.{at_is_still, still_silent, still_is_tail, Tail, at_after, at_before, Before, nil_not_push}
+use Rattle.local_types.proofs.Sets.{set_put, set_same, has_within}
+use Rattle.local_types.proofs.Walks.{at_is_still, still_silent, still_is_tail, at_after, at_before, nil_not_push}
 
 -- ---- edges from a set
 

@@ -1,12 +1,12 @@
 -- Paths of a protocol as one role sees them: silent parts, and the states right after an action.
-use Rattle.std.proofs.Common.{ℕ, ◌≡◌, ◌+◌, List, [], ◌∷◌, ◌++◌, Bool, true, false, refl, ap, sym, subst, ◌∙◌, append_assoc, inl, inr, zero, suc}
-use Rattle.std.specs.Prelude.{◌⊎◌, ◌==◌, if◌then◌else◌}
+use Rattle.std.proofs.Common.{ℕ, ◌≡◌, List, [], ◌∷◌, ◌++◌, Bool, true, false, refl, ap, sym, subst, ◌∙◌, append_assoc, inl, inr}
+use Rattle.std.specs.Prelude.{◌==◌}
 use Rattle.std.proofs.lemmas.List.{same_from_push, append-nil}
 use Rattle.chor_base.specs.declared.names.NameId.{NameId}
 use Rattle.chor_tree.specs.declared.protocol.State.{State}
-use Rattle.global_types.specs.Moves.{Exchange, passes, chooses, Leads, Content}
+use Rattle.global_types.specs.Moves.{Exchange, passes, chooses, Leads}
 use Rattle.local_types.specs.Table.{Silent}
-use Rattle.global_types.specs.Paths.{IsPath, Action, sends, receives, selects, offers, action_in, actions_of, IsView, Still, After, At}
+use Rattle.global_types.specs.Paths.{IsPath, Action, sends, receives, selects, offers, action_in, actions_of, IsView, Still, At}
 
 -- ---- lists
 

@@ -1,5 +1,5 @@
 -- What a role's view is made from: where silent exchanges lead, and where the role's own acts lead.
-use Rattle.std.specs.Prelude.{ℕ, ◌≡◌, ◌<◌, ◌⊎◌, List, [], ◌∷◌, Some, None, length, Vec, slice_index_or}
+use Rattle.std.specs.Prelude.{ℕ, ◌≡◌, ◌<◌, ◌⊎◌, List, [], ◌∷◌, Some, length, Vec}
 use Rattle.std.specs.declared.alloc.Global.{Global}
 use Rattle.global_types.specs.Moves.{IsIn}
 use Rattle.global_types.specs.Paths.{Action}

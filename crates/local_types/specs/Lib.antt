@@ -4,3 +4,4 @@ pub mod Sets
 pub mod Moves
 pub mod Graph
 pub mod Table
+pub mod States

@@ -1,11 +1,11 @@
 -- The sets of states that a role can't tell apart, with what follows each.
-use Rattle.std.specs.Prelude.{ℕ, ◌≡◌, ◌<◌, ◌≤◌, ◌⊎◌, List, [], ◌∷◌, Some, length, Vec, slice_get}
+use Rattle.std.specs.Prelude.{ℕ, ◌≡◌, ◌≤◌, ◌⊎◌, List, [], ◌∷◌, Some, length, Vec, slice_get}
 use Rattle.std.specs.declared.alloc.Global.{Global}
 use Rattle.chor_base.specs.declared.names.NameId.{NameId}
 use Rattle.chor_base.specs.Words.{AllDistinct}
 use Rattle.chor_tree.specs.declared.protocol.State.{State}
 use Rattle.global_types.specs.Moves.{IsIn, Exchange, Leads}
-use Rattle.global_types.specs.Paths.{IsPath, Action, action_in, actions_of, Still, At}
+use Rattle.global_types.specs.Paths.{IsPath, Action, action_in, actions_of, At}
 use Rattle.global_types.specs.Views.{IsApart}
 use Rattle.local_types.specs.declared.graph.Edge.{Edge}
 use Rattle.local_types.specs.declared.graph.Group.{Group}
@@ -13,7 +13,6 @@ use Rattle.local_types.specs.declared.table.Arm.{Arm}
 use Rattle.local_types.specs.declared.table.Row.{Row}
 use Rattle.local_types.specs.Moves.{action_of}
 use Rattle.local_types.specs.Sets.{Has, row_at, IsSetFor}
-use Rattle.local_types.specs.Graph.{AreRowsFor}
 
 -- a path from i to j on which the role has no action
 pub record Silent (ss : List State) (r : NameId) (i j : ℕ) : Type 0 where

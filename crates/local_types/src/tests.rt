@@ -1,5 +1,7 @@
 //! Types of small protocols, and views with faults.
 
+ghost use Rattle.local_types.specs.Reading.{IsProper};
+
 use crate::{check_views, local, print_local};
 use chor_base::{Denied, List, Memory, Names, Place, Rule, Sort, Texts};
 use chor_tree::{File, Named, NodeId, Payload, ProtoArm, ProtoStep, Protocol, State, Tree};
@@ -81,7 +83,9 @@ fn end(names: &mut Names, word: &[u8]) -> Result<State, Memory> {
 }
 
 // The types of all roles of a protocol, as they are printed.
-fn types(alloc: Global, protocol: &Protocol, names: &Names) -> Result<Vec<u8>, Denied> {
+fn types(alloc: Global, protocol: &Protocol, names: &Names) -> Result<Vec<u8>, Denied>
+    requires { IsProper protocol.now }
+{
     let mut out = Vec::new(alloc);
     for role in protocol.roles.as_slice() {
         let role_type = local(alloc, protocol, role.name, names)?;
@@ -98,7 +102,9 @@ fn assert_refused(
     protocol: Protocol,
     rule: Rule,
     col: u32,
-) -> Result<(), Memory> {
+) -> Result<(), Memory>
+    requires { IsProper protocol }
+{
     let mut protocols = List::new(alloc);
     protocols.push(protocol)?;
     let file = File {
@@ -132,6 +138,7 @@ fn branches_told_by_labels(rt: HostRuntime) -> Result<(), Fail> {
     states.push(end(&mut names, b"t")?)?;
     let roles: [(&[u8], u32); 2] = [(b"R", 13), (b"P", 16)];
     let protocol = protocol(alloc, &mut names, roles.as_slice(), states)?;
+    assert!(rt; !protocol.states.is_empty() && protocol.states.len() < 10);
     let text = types(alloc, &protocol, &names)?;
     let expected =
         b"local V@R\n0: pick P ko 1 ok 1\n1: end\nlocal V@P\n0: branch R ko 1 ok 1\n1: end\n";
@@ -152,6 +159,7 @@ fn a_view_that_clashes(rt: HostRuntime) -> Result<(), Fail> {
     states.push(end(&mut names, b"e")?)?;
     let roles: [(&[u8], u32); 3] = [(b"A", 13), (b"B", 16), (b"C", 19)];
     let protocol = protocol(alloc, &mut names, roles.as_slice(), states)?;
+    assert!(rt; !protocol.states.is_empty() && protocol.states.len() < 10);
     assert_refused(&rt, alloc, names, protocol, Rule::V1, 19)?;
     Ok(())
 }
@@ -168,6 +176,7 @@ fn a_role_that_is_left_behind(rt: HostRuntime) -> Result<(), Fail> {
     states.push(end(&mut names, b"e")?)?;
     let roles: [(&[u8], u32); 3] = [(b"A", 13), (b"B", 16), (b"C", 19)];
     let protocol = protocol(alloc, &mut names, roles.as_slice(), states)?;
+    assert!(rt; !protocol.states.is_empty() && protocol.states.len() < 10);
     assert_refused(&rt, alloc, names, protocol, Rule::V2, 19)?;
     Ok(())
 }
@@ -184,6 +193,7 @@ fn a_role_that_has_done_its_part(rt: HostRuntime) -> Result<(), Fail> {
     states.push(end(&mut names, b"e")?)?;
     let roles: [(&[u8], u32); 2] = [(b"C", 13), (b"A", 16)];
     let protocol = protocol(alloc, &mut names, roles.as_slice(), states)?;
+    assert!(rt; !protocol.states.is_empty() && protocol.states.len() < 10);
     let text = types(alloc, &protocol, &names)?;
     let expected =
         b"local V@C\n0: recv A int 1\n1: end\nlocal V@A\n0: send C int 1\n1: pick B done 2 more 1\n2: end\n";

@@ -3,11 +3,12 @@
 ghost use Rattle.std.specs.Prelude.{◌≡◌, IfOk, IfErr, OnOk, IsSome, Some, MatchBool, MatchOption, length};
 ghost use Rattle.global_types.specs.Views.{HasTooMany, HasNoViewFault};
 ghost use Rattle.local_types.specs.Sets.{IsSetFor};
+ghost use Rattle.local_types.specs.States.{AreKin, labelled, IsStateOf, AreStatesOf};
 ghost use Rattle.local_types.specs.declared.table.Row.{Row};
 ghost use Rattle.local_types.specs.Table.{IsLeft, IsTorn, IsWhole, Circles};
 ghost use Rattle.chor_tree.specs.declared.protocol.Protocol.{Protocol};
 ghost use Rattle.global_types.specs.Moves.{IsIn};
-ghost use Rattle.local_types.specs.Reading.{IsProper, role_place, IsRefusal, IsRefusalBy, HasFineRoles, IsFirstRole, IsFirstRefusal};
+ghost use Rattle.local_types.specs.Reading.{IsProper, IsTypeOf, role_place, IsRefusal, IsRefusalBy, HasFineRoles, IsFirstRole, IsFirstRefusal};
 
 use crate::act::Act;
 use crate::apart::{apart, has_clash, named};
@@ -34,6 +35,7 @@ pub fn local(
 ) -> Result<LocalType, Denied>
     requires proper { IsProper protocol.now }
     requires role { IsSome (role_place protocol.now.roles role) }
+    ensures stands { IfOk result (λ t. IsTypeOf protocol.now.states role t.states) }
     ensures fine { OnOk result (HasNoViewFault protocol.now.states role) }
     ensures refused { IfErr result (IsRefusal protocol.now role) }
 {
@@ -54,6 +56,7 @@ fn judged(
     requires role { IsSome (role_place protocol.now.roles role) }
     requires whole { IsWhole protocol.now.states role (length protocol.now.states) sight.now.rows.items }
     requires circling { IsSetFor (length protocol.now.states) (Circles protocol.now.states role) sight.now.circling.items }
+    ensures stands { IfOk result (λ t. IsTypeOf protocol.now.states role t.states) }
     ensures fine { OnOk result (HasNoViewFault protocol.now.states role) }
     ensures refused { IfErr result (IsRefusal protocol.now role) }
 {
@@ -156,7 +159,10 @@ fn clashes(rows: &[Row], apart: &[Vec<u8>]) -> bool
 }
 
 // The states of a type.
-fn states_of(alloc: Global, rows: &[Row]) -> Result<List<LocalState>, Memory> {
+fn states_of(alloc: Global, rows: &[Row]) -> Result<List<LocalState>, Memory>
+    requires { (row : Row) → IsIn row rows.now → AreKin row.arms.items }
+    ensures { IfOk result (λ ts. AreStatesOf rows.now ts) }
+{
     let mut states = List::new(alloc);
     for row in rows {
         states.push(state_of(alloc, row.arms.as_slice())?)?;
@@ -165,24 +171,31 @@ fn states_of(alloc: Global, rows: &[Row]) -> Result<List<LocalState>, Memory> {
 }
 
 // The state from which these acts go on, which are all of one kind and with one other role.
-fn state_of(alloc: Global, arms: &[Arm]) -> Result<LocalState, Memory> {
-    let Some(first) = arms.first() else {
+fn state_of(alloc: Global, arms: &[Arm]) -> Result<LocalState, Memory>
+    requires { AreKin arms.now }
+    ensures { IfOk result (λ t. IsStateOf arms.now t) }
+{
+    if arms.is_empty() {
         return Ok(LocalState::End);
-    };
-    Ok(match first.act {
-        Act::Send(role, payload) => LocalState::Send(role, payload, first.next),
-        Act::Recv(role, payload) => LocalState::Recv(role, payload, first.next),
-        Act::Pick(role, _) => LocalState::Pick(role, labels(alloc, arms)?),
-        Act::Branch(role, _) => LocalState::Branch(role, labels(alloc, arms)?),
-    })
+    }
+    let first = arms[0];
+    match first.act {
+        Act::Send(role, payload) => Ok(LocalState::Send(role, payload, first.next)),
+        Act::Recv(role, payload) => Ok(LocalState::Recv(role, payload, first.next)),
+        Act::Pick(role, _) => Ok(LocalState::Pick(role, labels(alloc, arms)?)),
+        Act::Branch(role, _) => Ok(LocalState::Branch(role, labels(alloc, arms)?)),
+    }
 }
 
 // The labels of these acts, each with the number of the state after it.
-fn labels(alloc: Global, arms: &[Arm]) -> Result<List<(NameId, u32)>, Memory> {
+fn labels(alloc: Global, arms: &[Arm]) -> Result<List<(NameId, u32)>, Memory>
+    ensures { IfOk result (λ ls. ls ≡ labelled arms.now) }
+{
     let mut labels = List::new(alloc);
     for arm in arms {
-        if let Act::Pick(_, label) | Act::Branch(_, label) = arm.act {
-            labels.push((label, arm.next))?;
+        match arm.act {
+            Act::Pick(_, label) | Act::Branch(_, label) => labels.push((label, arm.next))?,
+            _ => {}
         }
     }
     Ok(labels)

@@ -1,4 +1,4 @@
-use Rattle.std.proofs.Common.{◌≡◌, sym, subst, refl}
+use Rattle.std.proofs.Common.{sym, subst}
 use Rattle.global_types.specs.Views.{SameLabels}
 use Rattle.local_types.proofs.apart.is_alike.Goals as goal
 

@@ -1,4 +1,3 @@
-use Rattle.std.proofs.Common.{refl}
 use Rattle.local_types.proofs.Labels.{not_both}
 use Rattle.local_types.proofs.apart.same_labels.Goals as goal
 

@@ -1,7 +1,4 @@
-use Rattle.std.proofs.Common.{ℕ, ◌≡◌, take, Some}
-use Rattle.global_types.specs.Moves.{IsIn}
-use Rattle.local_types.specs.declared.act.Act.{Act}
-use Rattle.local_types.specs.declared.moves.Move.{Move}
+use Rattle.std.proofs.Common.{take}
 use Rattle.local_types.specs.Graph.{Covers}
 use Rattle.local_types.proofs.graph.acts.Given as goal
 

@@ -1,10 +1,8 @@
-use Rattle.std.proofs.Common.{sym, ap, ◌∙◌, ◌≡◌, refl, subst, [], ◌∷◌, inl, inr}
+use Rattle.std.proofs.Common.{sym, ap, ◌∙◌, ◌≡◌, [], ◌∷◌}
 use Rattle.std.specs.Prelude.{Some}
 use Rattle.local_types.specs.declared.act.Act.{Act}
-use Rattle.global_types.specs.Moves.{IsIn}
-use Rattle.local_types.specs.Moves.{action_of, actions_in}
-use Rattle.local_types.proofs.Lists.{in_of_at, in_left, in_last}
-use Rattle.local_types.proofs.Groups.{covers_more, covers_whole, covers_permuted, added_known, edges_in, edges_out, edges_whole, direct_in, direct_out, direct_begins, direct_whole, groups_more, groups_whole}
+use Rattle.local_types.specs.Moves.{action_of}
+use Rattle.local_types.proofs.Lists.{in_left, in_last}
 use Rattle.local_types.proofs.graph.add_act.Goals as goal
 
 pub returns-in_ok-push-clause-kept : goal.returns-in_ok-push-clause-kept

@@ -1,4 +1,4 @@
-use Rattle.std.proofs.Common.{ℕ, ◌≡◌}
+use Rattle.std.proofs.Common.{ℕ}
 use Rattle.local_types.specs.Sets.{Has, row_at}
 use Rattle.local_types.proofs.Groups.{circle_in, circle_out, circle_whole, not_both}
 use Rattle.local_types.proofs.graph.circling.Goals as goal

@@ -1,4 +1,4 @@
-use Rattle.std.proofs.Common.{ℕ, length, ◌≡◌, ◌<◌, ◌≤◌, sym, subst, ap, ◌∙◌, arith}
+use Rattle.std.proofs.Common.{ℕ, length, ◌≡◌, ◌<◌, sym, subst, ap, ◌∙◌, arith}
 use Rattle.std.specs.Prelude.{◌⊎◌, ◌==◌, slice_index_or, if◌then◌else◌, Vec, vec_len}
 use Rattle.std.specs.declared.alloc.Global.{Global}
 use Rattle.local_types.specs.Sets.{Has, row_at, IsSetFor}

@@ -1,6 +1,5 @@
-use Rattle.std.proofs.Common.{◌≡◌, sym, subst, ◌<◌, arith}
-use Rattle.local_types.specs.Sets.{Has, row_at, IsSetFor}
-use Rattle.local_types.specs.Graph.{IsThrough, AreRowsFor}
+use Rattle.std.proofs.Common.{◌≡◌, subst, arith}
+use Rattle.local_types.specs.Graph.{IsThrough}
 use Rattle.local_types.proofs.Silence.{IsWalked, walk_begins, walk_more, walk_ends}
 use Rattle.local_types.proofs.graph.reach.Goals as goal
 

@@ -1,5 +1,4 @@
-use Rattle.std.proofs.Common.{sym, ap, ◌∙◌, ◌≡◌, refl, subst, length}
-use Rattle.local_types.specs.Sets.{Has, row_at, IsSetFor}
+use Rattle.std.proofs.Common.{sym, ◌∙◌, length}
 use Rattle.local_types.proofs.Sets.{row_is, union_in, union_out, union_whole, tested_in, tested_out}
 use Rattle.local_types.proofs.marks.union.Goals as goal
 use Rattle.local_types.proofs.marks.union.Goals.{then-has, else-has}

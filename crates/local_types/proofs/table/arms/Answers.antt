@@ -1,12 +1,8 @@
-use Rattle.std.proofs.Common.{ℕ, List, ◌≡◌, ◌<◌, ◌≤◌, sym, ap, ◌∙◌, refl, subst, [], ◌∷◌, length, arith, inl, inr}
-use Rattle.std.specs.Prelude.{◌⊎◌, slice_get, Some}
-use Rattle.chor_base.specs.declared.names.NameId.{NameId}
-use Rattle.chor_tree.specs.declared.protocol.State.{State}
+use Rattle.std.proofs.Common.{ℕ, List, ◌≡◌, ◌≤◌, sym, refl, subst, length, arith}
 use Rattle.global_types.specs.Moves.{IsIn}
 use Rattle.local_types.specs.declared.graph.Edge.{Edge}
-use Rattle.local_types.specs.Sets.{Has, row_at, IsSetFor}
-use Rattle.local_types.specs.Table.{AreActs, HasGrown, AreArms}
-use Rattle.local_types.proofs.Tables.{group_among, sizes_more, grown_over, arms_begin, arms_in, arms_out, arms_end, is_false, rows_begin, rows_in, rows_end, rows_over}
+use Rattle.local_types.specs.Sets.{Has, IsSetFor}
+use Rattle.local_types.proofs.Tables.{group_among, sizes_more, grown_over, arms_in, arms_out, arms_end}
 use Rattle.local_types.proofs.table.arms.Goals as goal
 use Rattle.local_types.proofs.table.arms.Goals.{then-is_allowed+in_ok-after+in_ok-next+else-len-gt-MOST+in_ok-push, else-is_allowed}
 

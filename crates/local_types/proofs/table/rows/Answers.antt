@@ -1,12 +1,9 @@
-use Rattle.std.proofs.Common.{ℕ, List, ◌≡◌, ◌<◌, ◌≤◌, sym, ap, ◌∙◌, refl, subst, [], ◌∷◌, length, arith, inl, inr}
+use Rattle.std.proofs.Common.{ℕ, List, ◌≡◌, ◌≤◌, sym, ap, ◌∙◌, subst, length, arith}
 use Rattle.std.specs.Prelude.{◌⊎◌, slice_get, Some, vec_len}
 use Rattle.chor_base.specs.declared.names.NameId.{NameId}
 use Rattle.chor_tree.specs.declared.protocol.State.{State}
-use Rattle.global_types.specs.Moves.{IsIn}
-use Rattle.local_types.specs.declared.graph.Edge.{Edge}
-use Rattle.local_types.specs.Sets.{Has, row_at, IsSetFor}
 use Rattle.local_types.specs.Table.{AreActs, HasGrown, AreArms}
-use Rattle.local_types.proofs.Tables.{group_among, sizes_more, grown_over, arms_begin, arms_in, arms_out, arms_end, is_false, rows_begin, rows_in, rows_end, rows_over}
+use Rattle.local_types.proofs.Tables.{rows_begin, rows_in, rows_end, rows_over}
 use Rattle.local_types.proofs.table.rows.Goals as goal
 use Rattle.std.proofs.lemmas.Option.{MatchOption-at_some, MatchOption-at_none}
 use Rattle.chor_base.specs.Words.{with_word}

@@ -1,10 +1,6 @@
-use Rattle.std.proofs.Common.{ℕ, ◌≡◌, ◌<◌, ◌≤◌, sym, ap, ◌∙◌, refl, subst, [], ◌∷◌, length, arith, inl, inr}
-use Rattle.std.specs.Prelude.{◌==◌, slice_index_or, slice_get, Some}
-use Rattle.std.proofs.lemmas.Option.{slice_get-get_or}
-use Rattle.local_types.specs.Sets.{Has, row_at, IsSetFor}
-use Rattle.local_types.proofs.Lists.{in_of_at, in_left, in_last, in_push, in_more}
-use Rattle.local_types.proofs.Sets.{tested_in, tested_out, row_is}
-use Rattle.local_types.proofs.Tables.{allowed_more, allowed_whole, target_in, target_out, target_begins, target_whole}
+use Rattle.std.proofs.Common.{length}
+use Rattle.local_types.proofs.Sets.{tested_in, tested_out}
+use Rattle.local_types.proofs.Tables.{target_in, target_out, target_begins, target_whole}
 use Rattle.local_types.proofs.table.targets.Goals as goal
 use Rattle.local_types.proofs.table.targets.Goals.{then-has, else-has}
 

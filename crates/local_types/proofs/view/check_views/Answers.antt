@@ -1,4 +1,4 @@
-use Rattle.std.proofs.Common.{ap, ◌∙◌, ◌≡◌, sym, subst}
+use Rattle.std.proofs.Common.{subst}
 use Rattle.global_types.specs.Moves.{IsIn}
 use Rattle.local_types.proofs.Lists.{item_among}
 use Rattle.local_types.proofs.Firsts.{first_refusal, protocols_more, protocols_whole}

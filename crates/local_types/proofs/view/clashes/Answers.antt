@@ -1,4 +1,4 @@
-use Rattle.std.proofs.Common.{List, ℕ, ◌≡◌, sym, subst}
+use Rattle.std.proofs.Common.{List, ℕ, sym, subst}
 use Rattle.local_types.specs.declared.table.Row.{Row}
 use Rattle.local_types.specs.Table.{IsTorn}
 use Rattle.local_types.proofs.Lists.{item_among, none_more, none_whole}

@@ -1,5 +1,5 @@
-use Rattle.std.proofs.Common.{ℕ, List, ◌≡◌, sym, ap, ◌∙◌, refl, subst, length}
-use Rattle.std.specs.Prelude.{Vec, Some}
+use Rattle.std.proofs.Common.{ℕ, List, ◌≡◌, sym, refl, subst, length}
+use Rattle.std.specs.Prelude.{Vec}
 use Rattle.std.specs.declared.alloc.Global.{Global}
 use Rattle.chor_base.specs.declared.names.NameId.{NameId}
 use Rattle.chor_base.specs.declared.rule.Rule.{Rule}
@@ -9,12 +9,13 @@ use Rattle.chor_base.specs.declared.rule.Denied.TheVariants.{Refused, Memory}
 use Rattle.chor_tree.specs.declared.protocol.Protocol.{Protocol}
 use Rattle.chor_tree.specs.declared.protocol.State.{State}
 use Rattle.global_types.specs.Views.{NamesAt, IsViewFault}
-use Rattle.local_types.specs.declared.table.Row.{Row}
 use Rattle.local_types.specs.Reading.{IsRefusal, IsRefusalBy}
 use Rattle.local_types.specs.Sets.{IsSetFor}
 use Rattle.local_types.specs.Graph.{AreRowsFor}
 use Rattle.local_types.specs.Table.{IsWhole, Circles, ApartAt}
 use Rattle.local_types.proofs.Verdicts.{few_sets, left_behind, not_left, torn, not_torn}
+use Rattle.local_types.proofs.Kin.{rows_kin}
+use Rattle.local_types.proofs.Readings.{type_of}
 use Rattle.local_types.proofs.view.judged.Goals as goal
 
 refusal_by : (rule : Rule) (p : Protocol) (r : NameId) (d : Denied) → IsRefusalBy rule p r d → IsViewFault p.states r rule → IsRefusal p r d
@@ -66,3 +67,22 @@ returns-clause-fine c =
       kept = not_left ss r n rows c.as_slice.result.now c.as_slice-2.result.now whole circling names c.if-leaves_behind.ensures;
       clear = not_torn ss r n rows c.as_slice-3.result.now whole apart refl c.if-clashes.ensures;
     }
+
+pub states_of-requires : goal.states_of-requires
+states_of-requires c =
+    let ss = c.args.protocol.now.states in
+    let r = c.args.role in
+    let n = length ss in
+    let rows = c.as_slice-rows.result.now in
+    let whole = subst (λ l. IsWhole ss r n l) (sym c.as_slice-rows.ensures.value) c.requires.whole in
+    let apart = apart_handed ss c.as_slice-states.result.now r c.in_ok-apart.apart.items c.as_slice-3.result.now c.as_slice-states.ensures c.as_slice-3.ensures.value c.in_ok-apart.ensures in
+    rows_kin ss r n rows whole (not_torn ss r n rows c.as_slice-3.result.now whole apart refl c.if-clashes.ensures)
+
+pub returns-clause-stands : goal.returns-clause-stands
+returns-clause-stands c =
+    let ss = c.args.protocol.now.states in
+    let r = c.args.role in
+    let n = length ss in
+    let rows = c.as_slice-rows.result.now in
+    let whole = subst (λ l. IsWhole ss r n l) (sym c.as_slice-rows.ensures.value) c.requires.whole in
+    type_of ss r n rows c.in_ok-states_of.field-0 whole c.in_ok-states_of.ensures

@@ -1,13 +1,11 @@
-use Rattle.std.proofs.Common.{ℕ, List, ◌≡◌, ◌<◌, ◌≤◌, sym, ap, ◌∙◌, refl, subst, length, arith}
-use Rattle.std.specs.Prelude.{Vec}
-use Rattle.std.specs.declared.alloc.Global.{Global}
+use Rattle.std.proofs.Common.{ℕ, List, ◌≡◌, sym, ap, ◌∙◌, subst, length, arith}
 use Rattle.std.proofs.lemmas.Option.{MatchOption-at_some, MatchOption-at_none}
 use Rattle.chor_base.specs.declared.names.NameId.{NameId}
 use Rattle.chor_tree.specs.declared.protocol.State.{State}
 use Rattle.local_types.specs.declared.moves.Move.{Move}
-use Rattle.local_types.specs.Moves.{AreMoves, moves_from}
-use Rattle.local_types.specs.Graph.{AreWithin, AreInside, AreGroups, AreRowsFor, GoesSilently}
-use Rattle.local_types.specs.Table.{AreTooMany, IsWhole, Silent}
+use Rattle.local_types.specs.Moves.{moves_from}
+use Rattle.local_types.specs.Graph.{AreWithin, AreInside}
+use Rattle.local_types.specs.Table.{AreTooMany, IsWhole}
 use Rattle.local_types.proofs.Collected.{collected, moves_within, groups_inside, acts_handed, reach_handed, circles_are}
 use Rattle.local_types.proofs.Verdicts.{too_many}
 use Rattle.local_types.proofs.view.sight_of.Goals as goal

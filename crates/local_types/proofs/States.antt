@@ -1,0 +1,148 @@
+-- States of types made from arms.
+use Rattle.std.proofs.Common.{ℕ, ◌≡◌, List, [], ◌∷◌, refl, ap, sym, subst, ◌∙◌, inl, inr}
+use Rattle.std.specs.Prelude.{◌⊎◌}
+use Rattle.chor_base.specs.declared.names.NameId.{NameId}
+use Rattle.chor_tree.specs.declared.protocol.Payload.{Payload}
+use Rattle.global_types.specs.Moves.{IsIn, content_of}
+use Rattle.global_types.specs.Paths.{Action, sends, receives, selects, offers}
+use Rattle.local_types.specs.declared.act.Act.{Act}
+use Rattle.local_types.specs.declared.act.Act.TheVariants.{Send, Recv, Pick, Branch}
+use Rattle.local_types.specs.declared.local_type.LocalState.TheVariants as state
+use Rattle.local_types.specs.declared.table.Arm.{Arm}
+use Rattle.local_types.specs.Moves.{action_of}
+use Rattle.local_types.specs.Reading.{acts_of}
+use Rattle.local_types.specs.States.{IsKin, AreKin, labelled_act, labelled, IsStateOf}
+use Rattle.local_types.proofs.Lists.{in_left, in_right, in_either, in_map, in_map_back}
+
+pub state_end : IsStateOf [] state.End
+state_end = record { sound = λ a n h. absurd h; complete = λ x h. absurd h; ends = (λ e. refl, λ e. refl) }
+
+not_empty : {A : Type 0} (v : A) (xs : List A) → IsIn v xs → xs ≡ [] → ⊥
+not_empty v [] h e = h
+not_empty v (x ∷ xs) h e = absurd (cc)
+
+-- ---- one action
+
+send_complete : (b : NameId) (c : Payload) (n : ℕ) (act : Act) (m : ℕ) → IsKin (Send b c) n act m → IsIn (action_of act, m) (acts_of (state.Send b c n))
+send_complete b c n (Send b' c') m h = inl (ap (λ (v : NameId). (sends v (content_of c), n)) h.0 ∙ ap (λ v. (sends b' v, n)) h.1 ∙ ap (λ v. (sends b' (content_of c'), v)) h.2)
+send_complete b c n (Recv a c') m h = absurd h
+send_complete b c n (Pick b' l) m h = absurd h
+send_complete b c n (Branch a l) m h = absurd h
+
+recv_complete : (a : NameId) (c : Payload) (n : ℕ) (act : Act) (m : ℕ) → IsKin (Recv a c) n act m → IsIn (action_of act, m) (acts_of (state.Recv a c n))
+recv_complete a c n (Send b' c') m h = absurd h
+recv_complete a c n (Recv a' c') m h = inl (ap (λ (v : NameId). (receives v (content_of c), n)) h.0 ∙ ap (λ v. (receives a' v, n)) h.1 ∙ ap (λ v. (receives a' (content_of c'), v)) h.2)
+recv_complete a c n (Pick b' l) m h = absurd h
+recv_complete a c n (Branch a' l) m h = absurd h
+
+pub state_send : (arms : List Arm) (x : Arm) (b : NameId) (c : Payload) → AreKin arms → IsIn x arms → x.act ≡ Send b c → IsStateOf arms (state.Send b c x.next)
+state_send arms x b c kin among is = record {
+  sound = λ a n h. sound_at a n h;
+  complete = λ y h. send_complete b c x.next y.act y.next (subst (λ v. IsKin v x.next y.act y.next) is (kin x y among h));
+  ends = (λ e. absurd (cc), λ e. absurd (cc));
+}
+  where
+    sound_at : (a : Action) (n : ℕ) → IsIn (a, n) (acts_of (state.Send b c x.next)) → (y : Arm) × IsIn y arms × (action_of y.act ≡ a) × (y.next ≡ n)
+    sound_at a n (inl e) = (x, among, ap action_of is ∙ ap (λ (p : Action × ℕ). p.0) e, ap (λ (p : Action × ℕ). p.1) e)
+    sound_at a n (inr h) = absurd h
+
+pub state_recv : (arms : List Arm) (x : Arm) (b : NameId) (c : Payload) → AreKin arms → IsIn x arms → x.act ≡ Recv b c → IsStateOf arms (state.Recv b c x.next)
+state_recv arms x b c kin among is = record {
+  sound = λ a n h. sound_at a n h;
+  complete = λ y h. recv_complete b c x.next y.act y.next (subst (λ v. IsKin v x.next y.act y.next) is (kin x y among h));
+  ends = (λ e. absurd (cc), λ e. absurd (cc));
+}
+  where
+    sound_at : (a : Action) (n : ℕ) → IsIn (a, n) (acts_of (state.Recv b c x.next)) → (y : Arm) × IsIn y arms × (action_of y.act ≡ a) × (y.next ≡ n)
+    sound_at a n (inl e) = (x, among, ap action_of is ∙ ap (λ (p : Action × ℕ). p.0) e, ap (λ (p : Action × ℕ). p.1) e)
+    sound_at a n (inr h) = absurd h
+
+-- ---- labels
+
+-- an arm of a label
+record Labels (arms : List Arm) (p : NameId × ℕ) : Type 0 where
+  arm : Arm
+  among : IsIn arm arms
+  label : IsIn p (labelled_act arm.act arm.next)
+
+labelled_back : (arms : List Arm) (p : NameId × ℕ) → IsIn p (labelled arms) → Labels arms p
+labelled_back [] p h = absurd h
+labelled_back (x ∷ xs) p h = go (in_either p (labelled_act x.act x.next) (labelled xs) h) (λ k. labelled_back xs p k) where
+  go : IsIn p (labelled_act x.act x.next) ⊎ IsIn p (labelled xs) → (IsIn p (labelled xs) → Labels xs p) → Labels (x ∷ xs) p
+  go (inl k) hyp = record { arm = x; among = inl refl; label = k }
+  go (inr k) hyp = let l = hyp k in record { arm = l.arm; among = inr l.among; label = l.label }
+
+labelled_in : (arms : List Arm) (x : Arm) (p : NameId × ℕ) → IsIn x arms → IsIn p (labelled_act x.act x.next) → IsIn p (labelled arms)
+labelled_in [] x p h k = absurd h
+labelled_in (y ∷ ys) x p (inl e) k = in_left p (labelled_act y.act y.next) (labelled ys) (subst (λ (v : Arm). IsIn p (labelled_act v.act v.next)) (sym e) k)
+labelled_in (y ∷ ys) x p (inr h) k = in_right p (labelled_act y.act y.next) (labelled ys) (labelled_in ys x p h k)
+
+pick_sound : (b l : NameId) (n : ℕ) (act : Act) (m : ℕ) (p : NameId × ℕ) → IsKin (Pick b l) n act m → IsIn p (labelled_act act m) → (action_of act ≡ selects b p.0) × (m ≡ p.1)
+pick_sound b l n (Send b' c) m p k h = absurd k
+pick_sound b l n (Recv a c) m p k h = absurd k
+pick_sound b l n (Pick b' l') m p k (inl e) = (ap (λ (v : NameId). selects v l') (sym k) ∙ ap (λ (q : NameId × ℕ). selects b q.0) e, ap (λ (q : NameId × ℕ). q.1) e)
+pick_sound b l n (Pick b' l') m p k (inr h) = absurd h
+pick_sound b l n (Branch a l') m p k h = absurd k
+
+pick_label : (b l : NameId) (n : ℕ) (act : Act) (m : ℕ) → IsKin (Pick b l) n act m → (p : NameId × ℕ) × IsIn p (labelled_act act m) × (◌≡◌ {A = Action × ℕ} (selects b p.0, p.1) (action_of act, m))
+pick_label b l n (Send b' c) m k = absurd k
+pick_label b l n (Recv a c) m k = absurd k
+pick_label b l n (Pick b' l') m k = ((l', m), inl refl, ap (λ (v : NameId). (selects v l', m)) k)
+pick_label b l n (Branch a l') m k = absurd k
+
+branch_sound : (b l : NameId) (n : ℕ) (act : Act) (m : ℕ) (p : NameId × ℕ) → IsKin (Branch b l) n act m → IsIn p (labelled_act act m) → (action_of act ≡ offers b p.0) × (m ≡ p.1)
+branch_sound b l n (Send b' c) m p k h = absurd k
+branch_sound b l n (Recv a c) m p k h = absurd k
+branch_sound b l n (Pick b' l') m p k h = absurd k
+branch_sound b l n (Branch a l') m p k (inl e) = (ap (λ (v : NameId). offers v l') (sym k) ∙ ap (λ (q : NameId × ℕ). offers b q.0) e, ap (λ (q : NameId × ℕ). q.1) e)
+branch_sound b l n (Branch a l') m p k (inr h) = absurd h
+
+branch_label : (b l : NameId) (n : ℕ) (act : Act) (m : ℕ) → IsKin (Branch b l) n act m → (p : NameId × ℕ) × IsIn p (labelled_act act m) × (◌≡◌ {A = Action × ℕ} (offers b p.0, p.1) (action_of act, m))
+branch_label b l n (Send b' c) m k = absurd k
+branch_label b l n (Recv a c) m k = absurd k
+branch_label b l n (Pick b' l') m k = absurd k
+branch_label b l n (Branch a l') m k = ((l', m), inl refl, ap (λ (v : NameId). (offers v l', m)) k)
+
+pub state_pick : (arms : List Arm) (x : Arm) (b l : NameId) (ls : List (NameId × ℕ)) → AreKin arms → IsIn x arms → x.act ≡ Pick b l → ls ≡ labelled arms → IsStateOf arms (state.Pick b ls)
+state_pick arms x b l ls kin among is all = record {
+  sound = λ a n h. sound_at a n h;
+  complete = λ y h. complete_at y h;
+  ends = (λ e. absurd (cc), λ e. absurd (not_empty _ _ (complete_at x among) e));
+}
+  where
+    kin_to : (y : Arm) → IsIn y arms → IsKin (Pick b l) x.next y.act y.next
+    kin_to y h = subst (λ v. IsKin v x.next y.act y.next) is (kin x y among h)
+
+    sound_at : (a : Action) (n : ℕ) → IsIn (a, n) (acts_of (state.Pick b ls)) → (y : Arm) × IsIn y arms × (action_of y.act ≡ a) × (y.next ≡ n)
+    sound_at a n h =
+        let p = in_map_back (λ (q : NameId × ℕ). (selects b q.0, q.1)) (a, n) ls h in
+        let y = labelled_back arms p.0 (subst (λ v. IsIn p.0 v) all p.1) in
+        let s = pick_sound b l x.next y.arm.act y.arm.next p.0 (kin_to y.arm y.among) y.label in
+        (y.arm, y.among, s.0 ∙ ap (λ (q : Action × ℕ). q.0) p.2, s.1 ∙ ap (λ (q : Action × ℕ). q.1) p.2)
+
+    complete_at : (y : Arm) → IsIn y arms → IsIn (action_of y.act, y.next) (acts_of (state.Pick b ls))
+    complete_at y h =
+        let p = pick_label b l x.next y.act y.next (kin_to y h) in
+        subst (λ v. IsIn v (acts_of (state.Pick b ls))) p.2 (in_map (λ (q : NameId × ℕ). (selects b q.0, q.1)) p.0 ls (subst (λ v. IsIn p.0 v) (sym all) (labelled_in arms y p.0 h p.1)))
+
+pub state_branch : (arms : List Arm) (x : Arm) (b l : NameId) (ls : List (NameId × ℕ)) → AreKin arms → IsIn x arms → x.act ≡ Branch b l → ls ≡ labelled arms → IsStateOf arms (state.Branch b ls)
+state_branch arms x b l ls kin among is all = record {
+  sound = λ a n h. sound_at a n h;
+  complete = λ y h. complete_at y h;
+  ends = (λ e. absurd (cc), λ e. absurd (not_empty _ _ (complete_at x among) e));
+}
+  where
+    kin_to : (y : Arm) → IsIn y arms → IsKin (Branch b l) x.next y.act y.next
+    kin_to y h = subst (λ v. IsKin v x.next y.act y.next) is (kin x y among h)
+
+    sound_at : (a : Action) (n : ℕ) → IsIn (a, n) (acts_of (state.Branch b ls)) → (y : Arm) × IsIn y arms × (action_of y.act ≡ a) × (y.next ≡ n)
+    sound_at a n h =
+        let p = in_map_back (λ (q : NameId × ℕ). (offers b q.0, q.1)) (a, n) ls h in
+        let y = labelled_back arms p.0 (subst (λ v. IsIn p.0 v) all p.1) in
+        let s = branch_sound b l x.next y.arm.act y.arm.next p.0 (kin_to y.arm y.among) y.label in
+        (y.arm, y.among, s.0 ∙ ap (λ (q : Action × ℕ). q.0) p.2, s.1 ∙ ap (λ (q : Action × ℕ). q.1) p.2)
+
+    complete_at : (y : Arm) → IsIn y arms → IsIn (action_of y.act, y.next) (acts_of (state.Branch b ls))
+    complete_at y h =
+        let p = branch_label b l x.next y.act y.next (kin_to y h) in
+        subst (λ v. IsIn v (acts_of (state.Branch b ls))) p.2 (in_map (λ (q : NameId × ℕ). (offers b q.0, q.1)) p.0 ls (subst (λ v. IsIn p.0 v) (sym all) (labelled_in arms y p.0 h p.1)))

@@ -1,0 +1,46 @@
+-- A state of a role's type, as it is made from the arms of a row.
+use Rattle.std.specs.Prelude.{ℕ, ◌≡◌, ◌↔◌, List, [], ◌∷◌, ◌++◌, length, Some, slice_get}
+use Rattle.chor_base.specs.declared.names.NameId.{NameId}
+use Rattle.global_types.specs.Moves.{IsIn, content_of}
+use Rattle.global_types.specs.Paths.{Action}
+use Rattle.local_types.specs.declared.act.Act.{Act}
+use Rattle.local_types.specs.declared.act.Act.TheVariants.{Send, Recv, Pick, Branch}
+use Rattle.local_types.specs.declared.local_type.LocalState.{LocalState}
+use Rattle.local_types.specs.declared.local_type.LocalState.TheVariants.{End}
+use Rattle.local_types.specs.declared.table.Arm.{Arm}
+use Rattle.local_types.specs.declared.table.Row.{Row}
+use Rattle.local_types.specs.Moves.{action_of}
+use Rattle.local_types.specs.Reading.{acts_of}
+
+-- two acts with the sets after them that one state can have: all is the same, but for labels
+abbrev pub IsKin : Act → ℕ → Act → ℕ → Type 0
+IsKin (Send b c) n (Send b' c') m = (b ≡ b') × (content_of c ≡ content_of c') × (n ≡ m)
+IsKin (Recv a c) n (Recv a' c') m = (a ≡ a') × (content_of c ≡ content_of c') × (n ≡ m)
+IsKin (Pick b l) n (Pick b' l') m = b ≡ b'
+IsKin (Branch a l) n (Branch a' l') m = a ≡ a'
+IsKin _ n _ m = ⊥
+
+abbrev pub AreKin : List Arm → Type 0
+AreKin arms = (x y : Arm) → IsIn x arms → IsIn y arms → IsKin x.act x.next y.act y.next
+
+abbrev pub labelled_act : Act → ℕ → List (NameId × ℕ)
+labelled_act (Send b c) n = []
+labelled_act (Recv a c) n = []
+labelled_act (Pick b l) n = (l, n) ∷ []
+labelled_act (Branch a l) n = (l, n) ∷ []
+
+-- the labels of these arms, each with the set after it
+abbrev pub labelled : List Arm → List (NameId × ℕ)
+labelled [] = []
+labelled (x ∷ xs) = labelled_act x.act x.next ++ labelled xs
+
+-- the state's actions are those of the arms, and it is the end exactly where there is none
+pub record IsStateOf (arms : List Arm) (t : LocalState) : Type 0 where
+  pub sound : (a : Action) (n : ℕ) → IsIn (a, n) (acts_of t) → (x : Arm) × IsIn x arms × (action_of x.act ≡ a) × (x.next ≡ n)
+  pub complete : (x : Arm) → IsIn x arms → IsIn (action_of x.act, x.next) (acts_of t)
+  pub ends : (t ≡ End) ↔ (acts_of t ≡ [])
+
+-- a state for each row
+pub record AreStatesOf (rows : List Row) (ts : List LocalState) : Type 0 where
+  pub size : length ts ≡ length rows
+  pub state : (k : ℕ) (row : Row) (t : LocalState) → slice_get rows k ≡ Some row → slice_get ts k ≡ Some t → IsStateOf row.arms.items t
