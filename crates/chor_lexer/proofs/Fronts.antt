@@ -1,10 +1,11 @@
 -- The first byte tells what kind of token it is.
-use Rattle.std.proofs.Common.{◌≡◌, ◌≢◌, ◌<◌, ◌≤◌, ℕ, true, false, cond, ◌==◌, List, [], ◌∷◌, ◌++◌, length, Option, Some, None, refl, sym, ap, ◌∙◌, subst, arith}
+use Rattle.std.proofs.Common.{◌≡◌, ◌≢◌, ◌<◌, ◌≤◌, ◌⊎◌, inl, inr, ℕ, Bool, true, false, cond, ◌==◌, List, [], ◌∷◌, ◌++◌, length, Option, Some, None, refl, sym, ap, ◌∙◌, subst, arith}
 use Rattle.std.specs.Prelude.{bytes_eq}
 use Rattle.std.specs.Char.{is_ascii_digit}
 use Rattle.std.specs.Str.Parse.{digits_value}
 use Rattle.std.proofs.lemmas.List.{append-nil}
 use Rattle.std.proofs.lemmas.Bool.Decides.{nat_tests}
+use Rattle.std.proofs.lemmas.Slice.Eq.{bytes_eq-Decides}
 use Rattle.chor_lexer.specs.declared.mark.Mark.{Mark}
 use Rattle.chor_lexer.specs.declared.mark.Mark.TheVariants.{OpenBrace, CloseBrace, OpenParen, CloseParen, OpenBracket, CloseBracket, Comma, Semicolon, Colon, Dot, Assign, Becomes, Arrow, Bar, At, Plus, Minus, Star, Slash, Equal, NotEqual, Less, LessEqual, And, Or, Not}
 use Rattle.chor_lexer.specs.Mark.{spelling}
@@ -109,6 +110,22 @@ named_back LessEqual = refl
 named_back And = refl
 named_back Or = refl
 named_back Not = refl
+
+named_is : (ms : List Mark) (w : List ℕ) (m : Mark) → named ms w ≡ Some m → spelling m ≡ w
+named_is [] w m e = absurd cc
+named_is (n ∷ ms) w m e = go (bytes_eq (spelling n) w) refl e (named_is ms w m)
+  where
+    go : (b : Bool) → bytes_eq (spelling n) w ≡ b → cond b (Some n) (named ms w) ≡ Some m → (named ms w ≡ Some m → spelling m ≡ w) → spelling m ≡ w
+    go true h q later = let own : n ≡ m = cc in ap spelling (sym own) ∙ (bytes_eq-Decides (spelling n) w).0 h
+    go false h q later = later q
+
+-- the mark that is written so, or that there is none
+pub mark_written : (w : List ℕ) → ((m : Mark) × (spelling m ≡ w)) ⊎ ((m : Mark) → spelling m ≢ w)
+mark_written w = go (named marks w) refl
+  where
+    go : (o : Option Mark) → named marks w ≡ o → ((m : Mark) × (spelling m ≡ w)) ⊎ ((m : Mark) → spelling m ≢ w)
+    go None e = inr (λ m q. let no : None ≡ Some m = sym e ∙ ap (named marks) (sym q) ∙ named_back m in absurd cc)
+    go (Some m) e = inl (m, named_is marks w m e)
 
 mark_same : (m n : Mark) → spelling m ≡ spelling n → m ≡ n
 mark_same m n e = let q : Some m ≡ Some n = sym (named_back m) ∙ ap (named marks) e ∙ named_back n in cc

@@ -1,3 +1,5 @@
+pub mod Tested
+pub mod Each
 pub mod Runs
 pub mod Texts
 pub mod Fronts
@@ -6,6 +8,7 @@ pub mod Pieces
 pub mod Spelled
 pub mod Cuts
 pub mod Faults
+pub mod Known
 pub mod Progress
 pub mod Keywords
 pub mod Levels
@@ -15,4 +18,7 @@ pub mod Viable
 pub mod Longest
 pub mod Spelling
 pub mod Printed
+pub mod Utf8
+pub mod ReadBack
+pub mod Sources
 pub mod Total

@@ -39,26 +39,31 @@ use Rattle.chor_lexer.proofs.Spelling.{name_of, symbols_read_back}
 
 -- ---- where a token ends
 
--- nothing follows, or a space, or a closing parenthesis
-abbrev Closed : List ℕ → Type 0
-Closed bs = (b : ℕ) (r : List ℕ) → bs ≡ b ∷ r → (b ≡ 32) ⊎ (b ≡ 41)
+-- what follows begins with no byte of a word
+abbrev pub Closed : List ℕ → Type 0
+Closed bs = (b : ℕ) (r : List ℕ) → bs ≡ b ∷ r → is_word_byte b ≡ false
 
-closed_none : Closed []
+pub closed_none : Closed []
 closed_none b r e = absurd cc
 
+pub closed_by : (c : ℕ) (bs : List ℕ) → is_word_byte c ≡ false → Closed (c ∷ bs)
+closed_by c bs h b r e = subst (λ k. is_word_byte k ≡ false) (heads c b bs r e) h
+
 closed_space : (bs : List ℕ) → Closed (32 ∷ bs)
-closed_space bs b r e = inl (cc)
+closed_space bs = closed_by 32 bs refl
 
 closed_paren : (bs : List ℕ) → Closed (41 ∷ bs)
-closed_paren bs b r e = inr (cc)
+closed_paren bs = closed_by 41 bs refl
 
-no_word_byte : (b : ℕ) → (b ≡ 32) ⊎ (b ≡ 41) → is_word_byte b ≡ false
-no_word_byte b (inl e) = subst (λ c. is_word_byte c ≡ false) (sym e) refl
-no_word_byte b (inr e) = subst (λ c. is_word_byte c ≡ false) (sym e) refl
+digit_is_word_byte : (b : ℕ) → is_ascii_digit b ≡ true → is_word_byte b ≡ true
+digit_is_word_byte b e = grind (arith, nat_tests)
 
-no_digit : (b : ℕ) → (b ≡ 32) ⊎ (b ≡ 41) → is_ascii_digit b ≡ false
-no_digit b (inl e) = subst (λ c. is_ascii_digit c ≡ false) (sym e) refl
-no_digit b (inr e) = subst (λ c. is_ascii_digit c ≡ false) (sym e) refl
+no_digit : (b : ℕ) → is_word_byte b ≡ false → is_ascii_digit b ≡ false
+no_digit b h = go (is_ascii_digit b) refl
+  where
+    go : (d : Bool) → is_ascii_digit b ≡ d → is_ascii_digit b ≡ false
+    go true e = let yes = digit_is_word_byte b e in absurd cc
+    go false e = e
 
 -- bytes that pass a test end where the test fails
 bounded : (p : ℕ → Bool) (w mid v u : List ℕ) → w ++ mid ≡ v ++ u → Passes p v → ((b : ℕ) (r : List ℕ) → mid ≡ b ∷ r → p b ≡ false) → length v ≤ length w
@@ -72,13 +77,13 @@ same_class s t (b ∷ w) v mid u l k q = sym (lexeme_class s (b ∷ w) b (w ++ m
 
 -- ---- words, numbers and texts
 
-word_next : (w mid : List ℕ) → IsLexeme (word w) w → length w ≤ 64 → Closed mid → IsNext (word w) w mid (w ++ mid)
+pub word_next : (w mid : List ℕ) → IsLexeme (word w) w → length w ≤ 64 → Closed mid → IsNext (word w) w mid (w ++ mid)
 word_next w mid l few c = record {
   no_blank = lexeme_no_blank (word w) w mid (w ++ mid) l refl (omega arith);
   longest = record {
     parts = refl;
     is = l;
-    longest = λ t v u q k. bounded is_word_byte w mid v u q (word_passes t v k (same_class (word w) t w v mid u l k q)) (λ b r e. no_word_byte b (c b r e));
+    longest = λ t v u q k. bounded is_word_byte w mid v u q (word_passes t v k (same_class (word w) t w v mid u l k q)) c;
   };
   within = few;
 }
@@ -130,7 +135,7 @@ byte_is b written t h = first (b == 34) refl
     first true e = at 34 e (escape refl h)
     first false e = second (b == 92) refl e
 
-escaped_is : (t : List ℕ) → IsTextOf (writing.escaped t) t
+pub escaped_is : (t : List ℕ) → IsTextOf (writing.escaped t) t
 escaped_is [] = nothing
 escaped_is (b ∷ t) = byte_is b (writing.escaped t) t (escaped_is t)
 
@@ -146,7 +151,7 @@ text_next t mid few =
 -- ---- marks
 
 -- two bytes that are a mark
-abbrev is_pair : ℕ → ℕ → Bool
+abbrev pub is_pair : ℕ → ℕ → Bool
 is_pair b c = (b == 58 && c == 61) || (b == 45 && c == 62) || (b == 61 && c == 61) || (b == 33 && c == 61) || (b == 60 && c == 61) || (b == 38 && c == 38) || (b == 124 && c == 124)
 
 there : (b c d e : ℕ) → d ∷ e ∷ [] ≡ b ∷ c ∷ [] → is_pair d e ≡ true → is_pair b c ≡ true
@@ -175,7 +180,7 @@ few b mid none j u q = go (spelling j) refl (mark_is j) q
         let yes : is_pair b y ≡ true = subst (λ k. is_pair k y ≡ true) (sym same) (pair_is j x y e) in
         absurd cc
 
-single_next : (m : Mark) (b : ℕ) (mid : List ℕ) → spelling m ≡ b ∷ [] → IsOther b → ((rest : List ℕ) → b ∷ mid ≢ 47 ∷ 47 ∷ rest) → ((c : ℕ) (r : List ℕ) → mid ≡ c ∷ r → is_pair b c ≡ false) → IsNext (mark m) (b ∷ []) mid (b ∷ mid)
+pub single_next : (m : Mark) (b : ℕ) (mid : List ℕ) → spelling m ≡ b ∷ [] → IsOther b → ((rest : List ℕ) → b ∷ mid ≢ 47 ∷ 47 ∷ rest) → ((c : ℕ) (r : List ℕ) → mid ≡ c ∷ r → is_pair b c ≡ false) → IsNext (mark m) (b ∷ []) mid (b ∷ mid)
 single_next m b mid e other slashes none =
     let begins : Begins (b ∷ mid) IsOther = record { first = b; rest = mid; parts = refl; holds = other } in
     let long = mark_longest (b ∷ mid) mid m begins (ap (λ (l : List ℕ). l ++ mid) (sym e)) (λ j u q. let n = few b mid none j u q in omega (arith, ap length e)) in
@@ -185,7 +190,7 @@ single_next m b mid e other slashes none =
       within = tt;
     }
 
-double_next : (m : Mark) (b c : ℕ) (mid : List ℕ) → spelling m ≡ b ∷ c ∷ [] → IsOther b → ((rest : List ℕ) → b ∷ c ∷ mid ≢ 47 ∷ 47 ∷ rest) → IsNext (mark m) (b ∷ c ∷ []) mid (b ∷ c ∷ mid)
+pub double_next : (m : Mark) (b c : ℕ) (mid : List ℕ) → spelling m ≡ b ∷ c ∷ [] → IsOther b → ((rest : List ℕ) → b ∷ c ∷ mid ≢ 47 ∷ 47 ∷ rest) → IsNext (mark m) (b ∷ c ∷ []) mid (b ∷ c ∷ mid)
 double_next m b c mid e other slashes =
     let begins : Begins (b ∷ c ∷ mid) IsOther = record { first = b; rest = c ∷ mid; parts = refl; holds = other } in
     let long = mark_longest (b ∷ c ∷ mid) mid m begins (ap (λ (l : List ℕ). l ++ mid) (sym e)) (λ j u q. let n = mark_few (spelling j) (mark_is j) in omega (arith, ap length e)) in
@@ -258,21 +263,21 @@ digits_start (d ∷ ds) n h = starts_by is_ascii_digit d ds h.0 refl refl
 literal_byte : (b : ℕ) (bs : List ℕ) → b < 61 → Starts (b ∷ bs)
 literal_byte b bs h = record { byte = b; rest = bs; parts = refl; no_equal = λ q. omega arith; no_greater = λ q. omega arith }
 
-constant_starts : (texts : List (List ℕ)) (v : Value) → IsLiteral texts v → Starts (constant_text texts v)
-constant_starts texts (value.Int z) ok =
+constant_starts : (names texts : List (List ℕ)) (v : Value) → IsLiteral names texts v → Starts (constant_text texts v)
+constant_starts names texts (value.Int z) ok =
     let small : ok.0 < 2 ^ 64 = let h = ok.2 in omega arith in
     subst (λ (y : ℤ). Starts (signed_decimal y)) (sym ok.1) (digits_start (decimal ok.0) (decimal_nonempty ok.0 small) (digits_decimal numeral ok.0 small))
-constant_starts texts (value.Bool true) ok = starts_by is_letter 116 (114 ∷ 117 ∷ 101 ∷ []) refl refl refl
-constant_starts texts (value.Bool false) ok = starts_by is_letter 102 (97 ∷ 108 ∷ 115 ∷ 101 ∷ []) refl refl refl
-constant_starts texts (value.Text t) ok = subst (λ (o : Option (List ℕ)). Starts (literal o)) (sym ok.1) (literal_byte 34 (writing.escaped ok.0 ++ 34 ∷ []) (omega arith))
-constant_starts texts (value.Part s r) ok = absurd ok
+constant_starts names texts (value.Bool true) ok = starts_by is_letter 116 (114 ∷ 117 ∷ 101 ∷ []) refl refl refl
+constant_starts names texts (value.Bool false) ok = starts_by is_letter 102 (97 ∷ 108 ∷ 115 ∷ 101 ∷ []) refl refl refl
+constant_starts names texts (value.Text t) ok = subst (λ (o : Option (List ℕ)). Starts (literal o)) (sym ok.1) (literal_byte 34 (writing.escaped ok.0 ++ 34 ∷ []) (omega arith))
+constant_starts names texts (value.Part s r) ok = absurd ok
 
 operand_starts : (b : Bool) (bs : List ℕ) → Starts bs → Starts (enclosed b bs)
 operand_starts true bs s = literal_byte 40 (bs ++ 41 ∷ []) (omega arith)
 operand_starts false bs s = s
 
 expr_starts : (names texts : List (List ℕ)) (x : Term) → IsSource names texts x → Starts (expr_text names texts x)
-expr_starts names texts (Constant v) ok = constant_starts texts v ok
+expr_starts names texts (Constant v) ok = constant_starts names texts v ok
 expr_starts names texts (Variable x) ok = subst Starts (sym (name_of names x ok.0 ok.1)) (word_starts (word ok.0) ok.0 ok.3 refl)
 expr_starts names texts (Unary unop.Neg x) ok = literal_byte 45 _ (omega arith)
 expr_starts names texts (Unary unop.Not x) ok = literal_byte 33 _ (omega arith)
@@ -283,11 +288,11 @@ expr_starts names texts (Binary op x y) ok =
 -- ---- cuts
 
 -- bytes are cut into tokens of these symbols
-record Cuts (bs : List ℕ) (p : Place) (ss : List Symbol) (rest : List ℕ) : Type 0 where
-  lexemes : List Lexeme
-  next : Place
-  cut : IsCut bs p lexemes rest next
-  are : map (λ l. l.symbol) lexemes ≡ ss
+pub record Cuts (bs : List ℕ) (p : Place) (ss : List Symbol) (rest : List ℕ) : Type 0 where
+  pub lexemes : List Lexeme
+  pub next : Place
+  pub cut : IsCut bs p lexemes rest next
+  pub are : map (λ l. l.symbol) lexemes ≡ ss
 
 map_both : (ls ms : List Lexeme) → map (λ (l : Lexeme). l.symbol) (ls ++ ms) ≡ map (λ (l : Lexeme). l.symbol) ls ++ map (λ (l : Lexeme). l.symbol) ms
 map_both [] ms = refl
@@ -312,7 +317,7 @@ cuts_space bs rest p ss more =
     record { lexemes = c.lexemes; next = c.next; cut = blank {w = 32 ∷ []} refl (space refl) c.cut; are = c.are }
 
 -- a text that is cut so wherever a token ends after it
-abbrev AlwaysCuts : List ℕ → List Symbol → Type 0
+abbrev pub AlwaysCuts : List ℕ → List Symbol → Type 0
 AlwaysCuts bs ss = (rest : List ℕ) → Closed rest → (p : Place) → Cuts (bs ++ rest) p ss rest
 
 operand_cuts : (b : Bool) (bs : List ℕ) (ss : List Symbol) → AlwaysCuts bs ss → AlwaysCuts (enclosed b bs) (enclosed_symbols b ss)
@@ -322,16 +327,16 @@ operand_cuts true bs ss c rest h p =
     (λ q. subst (λ l. Cuts l q (ss ++ mark CloseParen ∷ []) rest) (sym after) (cuts_on (bs ++ 41 ∷ rest) (41 ∷ rest) rest q ss (mark CloseParen ∷ []) (c (41 ∷ rest) (closed_paren rest) q) (λ r. cuts_one _ _ _ _ r (close_next rest))))
 operand_cuts false bs ss c rest h p = c rest h p
 
-constant_cuts : (texts : List (List ℕ)) (v : Value) → IsLiteral texts v → AlwaysCuts (constant_text texts v) (constant_symbols texts v)
-constant_cuts texts (value.Int z) ok rest h p =
+constant_cuts : (names texts : List (List ℕ)) (v : Value) → IsLiteral names texts v → AlwaysCuts (constant_text texts v) (constant_symbols texts v)
+constant_cuts names texts (value.Int z) ok rest h p =
     let P : ℤ → Type 0 = λ y. Cuts (signed_decimal y ++ rest) p (constant_symbols texts (value.Int y)) rest in
     subst P (sym ok.1) (cuts_one _ _ _ _ p (number_next ok.0 rest ok.2 h))
-constant_cuts texts (value.Bool true) ok rest h p = cuts_one _ _ _ _ p (word_next (codes "true") rest (is_word refl (refl, (refl, (refl, tt)))) (omega arith) h)
-constant_cuts texts (value.Bool false) ok rest h p = cuts_one _ _ _ _ p (word_next (codes "false") rest (is_word refl (refl, (refl, (refl, (refl, tt))))) (omega arith) h)
-constant_cuts texts (value.Text t) ok rest h p =
+constant_cuts names texts (value.Bool true) ok rest h p = cuts_one _ _ _ _ p (word_next (codes "true") rest (is_word refl (refl, (refl, (refl, tt)))) (omega arith) h)
+constant_cuts names texts (value.Bool false) ok rest h p = cuts_one _ _ _ _ p (word_next (codes "false") rest (is_word refl (refl, (refl, (refl, (refl, tt))))) (omega arith) h)
+constant_cuts names texts (value.Text t) ok rest h p =
     let P : Option (List ℕ) → Type 0 = λ o. Cuts (literal o ++ rest) p (text_symbols o) rest in
     subst P (sym ok.1) (cuts_one _ _ _ _ p (text_next ok.0 rest ok.2))
-constant_cuts texts (value.Part s r) ok rest h p = absurd ok
+constant_cuts names texts (value.Part s r) ok rest h p = absurd ok
 
 unary_cuts : (op : UnOp) (bs : List ℕ) (ss : List Symbol) → Starts bs → AlwaysCuts bs ss → AlwaysCuts (spelling (unary_mark op) ++ bs) (mark (unary_mark op) ∷ ss)
 unary_cuts unop.Neg bs ss s c rest h p =
@@ -366,8 +371,8 @@ binary_cuts op xs ys ss qs c d rest h p =
     (λ r. cuts_on (sp ++ 32 ∷ (ys ++ rest)) (32 ∷ (ys ++ rest)) rest r (mark (binary_mark op) ∷ []) qs (cuts_one _ _ _ _ r (operator_next op (ys ++ rest)))
     (λ i. cuts_space (ys ++ rest) rest i qs (λ j. d rest h j)))))
 
-expr_cuts : (names texts : List (List ℕ)) (x : Term) → IsSource names texts x → AlwaysCuts (expr_text names texts x) (expr_symbols names texts x)
-expr_cuts names texts (Constant v) ok rest h p = constant_cuts texts v ok rest h p
+pub expr_cuts : (names texts : List (List ℕ)) (x : Term) → IsSource names texts x → AlwaysCuts (expr_text names texts x) (expr_symbols names texts x)
+expr_cuts names texts (Constant v) ok rest h p = constant_cuts names texts v ok rest h p
 expr_cuts names texts (Variable x) ok rest h p =
     subst (λ (w : List ℕ). Cuts (w ++ rest) p (word w ∷ []) rest) (sym (name_of names x ok.0 ok.1)) (cuts_one _ _ _ _ p (word_next ok.0 rest ok.3 ok.4 h))
 expr_cuts names texts (Unary op x) ok rest h p =

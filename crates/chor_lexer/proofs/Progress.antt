@@ -17,6 +17,7 @@ use Rattle.chor_lexer.specs.Cut.{IsBlank, start, place_after, IsCut, here}
 use Rattle.chor_lexer.specs.Tokens.{AreTokensOf, Spells, AreSpelled, Grows, HasSymbol, is_last, is_ended, with_name, with_text}
 use Rattle.chor_lexer.specs.Refusal.{IsFault, Refuses, malformed, faulty, IsDenial}
 use Rattle.chor_lexer.specs.Scan.{HasForm, IsWritten, IsNextOf}
+use Rattle.chor_lexer.proofs.Each.{each_append}
 use Rattle.chor_lexer.proofs.Cuts.{cut_blank, cut_token}
 use Rattle.chor_lexer.proofs.Fronts.{lexeme_same, lexeme_long}
 use Rattle.chor_lexer.proofs.Spelled.{grows_none, grows_on, spelled_on, spelled_push}
@@ -118,10 +119,6 @@ spells_unended names texts kind.Last s w e (is_number a h) = absurd e
 spells_unended names texts kind.Last s w e (is_text a h) = absurd e
 spells_unended names texts kind.Last s w e (is_mark a) = absurd e
 
-unended_push : (ts : List Token) (t : Token) → AllByRecursion (λ t. is_last t.kind ≡ false) ts → is_last t.kind ≡ false → AllByRecursion (λ t. is_last t.kind ≡ false) (ts ++ t ∷ [])
-unended_push [] t h e = (e, tt)
-unended_push (x ∷ ts) t h e = (h.0, unended_push ts t h.1 e)
-
 -- one symbol more goes into a table
 folded : (f : List (List ℕ) → Symbol → List (List ℕ)) (old mid new : List (List ℕ)) (ls : List Lexeme) (s : Symbol) (p : Place) → mid ≡ fold (λ table l. f table l.symbol) old ls → new ≡ f mid s → new ≡ fold (λ table l. f table l.symbol) old (ls ++ record { symbol = s; place = p } ∷ [])
 folded f old mid new [] s p e h = h ∙ ap (λ (t : List (List ℕ)). f t s) e
@@ -142,7 +139,7 @@ progress_token bytes names texts rest written after p q items items' names' text
       texts_are = folded with_text texts texts' texts'' g.front x.symbol p g.texts_are (et x.symbol x.has w);
       names_grow = names_on bytes names texts rest written p items names' texts' names'' f n g x h.written_is gn;
       texts_grow = texts_on bytes names texts rest written p items names' texts' texts'' f n g x h.written_is gt;
-      unended = subst (AllByRecursion (λ t. is_last t.kind ≡ false)) (sym e) (unended_push items token_is g.unended (spells_unended names'' texts'' k x.symbol written spell w));
+      unended = subst (AllByRecursion (λ t. is_last t.kind ≡ false)) (sym e) (each_append (λ t. is_last t.kind ≡ false) items (token_is ∷ []) g.unended (spells_unended names'' texts'' k x.symbol written spell w, tt));
       line = omega (arith, g.line, h.line);
       col = omega (arith, g.col, h.col);
       room = omega (arith, g.room);

@@ -14,6 +14,7 @@ use Rattle.chor_lexer.specs.Text.{IsTextOf}
 use Rattle.chor_lexer.specs.Lexeme.{Symbol, word, number, text, mark, last, Lexeme, IsLexeme, is_word, is_text}
 use Rattle.chor_lexer.specs.Tokens.{Spells, AreSpelled, Grows, with_name, with_text}
 use Rattle.chor_lexer.specs.Scan.{HasForm, IsWritten, IsMeant}
+use Rattle.chor_lexer.proofs.Each.{each_append}
 use Rattle.chor_lexer.proofs.Texts.{tails, text_body, body_same, text_same, fronts_same}
 
 -- ---- growing
@@ -34,10 +35,6 @@ with_word_few old new w e = go (list_any (bytes_eq w) old) e
     go : (b : Bool) → new ≡ cond b old (old ++ w ∷ []) → length new ≤ length old + 1
     go true f = omega (arith, ap length f)
     go false f = omega (arith, ap length f, length-append old (w ∷ []))
-
-each_append : (P : List ℕ → Type 0) (xs ys : List (List ℕ)) → AllByRecursion P xs → AllByRecursion P ys → AllByRecursion P (xs ++ ys)
-each_append P [] ys h k = k
-each_append P (x ∷ xs) ys h k = (h.0, each_append P xs ys h.1 k)
 
 each_map : (P Q : List ℕ → Type 0) (xs : List (List ℕ)) → ((w : List ℕ) → P w → Q w) → AllByRecursion P xs → AllByRecursion Q xs
 each_map P Q [] f h = tt

@@ -264,7 +264,7 @@ name_of names x w e = go names x.0 w e
     go (v ∷ ws) zero w e = cc
     go (v ∷ ws) (suc i) w e = go ws i w e
 
-constant_derives : (names texts : List (List ℕ)) (v : Value) (ts : List Token) (ss : List Symbol) → AllDistinct texts → IsLiteral texts v → SpellAll names texts ts (constant_symbols texts v ++ ss) → Derived names texts level.Un (Constant v) ts ss
+constant_derives : (names texts : List (List ℕ)) (v : Value) (ts : List Token) (ss : List Symbol) → AllDistinct texts → IsLiteral names texts v → SpellAll names texts ts (constant_symbols texts v ++ ss) → Derived names texts level.Un (Constant v) ts ss
 constant_derives names texts (value.Int z) ts ss d ok h =
     let s : SpellAll names texts ts (number ok.0 ∷ ss) = subst (λ (y : ℤ). SpellAll names texts ts (number (unsigned_abs y) ∷ ss)) ok.1 h in
     let f = first names texts (number ok.0) ss ts s in

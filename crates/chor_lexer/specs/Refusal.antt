@@ -10,7 +10,6 @@ use Rattle.chor_base.specs.declared.rule.Denied.TheVariants.{Refused, Memory}
 use Rattle.chor_lexer.specs.Text.{IsTextOf, IsBody, IsUnclosed, escaped}
 use Rattle.chor_lexer.specs.Lexeme.{Lexeme, word, number, IsLongest, NoLexeme}
 use Rattle.chor_lexer.specs.Cut.{start, place_after, NoBlank, IsCut}
-use Rattle.chor_lexer.specs.Tokens.{IsTokens}
 
 -- the rule that the bytes violate at the front, so many bytes further on:
 -- a character, no quote (34), that begins no token;
@@ -48,11 +47,6 @@ pub data Refuses (bytes : List ℕ) : Rule → Place → Type 0 where
   faulty : {front : List Lexeme} {rest : List ℕ} {p : Place} {rule : Rule} {n : ℕ}
       → IsUtf8 bytes → IsCut bytes start front rest p → IsFault rest rule n
       → Refuses bytes rule (place_after p (take n rest))
-
--- the bytes have no tokens, and aren't refused
-pub record HasNeither (bytes : List ℕ) : Type 0 where
-  pub no_tokens : (ls : List Lexeme) → IsTokens bytes ls → ⊥
-  pub no_refusal : (rule : Rule) (place : Place) → Refuses bytes rule place → ⊥
 
 -- a refusal is right; want of memory tells nothing
 abbrev pub IsDenial : List ℕ → Denied → Type 0

@@ -1,8 +1,9 @@
 -- The tokens of a file.
-use Rattle.std.specs.Prelude.{◌≡◌, ℕ, pos, Bool, true, false, ◌&&◌, not, List, [], ◌∷◌, ◌++◌, Some, slice_get}
+use Rattle.std.specs.Prelude.{◌≡◌, ◌<◌, ℕ, pos, Bool, true, false, ◌&&◌, not, List, [], ◌∷◌, ◌++◌, length, Some, slice_get}
 use Rattle.std.specs.List.{AllByRecursion, AllZip, fold}
 use Rattle.std.specs.Str.{IsUtf8}
 use Rattle.chor_base.specs.Words.{with_word}
+use Rattle.chor_base.specs.declared.names.NameId.{NameId}
 use Rattle.chor_base.specs.declared.rule.Place.{Place}
 use Rattle.chor_lexer.specs.declared.token.Kind.{Kind}
 use Rattle.chor_lexer.specs.declared.token.Kind.TheVariants.{Word, Number, Text, Mark, Last}
@@ -30,6 +31,10 @@ Spells names texts _ _ = ⊥
 -- token by token, with the same places
 abbrev pub AreSpelled : List (List ℕ) → List (List ℕ) → List Token → List Lexeme → Type 0
 AreSpelled names texts ts ls = AllZip (λ t l. Spells names texts t.kind l.symbol × (t.place ≡ l.place)) ts ls
+
+-- the number of a word is in the table
+abbrev pub IsKnown : List (List ℕ) → Token → Type 0
+IsKnown names t = (n : NameId) → t.kind ≡ Word n → n.0 < length names
 
 -- the names with the word of this symbol, where it is one
 abbrev pub with_name : List (List ℕ) → Symbol → List (List ℕ)

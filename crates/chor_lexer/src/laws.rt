@@ -1,6 +1,6 @@
 //! What holds of all bytes, and of all expressions.
 
-ghost use Rattle.std.specs.Prelude.{◌≡◌, ℕ, List, ◌∷◌, ◌++◌};
+ghost use Rattle.std.specs.Prelude.{◌≡◌, ◌⊎◌, ℕ, List, ◌∷◌, ◌++◌};
 ghost use Rattle.chor_base.specs.Words.{AllDistinct};
 ghost use Rattle.chor_base.specs.Expr.{Term};
 ghost use Rattle.chor_base.specs.declared.expr.BinOp.{BinOp};
@@ -8,12 +8,12 @@ ghost use Rattle.chor_base.specs.declared.rule.Place.{Place};
 ghost use Rattle.chor_base.specs.declared.rule.Rule.{Rule};
 ghost use Rattle.chor_lexer.specs.Lexeme.{Lexeme};
 ghost use Rattle.chor_lexer.specs.Tokens.{IsTokens, AreSpelled};
-ghost use Rattle.chor_lexer.specs.Refusal.{Refuses, HasNeither};
+ghost use Rattle.chor_lexer.specs.Refusal.{Refuses};
 ghost use Rattle.chor_lexer.specs.declared.token.Token.{Token};
 ghost use Rattle.chor_lexer.specs.Keywords.{HasMark};
 ghost use Rattle.chor_lexer.specs.Canonical.{binary_mark, expr_text};
 ghost use Rattle.chor_lexer.specs.Grammar.{IsExpr, IsLongestFront};
-ghost use Rattle.chor_lexer.specs.Spelling.{IsSource, IsAllButLast, expr_symbols, SpellAll};
+ghost use Rattle.chor_lexer.specs.Spelling.{IsSource, IsAllButLast, ReadsBack, expr_symbols, SpellAll};
 
 /// Bytes have one list of tokens at most.
 pub fn one_reading()
@@ -30,9 +30,9 @@ pub fn one_refusal()
     ensures { (bytes : List ℕ) (r s : Rule) (p q : Place) → Refuses bytes r p → Refuses bytes s q → (r ≡ s) × (p ≡ q) }
 {}
 
-/// No bytes have neither tokens nor a refusal.
-pub fn never_neither()
-    ensures { (bytes : List ℕ) → HasNeither bytes → ⊥ }
+/// All bytes have tokens, or are refused.
+pub fn one_or_the_other()
+    ensures { (bytes : List ℕ) → ((ls : List Lexeme) × IsTokens bytes ls) ⊎ ((rule : Rule) × (place : Place) × Refuses bytes rule place) }
 {}
 
 /// Tokens are one expression at most.
@@ -51,8 +51,14 @@ pub fn symbols_read_back()
     ensures { (names texts : List (List ℕ)) (x : Term) (ts : List Token) → AllDistinct names → AllDistinct texts → IsSource names texts x → SpellAll names texts ts (expr_symbols names texts x) → IsExpr names ts x }
 {}
 
-/// The canonical text of an expression reads back: where it has tokens, they are the expression,
-/// and then the end.
+/// An expression that tokens of a file derive is one of a source.
+pub fn derived_is_source()
+    ensures { (bytes : List ℕ) (names texts : List (List ℕ)) (ls : List Lexeme) (before written after : List Token) (x : Term) → IsTokens bytes ls → AreSpelled names texts (before ++ written ++ after) ls → IsExpr names written x → IsSource names texts x }
+{}
+
+/// The canonical text of an expression of a source reads back: it has tokens, and whatever tokens
+/// it has, they are the expression, and then the end.
 pub fn text_reads_back()
-    ensures { (names texts : List (List ℕ)) (x : Term) (ls : List Lexeme) (ts : List Token) → AllDistinct names → AllDistinct texts → IsSource names texts x → IsTokens (expr_text names texts x) ls → AreSpelled names texts ts ls → IsAllButLast names ts x }
+    ensures some { (names texts : List (List ℕ)) (x : Term) → AllDistinct names → AllDistinct texts → IsSource names texts x → ReadsBack names texts x }
+    ensures all { (names texts : List (List ℕ)) (x : Term) (ls : List Lexeme) (ts : List Token) → AllDistinct names → AllDistinct texts → IsSource names texts x → IsTokens (expr_text names texts x) ls → AreSpelled names texts ts ls → IsAllButLast names ts x }
 {}

@@ -1,8 +1,9 @@
 //! The tokens of a file.
 
 ghost use Rattle.std.specs.Prelude.{◌≡◌, ◌+◌, ◌-◌, ◌^◌, ◌<◌, ◌≤◌, ◌∷◌, ◌++◌, [], length, OnOk, IfOk, IfErr};
+ghost use Rattle.std.specs.List.{AllByRecursion};
 ghost use Rattle.chor_lexer.specs.Lexeme.{Symbol, word, text, IsLexeme};
-ghost use Rattle.chor_lexer.specs.Tokens.{AreTokensOf, with_name, with_text, Spells, Grows, HasSymbol};
+ghost use Rattle.chor_lexer.specs.Tokens.{AreTokensOf, IsKnown, with_name, with_text, Spells, Grows, HasSymbol};
 ghost use Rattle.chor_lexer.specs.Refusal.{IsDenial};
 ghost use Rattle.chor_lexer.specs.Scan.{HasForm, IsWritten};
 
@@ -28,6 +29,7 @@ pub fn tokens(
 ) -> Result<Tokens, Denied>
     requires { length bytes.now + length names.old + length texts.old < 2 ^ 32 - 1 }
     ensures found { IfOk result (λ tokens. AreTokensOf bytes.now names.old texts.old names.new texts.new tokens.items) }
+    ensures known { IfOk result (λ tokens. AllByRecursion (IsKnown names.new) tokens.items) }
     ensures denied { IfErr result (IsDenial bytes.now) }
     ensures names { Grows (λ w. HasSymbol bytes.now (word w)) names.old names.new }
     ensures texts { Grows (λ t. HasSymbol bytes.now (text t)) texts.old texts.new }

@@ -20,8 +20,8 @@ pub use canonical::print_expr;
 pub use expression::read_expr;
 pub use keyword::is_keyword;
 pub use laws::{
-    derived_is_longest, never_both, never_neither, one_expression, one_reading, one_refusal,
-    symbols_read_back, text_reads_back,
+    derived_is_longest, derived_is_source, never_both, one_expression, one_or_the_other,
+    one_reading, one_refusal, symbols_read_back, text_reads_back,
 };
 pub use lex::tokens;
 pub use mark::Mark;

@@ -1,5 +1,6 @@
 use Rattle.std.proofs.Common.{◌∙◌, sym, refl}
 use Rattle.std.proofs.lemmas.Bool.{eqb-true}
+use Rattle.chor_lexer.proofs.Known.{are_known}
 use Rattle.chor_lexer.proofs.Progress.{progress_none, progress_blank, progress_token, progress_fault, progress_end, progress_ended, progress_short, denied_malformed, names_on, texts_on}
 use Rattle.chor_lexer.proofs.lex.tokens.Goals as goal
 
@@ -46,3 +47,6 @@ invariant_of-result c = record {
 
 pub returns-clause-found : goal.returns-clause-found
 returns-clause-found c = progress_end _ _ _ _ _ _ _ _ _ c.loop-rest.invariant c.in_default.ensures.cases.1 (eqb-true _ _ (sym c.loop-rest-test.ensures)) c.in_ok-push.ensures.ok
+
+pub returns-clause-known : goal.returns-clause-known
+returns-clause-known c = are_known _ _ _ _ _ _ (progress_end _ _ _ _ _ _ _ _ _ c.loop-rest.invariant c.in_default.ensures.cases.1 (eqb-true _ _ (sym c.loop-rest-test.ensures)) c.in_ok-push.ensures.ok)
