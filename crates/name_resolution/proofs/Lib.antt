@@ -1,0 +1,5 @@
+pub mod Firsts
+pub mod Indexes
+pub mod Members
+pub mod Repeats
+pub mod Walks

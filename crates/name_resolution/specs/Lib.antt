@@ -1,0 +1,5 @@
+pub mod First
+pub mod Following
+pub mod Places
+pub mod Refusal
+pub mod Sets

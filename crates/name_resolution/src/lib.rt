@@ -1,0 +1,20 @@
+//! Names: each is declared, once, and what is listed fits what is declared.
+#![tactic(auto)]
+
+mod bodies;
+mod channels;
+mod declared;
+mod fault;
+mod functions;
+mod index;
+mod lists;
+mod named;
+mod procedures;
+mod protocols;
+mod resolving;
+mod scope;
+mod set;
+#[cfg(test)]
+mod tests;
+
+pub use resolving::resolve;
