@@ -12,6 +12,7 @@ use Rattle.chor_lexer.specs.declared.token.Kind.TheVariants as kind
 use Rattle.chor_lexer.specs.declared.token.Token.{Token}
 use Rattle.chor_lexer.specs.Keywords.{HasMark, HasWord, HasName}
 use Rattle.chor_lexer.specs.Grammar.{ExprIs}
+pub use Rattle.token_grammar.specs.Values.{StandsAt}
 use Rattle.chor_tree.specs.declared.file.Named.{Named}
 use Rattle.chor_tree.specs.declared.file.Service.{Service}
 use Rattle.chor_tree.specs.declared.file.ProcParam.{ProcParam}
@@ -46,13 +47,6 @@ pub record NameIs (names : List (List ℕ)) (ts : List Token) (n : Named) (rest 
   pub parts : ts ≡ token ∷ rest
   pub is : HasName names n.name token
   pub place : n.place ≡ token.place
-
--- the next token stands at this place
-pub record StandsAt (p : Place) (ts : List Token) : Type 0 where
-  pub token : Token
-  pub rest : List Token
-  pub parts : ts ≡ token ∷ rest
-  pub place : p ≡ token.place
 
 -- ---- lists
 

@@ -1,3 +1,9 @@
 pub mod Source
 pub mod Grammar
+pub mod Limits
+pub mod Parts
+pub mod Statements
+pub mod Blocks
+pub mod Files
+pub mod Faults
 pub mod Reading

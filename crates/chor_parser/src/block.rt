@@ -1,14 +1,18 @@
 //! Blocks of statements, in a table of nodes.
 
-ghost use Rattle.std.specs.Prelude.{◌≡◌, ◌<◌, ◌≤◌, ◌++◌, ◌∷◌, [], length, IfOk, IfSome, OnOk};
+ghost use Rattle.std.specs.Prelude.{◌≡◌, ◌-◌, ◌<◌, ◌≤◌, ◌++◌, ◌∷◌, [], length, IfOk, IfErr, IfSome, IfNone, OnOk};
+ghost use Rattle.chor_base.specs.declared.rule.Rule.TheVariants.{P3};
+ghost use Rattle.token_grammar.specs.Symbols.{Nothing, Head, Reads, Halts, RefusesFirst, Leads};
 ghost use Rattle.chor_parser.specs.Source.{block_in, blocks_of};
-ghost use Rattle.chor_parser.specs.Grammar.{MarkIs, StandsAt, BlockIs, TailIs, PassedAre, PassedSessionsAre};
-ghost use Rattle.chor_parser.specs.Reading.{names_of, tokens_from, with_lines, LinesGo, Grows, IsRestOfCall, IsRestOfConditional};
+ghost use Rattle.chor_parser.specs.Grammar.{MarkIs, StandsAt};
+ghost use Rattle.chor_parser.specs.Parts.{OrComma};
+ghost use Rattle.chor_parser.specs.Statements.{StatementFirst};
+ghost use Rattle.chor_parser.specs.Blocks.{BlockPart, LinesPart, LastPart, CallTail, IfTail, AllNamesPart, PassedSessionsPart, PassedSessionsMore, PassedPart, PassedMore};
+ghost use Rattle.chor_parser.specs.Reading.{names_of, tokens_from, with_lines, Grows};
 
 use crate::expression::read_expression;
 use crate::input::Input;
-use crate::limits::{OPEN_BLOCKS, STATEMENTS, UNLIMITED};
-use crate::lists::read_names;
+use crate::limits::{OPEN_BLOCKS, STATEMENTS};
 use crate::statement::{Statement, form_of, read_statement};
 use chor_base::{Denied, List, Memory, Place, Rule};
 use chor_lexer::Mark;
@@ -43,7 +47,8 @@ pub fn read_body(
     at: usize,
     tree: &mut Tree,
 ) -> Result<(NodeId, usize), Denied>
-    ensures read { IfOk result (λ x. BlockIs (names_of input.now) (tokens_from input.now at) (block_in (blocks_of tree.new.nodes) x.0) (tokens_from input.now x.1)) }
+    ensures reads { IfOk result (λ x. Reads (BlockPart 64 1024) Nothing (names_of input.now) (tokens_from input.now at) (block_in (blocks_of tree.new.nodes) x.0) (tokens_from input.now x.1)) }
+    ensures halts { IfErr result (Halts (BlockPart 64 1024) Nothing (names_of input.now) (tokens_from input.now at)) }
     ensures there { IfOk result (λ x. x.0.0 < length tree.new.nodes) }
     ensures grows { OnOk result (Grows tree.old.nodes tree.new.nodes) }
 {
@@ -64,14 +69,19 @@ fn read_block(
     tree: &mut Tree,
     room: Room,
 ) -> Result<(NodeId, usize), Denied>
-    ensures read { IfOk result (λ x. BlockIs (names_of input.now) (tokens_from input.now at) (block_in (blocks_of tree.new.nodes) x.0) (tokens_from input.now x.1)) }
+    ensures reads { IfOk result (λ x. Reads (BlockPart room.blocks room.statements) Nothing (names_of input.now) (tokens_from input.now at) (block_in (blocks_of tree.new.nodes) x.0) (tokens_from input.now x.1)) }
+    ensures halts { IfErr result (Halts (BlockPart room.blocks room.statements) Nothing (names_of input.now) (tokens_from input.now at)) }
     ensures there { IfOk result (λ x. x.0.0 < length tree.new.nodes) }
     ensures grows { OnOk result (Grows tree.old.nodes tree.new.nodes) }
 {
-    let at = open_block(input, at, room.blocks)?;
-    let (lines, at) = read_lines(alloc, input, at, room.statements)?;
-    let left = Room {
+    let at = open_block(input, at, room)?;
+    let inside = Room {
         blocks: room.blocks - 1,
+        statements: room.statements,
+    };
+    let (lines, at) = read_lines(alloc, input, at, inside)?;
+    let left = Room {
+        blocks: inside.blocks,
         statements: lines.left,
     };
     let (tail, at) = read_tail(alloc, input, at, tree, left)?;
@@ -80,30 +90,30 @@ fn read_block(
     Ok((first, at))
 }
 
-// The place after the brace that opens a block, where so many blocks may be opened.
-fn open_block(input: &Input, at: usize, blocks: usize) -> Result<usize, Denied>
+// The place after the brace that opens a block.
+fn open_block(input: &Input, at: usize, room: Room) -> Result<usize, Denied>
     ensures after { IfOk result (λ after. MarkIs Mark.OpenBrace (tokens_from input.now at) (tokens_from input.now after)) }
-    ensures room { OnOk result (0 < blocks) }
+    ensures room { OnOk result (0 < room.blocks) }
+    ensures halts { IfErr result (Halts (BlockPart room.blocks room.statements) Nothing (names_of input.now) (tokens_from input.now at)) }
 {
-    let after = input.take_mark(at, Mark::OpenBrace)?;
-    if blocks == 0 {
+    let Some(after) = input.after_mark(at, Mark::OpenBrace) else {
+        return Err(input.refused(Rule::P1, at));
+    };
+    if room.blocks == 0 {
         return Err(input.refused(Rule::P2, at));
     }
     Ok(after)
 }
 
-// { stmt ";" }, of which so many may stand here
-fn read_lines(
-    alloc: Global,
-    input: &Input,
-    at: usize,
-    statements: usize,
-) -> Result<(Lines, usize), Denied>
-    ensures read { IfOk result (λ x. LinesGo (names_of input.now) (tokens_from input.now at) x.0.items.items (tokens_from input.now x.1)) }
+// { stmt ";" }
+fn read_lines(alloc: Global, input: &Input, at: usize, room: Room) -> Result<(Lines, usize), Denied>
+    ensures leads { IfOk result (λ x. Leads (LinesPart room.blocks room.statements) Nothing (names_of input.now) (tokens_from input.now at) (LinesPart room.blocks x.0.left) Nothing (tokens_from input.now x.1) (with_lines x.0.items.items)) }
+    ensures halts { IfErr result (Halts (LinesPart room.blocks room.statements) Nothing (names_of input.now) (tokens_from input.now at)) }
+    ensures all { IfOk result (λ x. Head StatementFirst (names_of input.now) (tokens_from input.now x.1) → ⊥) }
     ensures shorter { IfOk result (λ x. length (tokens_from input.now x.1) ≤ length (tokens_from input.now at)) }
 {
     let mut lines = Vec::new(alloc);
-    let mut left = statements;
+    let mut left = room.statements;
     let mut at = at;
     while let Some(place) = statement_at(input, at) {
         room_for_statement(input, at, left)?;
@@ -124,7 +134,9 @@ fn push_line(lines: &mut Vec<Line>, line: Line) -> Result<(), Memory>
 
 // Where the statement stands in the file that begins here, if one does.
 fn statement_at(input: &Input, at: usize) -> Option<Place>
-    ensures { IfSome result (λ place. StandsAt place (tokens_from input.now at)) }
+    ensures at { IfSome result (λ place. StandsAt place (tokens_from input.now at)) }
+    ensures first { IfSome result (λ place. Head StatementFirst (names_of input.now) (tokens_from input.now at)) }
+    ensures none { IfNone result (Head StatementFirst (names_of input.now) (tokens_from input.now at) → ⊥) }
 {
     if let Some((name, _)) = input.name_at(at) {
         return Some(name.place);
@@ -135,7 +147,8 @@ fn statement_at(input: &Input, at: usize) -> Option<Place>
 
 // A statement or tail may stand here, where so many may.
 fn room_for_statement(input: &Input, at: usize, statements: usize) -> Result<(), Denied>
-    ensures { OnOk result (0 < statements) }
+    ensures room { OnOk result (0 < statements) }
+    ensures full { IfErr result (λ d. (statements ≡ 0) × RefusesFirst P3 (tokens_from input.now at) d) }
 {
     if statements == 0 {
         return Err(input.refused(Rule::P3, at));
@@ -144,7 +157,7 @@ fn room_for_statement(input: &Input, at: usize, statements: usize) -> Result<(),
 }
 
 // Adds statements before a node, the last one first, and answers the first one's number.
-fn push_lines(tree: &mut Tree, mut lines: Vec<Line>, tail: NodeId) -> Result<NodeId, Denied>
+fn push_lines(tree: &mut Tree, mut lines: Vec<Line>, tail: NodeId) -> Result<NodeId, Memory>
     requires { tail.0 < length tree.old.nodes }
     ensures block { IfOk result (λ id. block_in (blocks_of tree.new.nodes) id ≡ with_lines lines.items (block_in (blocks_of tree.old.nodes) tail)) }
     ensures there { IfOk result (λ id. id.0 < length tree.new.nodes) }
@@ -170,7 +183,8 @@ fn read_tail(
     tree: &mut Tree,
     room: Room,
 ) -> Result<(NodeId, usize), Denied>
-    ensures read { IfOk result (λ x. TailIs (names_of input.now) (tokens_from input.now at) (block_in (blocks_of tree.new.nodes) x.0) (tokens_from input.now x.1)) }
+    ensures reads { IfOk result (λ x. Reads (LastPart room.blocks room.statements) Nothing (names_of input.now) (tokens_from input.now at) (block_in (blocks_of tree.new.nodes) x.0) (tokens_from input.now x.1)) }
+    ensures halts { IfErr result (Halts (LastPart room.blocks room.statements) Nothing (names_of input.now) (tokens_from input.now at)) }
     ensures there { IfOk result (λ x. x.0.0 < length tree.new.nodes) }
     ensures grows { OnOk result (Grows tree.old.nodes tree.new.nodes) }
 {
@@ -188,7 +202,9 @@ fn read_tail(
         let (call, at) = read_call(alloc, input, after, tree, place)?;
         return Ok((call, at));
     }
-    let after = input.take_word(at, b"if")?;
+    let Some(after) = input.after_word(at, b"if") else {
+        return Err(input.refused(Rule::P1, at));
+    };
     room_for_statement(input, at, room.statements)?;
     let left = Room {
         blocks: room.blocks,
@@ -206,7 +222,8 @@ fn read_call(
     tree: &mut Tree,
     place: Place,
 ) -> Result<(NodeId, usize), Denied>
-    ensures read { IfOk result (λ x. IsRestOfCall (names_of input.now) place (tokens_from input.now at) (block_in (blocks_of tree.new.nodes) x.0) (tokens_from input.now x.1)) }
+    ensures reads { IfOk result (λ x. Reads (CallTail place) Nothing (names_of input.now) (tokens_from input.now at) (block_in (blocks_of tree.new.nodes) x.0) (tokens_from input.now x.1)) }
+    ensures halts { IfErr result (Halts (CallTail place) Nothing (names_of input.now) (tokens_from input.now at)) }
     ensures there { IfOk result (λ x. x.0.0 < length tree.new.nodes) }
     ensures grows { OnOk result (Grows tree.old.nodes tree.new.nodes) }
 {
@@ -232,16 +249,17 @@ struct Passed {
 
 // [ names [ ";" names ] ]
 fn read_passed(alloc: Global, input: &Input, at: usize) -> Result<(Passed, usize), Denied>
-    ensures read { IfOk result (λ x. PassedAre (names_of input.now) (tokens_from input.now at) x.0.processes x.0.sessions (tokens_from input.now x.1)) }
+    ensures reads { IfOk result (λ x. Reads PassedPart PassedMore (names_of input.now) (tokens_from input.now at) (x.0.processes, x.0.sessions) (tokens_from input.now x.1)) }
+    ensures halts { IfErr result (Halts PassedPart PassedMore (names_of input.now) (tokens_from input.now at)) }
 {
-    if input.name_at(at).is_none() {
+    if !input.has_name(at) {
         let passed = Passed {
             processes: List::new(alloc),
             sessions: List::new(alloc),
         };
         return Ok((passed, at));
     }
-    let (processes, at) = read_names(alloc, input, at, UNLIMITED)?;
+    let (processes, at) = read_all_names(alloc, input, at)?;
     let (sessions, at) = read_passed_sessions(alloc, input, at)?;
     let passed = Passed {
         processes,
@@ -256,12 +274,29 @@ fn read_passed_sessions(
     input: &Input,
     at: usize,
 ) -> Result<(List<Named>, usize), Denied>
-    ensures read { IfOk result (λ x. PassedSessionsAre (names_of input.now) (tokens_from input.now at) x.0 (tokens_from input.now x.1)) }
+    ensures reads { IfOk result (λ x. Reads PassedSessionsPart PassedSessionsMore (names_of input.now) (tokens_from input.now at) x.0 (tokens_from input.now x.1)) }
+    ensures halts { IfErr result (Halts PassedSessionsPart PassedSessionsMore (names_of input.now) (tokens_from input.now at)) }
 {
     match input.after_mark(at, Mark::Semicolon) {
-        Some(after) => read_names(alloc, input, after, UNLIMITED),
+        Some(after) => read_all_names(alloc, input, after),
         None => Ok((List::new(alloc), at)),
     }
+}
+
+// NAME { "," NAME }, without a limit
+fn read_all_names(alloc: Global, input: &Input, at: usize) -> Result<(List<Named>, usize), Denied>
+    ensures reads { IfOk result (λ x. Reads AllNamesPart (OrComma Nothing) (names_of input.now) (tokens_from input.now at) x.0 (tokens_from input.now x.1)) }
+    ensures halts { IfErr result (Halts AllNamesPart (OrComma Nothing) (names_of input.now) (tokens_from input.now at)) }
+{
+    let (first, mut at) = input.take_name(at)?;
+    let mut names = List::new(alloc);
+    names.push(first)?;
+    while let Some(after) = input.after_mark(at, Mark::Comma) {
+        let (name, more) = input.take_name(after)?;
+        names.push(name)?;
+        at = more;
+    }
+    Ok((names, at))
 }
 
 // "if" NAME "." expr block "else" block, after its keyword
@@ -274,7 +309,8 @@ fn read_if(
     room: Room,
     place: Place,
 ) -> Result<(NodeId, usize), Denied>
-    ensures read { IfOk result (λ x. IsRestOfConditional (names_of input.now) place (tokens_from input.now at) (block_in (blocks_of tree.new.nodes) x.0) (tokens_from input.now x.1)) }
+    ensures reads { IfOk result (λ x. Reads (IfTail room.blocks room.statements place) Nothing (names_of input.now) (tokens_from input.now at) (block_in (blocks_of tree.new.nodes) x.0) (tokens_from input.now x.1)) }
+    ensures halts { IfErr result (Halts (IfTail room.blocks room.statements place) Nothing (names_of input.now) (tokens_from input.now at)) }
     ensures there { IfOk result (λ x. x.0.0 < length tree.new.nodes) }
     ensures grows { OnOk result (Grows tree.old.nodes tree.new.nodes) }
 {

@@ -1,8 +1,9 @@
 //! Expressions.
 
-ghost use Rattle.std.specs.Prelude.{IfOk};
+ghost use Rattle.std.specs.Prelude.{IfOk, IfErr};
 ghost use Rattle.chor_base.specs.Expr.{term_of};
-ghost use Rattle.chor_lexer.specs.Grammar.{ExprIs};
+ghost use Rattle.token_grammar.specs.Symbols.{Reads, Halts};
+ghost use Rattle.token_grammar.specs.Expressions.{ExprPart, Operator};
 ghost use Rattle.chor_parser.specs.Reading.{names_of, tokens_from};
 
 use crate::input::Input;
@@ -12,7 +13,8 @@ use std::alloc::Global;
 
 // expr
 pub fn read_expression(alloc: Global, input: &Input, at: usize) -> Result<(Expr, usize), Denied>
-    ensures read { IfOk result (λ x. ExprIs (names_of input.now) (tokens_from input.now at) (term_of x.0) (tokens_from input.now x.1)) }
+    ensures reads { IfOk result (λ x. Reads ExprPart Operator (names_of input.now) (tokens_from input.now at) (term_of x.0) (tokens_from input.now x.1)) }
+    ensures halts { IfErr result (Halts ExprPart Operator (names_of input.now) (tokens_from input.now at)) }
 {
     if at >= input.tokens.items.len() {
         return Err(input.refused(Rule::P1, at));

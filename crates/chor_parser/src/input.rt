@@ -1,10 +1,13 @@
 //! Tokens, one by one.
 
-ghost use Rattle.std.specs.Prelude.{◌≡◌, ◌↔◌, ◌∷◌, ℕ, List, Some, IfSome, IfNone, IfOk, IsTrue, slice_get};
+ghost use Rattle.std.specs.Prelude.{◌≡◌, ◌↔◌, ◌∷◌, ◌-◌, ℕ, List, Some, IfSome, IfNone, IfOk, IfErr, OnOk, IsTrue, slice_get};
+ghost use Rattle.chor_base.specs.declared.rule.Rule.TheVariants.{P3};
 ghost use Rattle.chor_lexer.specs.declared.token.Token.{Token};
 ghost use Rattle.chor_lexer.specs.Keywords.{IsName};
 ghost use Rattle.chor_tree.specs.declared.file.Named.{Named};
+ghost use Rattle.token_grammar.specs.Symbols.{Nothing, Head, Halts, RefusesFirst, HasRoom, IsFull};
 ghost use Rattle.chor_parser.specs.Grammar.{NameIs, WordIs, MarkIs};
+ghost use Rattle.chor_parser.specs.Parts.{MarkPart, WordPart, NamePart, AName, IsKeyword};
 ghost use Rattle.chor_parser.specs.Reading.{names_of, tokens_from, Ends};
 
 use chor_base::{Denied, NameId, Names, Place, Refusal, Rule};
@@ -39,6 +42,13 @@ impl Input<'_> {
         Some((named, at + 1))
     }
 
+    // Whether a name stands here.
+    pub fn has_name(&self, at: usize) -> bool
+        ensures { IsTrue result ↔ Head AName (names_of self.now) (tokens_from self.now at) }
+    {
+        self.name_at(at).is_some()
+    }
+
     // Where this word stands, if here, and the place after it.
     pub fn after_word(&self, at: usize, word: &[u8]) -> Option<usize>
         ensures found { IfSome result (λ after. WordIs (names_of self.now) word.now (tokens_from self.now at) (tokens_from self.now after)) }
@@ -66,6 +76,7 @@ impl Input<'_> {
     // The name that has to stand here, and the place after it.
     pub fn take_name(&self, at: usize) -> Result<(Named, usize), Denied>
         ensures read { IfOk result (λ x. NameIs (names_of self.now) (tokens_from self.now at) x.0 (tokens_from self.now x.1)) }
+        ensures halts { IfErr result (Halts NamePart Nothing (names_of self.now) (tokens_from self.now at)) }
     {
         match self.name_at(at) {
             Some(found) => Ok(found),
@@ -76,6 +87,7 @@ impl Input<'_> {
     // The place after this word, which has to stand here.
     pub fn take_word(&self, at: usize, word: &[u8]) -> Result<usize, Denied>
         ensures read { IfOk result (λ after. WordIs (names_of self.now) word.now (tokens_from self.now at) (tokens_from self.now after)) }
+        ensures halts { IfErr result (λ d. IsKeyword word.now → Halts (WordPart word.now) Nothing (names_of self.now) (tokens_from self.now at) d) }
     {
         match self.after_word(at, word) {
             Some(after) => Ok(after),
@@ -86,6 +98,7 @@ impl Input<'_> {
     // The place after this mark, which has to stand here.
     pub fn take_mark(&self, at: usize, mark: Mark) -> Result<usize, Denied>
         ensures read { IfOk result (λ after. MarkIs mark (tokens_from self.now at) (tokens_from self.now after)) }
+        ensures halts { IfErr result (Halts (MarkPart mark) Nothing (names_of self.now) (tokens_from self.now at)) }
     {
         match self.after_mark(at, mark) {
             Some(after) => Ok(after),
@@ -94,15 +107,20 @@ impl Input<'_> {
     }
 
     // A name may stand here, unless it begins an item of a list that has all that it may have.
-    pub fn room_for_name(&self, at: usize, count: usize, limit: usize) -> Result<(), Denied> {
-        if count >= limit && self.name_at(at).is_some() {
+    pub fn room_for_name(&self, at: usize, count: usize, limit: usize) -> Result<(), Denied>
+        ensures room { OnOk result (HasRoom AName (names_of self.now) (tokens_from self.now at) (limit - count)) }
+        ensures full { IfErr result (IsFull AName (names_of self.now) (tokens_from self.now at) (limit - count) P3) }
+    {
+        if count >= limit && self.has_name(at) {
             return Err(self.refused(Rule::P3, at));
         }
         Ok(())
     }
 
     // The refusal of the token that stands here.
-    pub fn refused(&self, rule: Rule, at: usize) -> Denied {
+    pub fn refused(&self, rule: Rule, at: usize) -> Denied
+        ensures { RefusesFirst rule (tokens_from self.now at) result }
+    {
         Denied::Refused(Refusal {
             rule,
             place: self.place_of(at),
@@ -122,7 +140,7 @@ impl Input<'_> {
 
     // Whether the file ends here.
     pub fn is_end(&self, at: usize) -> bool
-        ensures { IsTrue result → Ends (tokens_from self.now at) }
+        ensures { IsTrue result ↔ Ends (tokens_from self.now at) }
     {
         match self.tokens.items.as_slice().get(at) {
             Some(token) => matches!(token.kind, Kind::Last),

@@ -4,6 +4,7 @@
 mod block;
 mod expression;
 mod input;
+mod laws;
 mod limits;
 mod lists;
 mod procedure;
@@ -13,4 +14,6 @@ mod statement;
 #[cfg(test)]
 mod tests;
 
+pub use laws::{never_refused, one_source};
+pub use name_resolution::resolve;
 pub use source::parse;

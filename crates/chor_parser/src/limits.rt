@@ -16,5 +16,3 @@ pub const PROCESSES: usize = 64;
 pub const OPEN_BLOCKS: usize = 64;
 /// Statements on one path of a body, its tail among them.
 pub const STATEMENTS: usize = 1024;
-/// For lists without a limit.
-pub const UNLIMITED: usize = usize::MAX;

@@ -1,7 +1,9 @@
 //! Lists of names and of parts.
 
-ghost use Rattle.std.specs.Prelude.{IfOk};
-ghost use Rattle.chor_parser.specs.Grammar.{ListIs, NamesAre, AnyNamesAre, PartIs};
+ghost use Rattle.std.specs.Prelude.{IfOk, IfErr};
+ghost use Rattle.token_grammar.specs.Symbols.{Nothing, Reads, Halts};
+ghost use Rattle.chor_parser.specs.Grammar.{PartIs};
+ghost use Rattle.chor_parser.specs.Parts.{OrComma, OrName, AnyListPart, NamesPart, AnyNamesPart, PartPart};
 ghost use Rattle.chor_parser.specs.Reading.{names_of, tokens_from};
 
 use crate::input::Input;
@@ -17,7 +19,8 @@ pub fn read_names(
     at: usize,
     limit: usize,
 ) -> Result<(List<Named>, usize), Denied>
-    ensures read { IfOk result (λ x. NamesAre (names_of input.now) (tokens_from input.now at) x.0 (tokens_from input.now x.1)) }
+    ensures reads { IfOk result (λ x. Reads (NamesPart limit) (OrComma Nothing) (names_of input.now) (tokens_from input.now at) x.0 (tokens_from input.now x.1)) }
+    ensures halts { IfErr result (Halts (NamesPart limit) (OrComma Nothing) (names_of input.now) (tokens_from input.now at)) }
 {
     input.room_for_name(at, 0, limit)?;
     let (first, mut at) = input.take_name(at)?;
@@ -39,9 +42,10 @@ pub fn read_any_names(
     at: usize,
     limit: usize,
 ) -> Result<(List<Named>, usize), Denied>
-    ensures read { IfOk result (λ x. AnyNamesAre (names_of input.now) (tokens_from input.now at) x.0 (tokens_from input.now x.1)) }
+    ensures reads { IfOk result (λ x. Reads (AnyNamesPart limit) OrName (names_of input.now) (tokens_from input.now at) x.0 (tokens_from input.now x.1)) }
+    ensures halts { IfErr result (Halts (AnyNamesPart limit) OrName (names_of input.now) (tokens_from input.now at)) }
 {
-    if input.name_at(at).is_some() {
+    if input.has_name(at) {
         read_names(alloc, input, at, limit)
     } else {
         Ok((List::new(alloc), at))
@@ -50,7 +54,8 @@ pub fn read_any_names(
 
 // part = NAME "[" NAME "]"
 pub fn read_part(input: &Input, at: usize) -> Result<(Part, usize), Denied>
-    ensures read { IfOk result (λ x. PartIs (names_of input.now) (tokens_from input.now at) x.0 (tokens_from input.now x.1)) }
+    ensures reads { IfOk result (λ x. Reads PartPart Nothing (names_of input.now) (tokens_from input.now at) x.0 (tokens_from input.now x.1)) }
+    ensures halts { IfErr result (Halts PartPart Nothing (names_of input.now) (tokens_from input.now at)) }
 {
     let (process, at) = input.take_name(at)?;
     let at = input.take_mark(at, Mark::OpenBracket)?;
@@ -61,7 +66,8 @@ pub fn read_part(input: &Input, at: usize) -> Result<(Part, usize), Denied>
 
 // part { "," part }
 pub fn read_parts(alloc: Global, input: &Input, at: usize) -> Result<(List<Part>, usize), Denied>
-    ensures read { IfOk result (λ x. ListIs (PartIs (names_of input.now)) (tokens_from input.now at) x.0 (tokens_from input.now x.1)) }
+    ensures reads { IfOk result (λ x. Reads (AnyListPart PartIs) (OrComma Nothing) (names_of input.now) (tokens_from input.now at) x.0 (tokens_from input.now x.1)) }
+    ensures halts { IfErr result (Halts (AnyListPart PartIs) (OrComma Nothing) (names_of input.now) (tokens_from input.now at)) }
 {
     let (first, mut at) = read_part(input, at)?;
     let mut parts = List::new(alloc);

@@ -1,7 +1,8 @@
 //! The heads of procedures.
 
-ghost use Rattle.std.specs.Prelude.{IfOk};
-ghost use Rattle.chor_parser.specs.Grammar.{ListIs, VariableIs, VariablesAre, ProcParamIs, HolderIs, SessionParamIs, SessionsAre, ParamsAre};
+ghost use Rattle.std.specs.Prelude.{IfOk, IfErr};
+ghost use Rattle.token_grammar.specs.Symbols.{Nothing, Reads, Halts};
+ghost use Rattle.chor_parser.specs.Parts.{OrComma, AParen, OrSession, OrParams, VariablePart, VarsPart, VariablesPart, ProcParamPart, ProcParamsPart, HolderPart, HoldersPart, SessionParamPart, SessionParamsPart, SessionsPart, ParamsPart};
 ghost use Rattle.chor_parser.specs.Reading.{names_of, tokens_from};
 
 use crate::input::Input;
@@ -25,9 +26,10 @@ pub fn read_parameters(
     input: &Input,
     at: usize,
 ) -> Result<(Parameters, usize), Denied>
-    ensures read { IfOk result (λ x. ParamsAre (names_of input.now) (tokens_from input.now at) x.0.params x.0.sessions (tokens_from input.now x.1)) }
+    ensures reads { IfOk result (λ x. Reads ParamsPart OrParams (names_of input.now) (tokens_from input.now at) (x.0.params, x.0.sessions) (tokens_from input.now x.1)) }
+    ensures halts { IfErr result (Halts ParamsPart OrParams (names_of input.now) (tokens_from input.now at)) }
 {
-    if input.name_at(at).is_none() {
+    if !input.has_name(at) {
         let parameters = Parameters {
             params: List::new(alloc),
             sessions: List::new(alloc),
@@ -45,7 +47,8 @@ fn read_process_params(
     input: &Input,
     at: usize,
 ) -> Result<(List<ProcParam>, usize), Denied>
-    ensures read { IfOk result (λ x. ListIs (ProcParamIs (names_of input.now)) (tokens_from input.now at) x.0 (tokens_from input.now x.1)) }
+    ensures reads { IfOk result (λ x. Reads ProcParamsPart (OrComma AParen) (names_of input.now) (tokens_from input.now at) x.0 (tokens_from input.now x.1)) }
+    ensures halts { IfErr result (Halts ProcParamsPart (OrComma AParen) (names_of input.now) (tokens_from input.now at)) }
 {
     let (first, mut at) = read_process_param(alloc, input, at)?;
     let mut params = List::new(alloc);
@@ -61,7 +64,8 @@ fn read_process_params(
 
 // pparam = NAME [ "(" NAME ":" sort { "," NAME ":" sort } ")" ]
 fn read_process_param(alloc: Global, input: &Input, at: usize) -> Result<(ProcParam, usize), Denied>
-    ensures read { IfOk result (λ x. ProcParamIs (names_of input.now) (tokens_from input.now at) x.0 (tokens_from input.now x.1)) }
+    ensures reads { IfOk result (λ x. Reads ProcParamPart AParen (names_of input.now) (tokens_from input.now at) x.0 (tokens_from input.now x.1)) }
+    ensures halts { IfErr result (Halts ProcParamPart AParen (names_of input.now) (tokens_from input.now at)) }
 {
     let (name, at) = input.take_name(at)?;
     let (vars, at) = read_any_vars(alloc, input, at)?;
@@ -74,7 +78,8 @@ fn read_any_vars(
     input: &Input,
     at: usize,
 ) -> Result<(List<(Named, Sort)>, usize), Denied>
-    ensures read { IfOk result (λ x. VariablesAre (names_of input.now) (tokens_from input.now at) x.0 (tokens_from input.now x.1)) }
+    ensures reads { IfOk result (λ x. Reads VariablesPart AParen (names_of input.now) (tokens_from input.now at) x.0 (tokens_from input.now x.1)) }
+    ensures halts { IfErr result (Halts VariablesPart AParen (names_of input.now) (tokens_from input.now at)) }
 {
     let Some(after) = input.after_mark(at, Mark::OpenParen) else {
         return Ok((List::new(alloc), at));
@@ -90,7 +95,8 @@ fn read_vars(
     input: &Input,
     at: usize,
 ) -> Result<(List<(Named, Sort)>, usize), Denied>
-    ensures read { IfOk result (λ x. ListIs (VariableIs (names_of input.now)) (tokens_from input.now at) x.0 (tokens_from input.now x.1)) }
+    ensures reads { IfOk result (λ x. Reads VarsPart (OrComma Nothing) (names_of input.now) (tokens_from input.now at) x.0 (tokens_from input.now x.1)) }
+    ensures halts { IfErr result (Halts VarsPart (OrComma Nothing) (names_of input.now) (tokens_from input.now at)) }
 {
     let (first, mut at) = read_var(input, at)?;
     let mut vars = List::new(alloc);
@@ -106,7 +112,8 @@ fn read_vars(
 
 // NAME ":" sort
 fn read_var(input: &Input, at: usize) -> Result<((Named, Sort), usize), Denied>
-    ensures read { IfOk result (λ x. VariableIs (names_of input.now) (tokens_from input.now at) x.0 (tokens_from input.now x.1)) }
+    ensures reads { IfOk result (λ x. Reads VariablePart Nothing (names_of input.now) (tokens_from input.now at) x.0 (tokens_from input.now x.1)) }
+    ensures halts { IfErr result (Halts VariablePart Nothing (names_of input.now) (tokens_from input.now at)) }
 {
     let (name, at) = input.take_name(at)?;
     let at = input.take_mark(at, Mark::Colon)?;
@@ -120,7 +127,8 @@ fn read_sessions(
     input: &Input,
     at: usize,
 ) -> Result<(List<SessionParam>, usize), Denied>
-    ensures read { IfOk result (λ x. SessionsAre (names_of input.now) (tokens_from input.now at) x.0 (tokens_from input.now x.1)) }
+    ensures reads { IfOk result (λ x. Reads SessionsPart OrSession (names_of input.now) (tokens_from input.now at) x.0 (tokens_from input.now x.1)) }
+    ensures halts { IfErr result (Halts SessionsPart OrSession (names_of input.now) (tokens_from input.now at)) }
 {
     match input.after_mark(at, Mark::Semicolon) {
         Some(at) => read_session_params(alloc, input, at),
@@ -134,7 +142,8 @@ fn read_session_params(
     input: &Input,
     at: usize,
 ) -> Result<(List<SessionParam>, usize), Denied>
-    ensures read { IfOk result (λ x. ListIs (SessionParamIs (names_of input.now)) (tokens_from input.now at) x.0 (tokens_from input.now x.1)) }
+    ensures reads { IfOk result (λ x. Reads SessionParamsPart (OrComma Nothing) (names_of input.now) (tokens_from input.now at) x.0 (tokens_from input.now x.1)) }
+    ensures halts { IfErr result (Halts SessionParamsPart (OrComma Nothing) (names_of input.now) (tokens_from input.now at)) }
 {
     let (first, mut at) = read_session_param(alloc, input, at)?;
     let mut sessions = List::new(alloc);
@@ -154,7 +163,8 @@ fn read_session_param(
     input: &Input,
     at: usize,
 ) -> Result<(SessionParam, usize), Denied>
-    ensures read { IfOk result (λ x. SessionParamIs (names_of input.now) (tokens_from input.now at) x.0 (tokens_from input.now x.1)) }
+    ensures reads { IfOk result (λ x. Reads SessionParamPart Nothing (names_of input.now) (tokens_from input.now at) x.0 (tokens_from input.now x.1)) }
+    ensures halts { IfErr result (Halts SessionParamPart Nothing (names_of input.now) (tokens_from input.now at)) }
 {
     let (name, at) = input.take_name(at)?;
     let at = input.take_mark(at, Mark::Colon)?;
@@ -179,7 +189,8 @@ fn read_holders(
     input: &Input,
     at: usize,
 ) -> Result<(List<(Named, Named)>, usize), Denied>
-    ensures read { IfOk result (λ x. ListIs (HolderIs (names_of input.now)) (tokens_from input.now at) x.0 (tokens_from input.now x.1)) }
+    ensures reads { IfOk result (λ x. Reads HoldersPart (OrComma Nothing) (names_of input.now) (tokens_from input.now at) x.0 (tokens_from input.now x.1)) }
+    ensures halts { IfErr result (Halts HoldersPart (OrComma Nothing) (names_of input.now) (tokens_from input.now at)) }
 {
     let (first, mut at) = read_holder(input, at)?;
     let mut holders = List::new(alloc);
@@ -194,7 +205,8 @@ fn read_holders(
 
 // NAME "=" NAME
 fn read_holder(input: &Input, at: usize) -> Result<((Named, Named), usize), Denied>
-    ensures read { IfOk result (λ x. HolderIs (names_of input.now) (tokens_from input.now at) x.0 (tokens_from input.now x.1)) }
+    ensures reads { IfOk result (λ x. Reads HolderPart Nothing (names_of input.now) (tokens_from input.now at) x.0 (tokens_from input.now x.1)) }
+    ensures halts { IfErr result (Halts HolderPart Nothing (names_of input.now) (tokens_from input.now at)) }
 {
     let (role, at) = input.take_name(at)?;
     let at = input.take_mark(at, Mark::Assign)?;

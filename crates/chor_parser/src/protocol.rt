@@ -1,10 +1,12 @@
 //! Protocols and services.
 
-ghost use Rattle.std.specs.Prelude.{List, IfOk, IfSome, IfNone};
+ghost use Rattle.std.specs.Prelude.{◌-◌, List, codes, IfOk, IfErr, IfSome, IfNone};
 ghost use Rattle.chor_base.specs.declared.value.Sort.{Sort};
 ghost use Rattle.chor_lexer.specs.declared.token.Token.{Token};
-ghost use Rattle.chor_parser.specs.Grammar.{ListIs, SortIs, PayloadIs, ArmIs, StepIs, StateIs, StatesAre, ServedAre};
-ghost use Rattle.chor_parser.specs.Reading.{names_of, tokens_from, IsRestOfProtocol, IsRestOfStep, IsRestOfService};
+ghost use Rattle.token_grammar.specs.Symbols.{Nothing, Reads, Halts};
+ghost use Rattle.chor_parser.specs.Grammar.{SortIs};
+ghost use Rattle.chor_parser.specs.Parts.{AName, OrComma, OrBar, SortPart, PayloadPart, ArmPart, ArmsPart, StepPart, StatePart, StatesPart, ProtocolPart, ServedPart, ServicePart};
+ghost use Rattle.chor_parser.specs.Reading.{names_of, tokens_from, AfterWord, AfterColon};
 
 use crate::input::Input;
 use crate::limits::{LABELS, ROLES, STATES};
@@ -16,7 +18,8 @@ use std::alloc::Global;
 
 // protocol = "protocol" NAME "(" names ")" "{" state { state } "}", after its keyword
 pub fn read_protocol(alloc: Global, input: &Input, at: usize) -> Result<(Protocol, usize), Denied>
-    ensures read { IfOk result (λ x. IsRestOfProtocol (names_of input.now) (tokens_from input.now at) x.0 (tokens_from input.now x.1)) }
+    ensures reads { IfOk result (λ x. AfterWord (names_of input.now) (codes "protocol") (tokens_from input.now at) (λ t0. Reads ProtocolPart Nothing (names_of input.now) t0 x.0 (tokens_from input.now x.1))) }
+    ensures halts { IfErr result (λ d. AfterWord (names_of input.now) (codes "protocol") (tokens_from input.now at) (λ t0. Halts ProtocolPart Nothing (names_of input.now) t0 d)) }
 {
     let (name, at) = input.take_name(at)?;
     let at = input.take_mark(at, Mark::OpenParen)?;
@@ -37,12 +40,13 @@ pub fn read_protocol(alloc: Global, input: &Input, at: usize) -> Result<(Protoco
 
 // state { state }
 fn read_states(alloc: Global, input: &Input, at: usize) -> Result<(List<State>, usize), Denied>
-    ensures read { IfOk result (λ x. StatesAre (names_of input.now) (tokens_from input.now at) x.0 (tokens_from input.now x.1)) }
+    ensures reads { IfOk result (λ x. Reads StatesPart AName (names_of input.now) (tokens_from input.now at) x.0 (tokens_from input.now x.1)) }
+    ensures halts { IfErr result (Halts StatesPart AName (names_of input.now) (tokens_from input.now at)) }
 {
     let (first, mut at) = read_state(alloc, input, at)?;
     let mut states = List::new(alloc);
     states.push(first)?;
-    'states: while input.name_at(at).is_some() {
+    'states: while input.has_name(at) {
         input.room_for_name(at, states.len(), STATES)?;
         let (state, more) = read_state(alloc, input, at)?;
         states.push(state)?;
@@ -53,7 +57,8 @@ fn read_states(alloc: Global, input: &Input, at: usize) -> Result<(List<State>, 
 
 // state = NAME "=" step ";"
 fn read_state(alloc: Global, input: &Input, at: usize) -> Result<(State, usize), Denied>
-    ensures read { IfOk result (λ x. StateIs (names_of input.now) (tokens_from input.now at) x.0 (tokens_from input.now x.1)) }
+    ensures reads { IfOk result (λ x. Reads StatePart Nothing (names_of input.now) (tokens_from input.now at) x.0 (tokens_from input.now x.1)) }
+    ensures halts { IfErr result (Halts StatePart Nothing (names_of input.now) (tokens_from input.now at)) }
 {
     let (name, at) = input.take_name(at)?;
     let at = input.take_mark(at, Mark::Assign)?;
@@ -64,7 +69,8 @@ fn read_state(alloc: Global, input: &Input, at: usize) -> Result<(State, usize),
 
 // step = "end" | NAME "->" NAME ":" payload "then" NAME | NAME "->" NAME "{" arm { "," arm } "}"
 fn read_step(alloc: Global, input: &Input, at: usize) -> Result<(ProtoStep, usize), Denied>
-    ensures read { IfOk result (λ x. StepIs (names_of input.now) (tokens_from input.now at) x.0 (tokens_from input.now x.1)) }
+    ensures reads { IfOk result (λ x. Reads StepPart Nothing (names_of input.now) (tokens_from input.now at) x.0 (tokens_from input.now x.1)) }
+    ensures halts { IfErr result (Halts StepPart Nothing (names_of input.now) (tokens_from input.now at)) }
 {
     if let Some(at) = input.after_word(at, b"end") {
         return Ok((ProtoStep::End, at));
@@ -89,7 +95,8 @@ fn read_value_step(
     input: &Input,
     at: usize,
 ) -> Result<(ProtoStep, usize), Denied>
-    ensures read { IfOk result (λ x. IsRestOfStep (names_of input.now) from to (tokens_from input.now at) x.0 (tokens_from input.now x.1)) }
+    ensures reads { IfOk result (λ x. AfterColon (names_of input.now) from to (tokens_from input.now at) (λ t0. Reads StepPart Nothing (names_of input.now) t0 x.0 (tokens_from input.now x.1))) }
+    ensures halts { IfErr result (λ d. AfterColon (names_of input.now) from to (tokens_from input.now at) (λ t0. Halts StepPart Nothing (names_of input.now) t0 d)) }
 {
     let (payload, at) = read_payload(input, at)?;
     let at = input.take_word(at, b"then")?;
@@ -105,7 +112,8 @@ fn read_value_step(
 
 // arm { "," arm }
 fn read_arms(alloc: Global, input: &Input, at: usize) -> Result<(List<ProtoArm>, usize), Denied>
-    ensures read { IfOk result (λ x. ListIs (ArmIs (names_of input.now)) (tokens_from input.now at) x.0 (tokens_from input.now x.1)) }
+    ensures reads { IfOk result (λ x. Reads (ArmsPart 64) (OrComma Nothing) (names_of input.now) (tokens_from input.now at) x.0 (tokens_from input.now x.1)) }
+    ensures halts { IfErr result (Halts (ArmsPart 64) (OrComma Nothing) (names_of input.now) (tokens_from input.now at)) }
 {
     let (first, mut at) = read_arm(input, at)?;
     let mut arms = List::new(alloc);
@@ -121,7 +129,8 @@ fn read_arms(alloc: Global, input: &Input, at: usize) -> Result<(List<ProtoArm>,
 
 // arm = NAME "then" NAME
 fn read_arm(input: &Input, at: usize) -> Result<(ProtoArm, usize), Denied>
-    ensures read { IfOk result (λ x. ArmIs (names_of input.now) (tokens_from input.now at) x.0 (tokens_from input.now x.1)) }
+    ensures reads { IfOk result (λ x. Reads ArmPart Nothing (names_of input.now) (tokens_from input.now at) x.0 (tokens_from input.now x.1)) }
+    ensures halts { IfErr result (Halts ArmPart Nothing (names_of input.now) (tokens_from input.now at)) }
 {
     let (label, at) = input.take_name(at)?;
     let at = input.take_word(at, b"then")?;
@@ -131,7 +140,8 @@ fn read_arm(input: &Input, at: usize) -> Result<(ProtoArm, usize), Denied>
 
 // payload = sort | NAME "." NAME "@" NAME
 fn read_payload(input: &Input, at: usize) -> Result<(Payload, usize), Denied>
-    ensures read { IfOk result (λ x. PayloadIs (names_of input.now) (tokens_from input.now at) x.0 (tokens_from input.now x.1)) }
+    ensures reads { IfOk result (λ x. Reads PayloadPart Nothing (names_of input.now) (tokens_from input.now at) x.0 (tokens_from input.now x.1)) }
+    ensures halts { IfErr result (Halts PayloadPart Nothing (names_of input.now) (tokens_from input.now at)) }
 {
     if let Some((sort, at)) = sort_at(input, at) {
         return Ok((Payload::Plain(sort), at));
@@ -167,6 +177,7 @@ fn sort_at(input: &Input, at: usize) -> Option<(Sort, usize)>
 // sort
 pub fn take_sort(input: &Input, at: usize) -> Result<(Sort, usize), Denied>
     ensures read { IfOk result (λ x. SortIs (names_of input.now) (tokens_from input.now at) x.0 (tokens_from input.now x.1)) }
+    ensures halts { IfErr result (Halts SortPart Nothing (names_of input.now) (tokens_from input.now at)) }
 {
     match sort_at(input, at) {
         Some(found) => Ok(found),
@@ -176,7 +187,8 @@ pub fn take_sort(input: &Input, at: usize) -> Result<(Sort, usize), Denied>
 
 // service = "service" NAME ":" NAME "(" names [ "|" names ] ")" ";", after its keyword
 pub fn read_service(alloc: Global, input: &Input, at: usize) -> Result<(Service, usize), Denied>
-    ensures read { IfOk result (λ x. IsRestOfService (names_of input.now) (tokens_from input.now at) x.0 (tokens_from input.now x.1)) }
+    ensures reads { IfOk result (λ x. AfterWord (names_of input.now) (codes "service") (tokens_from input.now at) (λ t0. Reads ServicePart Nothing (names_of input.now) t0 x.0 (tokens_from input.now x.1))) }
+    ensures halts { IfErr result (λ d. AfterWord (names_of input.now) (codes "service") (tokens_from input.now at) (λ t0. Halts ServicePart Nothing (names_of input.now) t0 d)) }
 {
     let (name, at) = input.take_name(at)?;
     let at = input.take_mark(at, Mark::Colon)?;
@@ -202,7 +214,8 @@ fn read_serve(
     at: usize,
     active: usize,
 ) -> Result<(List<Named>, usize), Denied>
-    ensures read { IfOk result (λ x. ServedAre (names_of input.now) (tokens_from input.now at) x.0 (tokens_from input.now x.1)) }
+    ensures reads { IfOk result (λ x. Reads (ServedPart (16 - active)) OrBar (names_of input.now) (tokens_from input.now at) x.0 (tokens_from input.now x.1)) }
+    ensures halts { IfErr result (Halts (ServedPart (16 - active)) OrBar (names_of input.now) (tokens_from input.now at)) }
 {
     match input.after_mark(at, Mark::Bar) {
         Some(at) => read_names(alloc, input, at, ROLES.saturating_sub(active)),

@@ -1,9 +1,13 @@
 //! Whole sources.
 
-ghost use Rattle.std.specs.Prelude.{◌≡◌, ◌<◌, codes, length, IfOk, OnOk, IfSome, IfNone};
+ghost use Rattle.std.specs.Prelude.{◌≡◌, ◌<◌, codes, length, IfOk, IfErr, OnOk, OnErr, IfSome, IfNone};
+ghost use Rattle.std.specs.List.{AllByRecursion};
+ghost use Rattle.chor_lexer.specs.Tokens.{IsKnown};
+ghost use Rattle.token_grammar.specs.Symbols.{Nothing, Head, Reads, Halts};
 ghost use Rattle.chor_parser.specs.Source.{block_in, blocks_of, procedure_of, source_of};
-ghost use Rattle.chor_parser.specs.Grammar.{FileIs};
-ghost use Rattle.chor_parser.specs.Reading.{names_of, tokens_from, Grows, AreThere, IsRestOfProcedure, IsRestOfMain, IsRestOfItem, ItemGoes, ItemsGo};
+ghost use Rattle.chor_parser.specs.Faults.{IsWithin, IsRefusal};
+ghost use Rattle.chor_parser.specs.Files.{ProcedurePart, AnItemPart, ItemFirst, ItemsPart, MainPart, main_of};
+ghost use Rattle.chor_parser.specs.Reading.{names_of, tokens_from, items_of, Grows, AreThere, AfterWord, ItemGoes};
 
 use crate::block::read_body;
 use crate::input::Input;
@@ -22,7 +26,9 @@ use std::alloc::Global;
 /// blocks stand too deep or an expression is too long, and by P3 at the first item that is one too
 /// many in its list or on its path.
 pub fn parse(alloc: Global, tokens: &Tokens, names: Names, texts: Texts) -> Result<File, Denied>
-    ensures found { IfOk result (λ file. FileIs names tokens.now.items (source_of file)) }
+    requires known { AllByRecursion (IsKnown names) tokens.now.items }
+    ensures found { IfOk result (λ file. IsWithin names tokens.now.items (source_of file)) }
+    ensures denied { IfErr result (IsRefusal names tokens.now.items) }
     ensures names { IfOk result (λ file. file.names ≡ names) }
     ensures texts { IfOk result (λ file. file.texts ≡ texts) }
     ensures body { IfOk result (λ file. file.body.0 < length file.tree.nodes) }
@@ -66,7 +72,8 @@ struct Declared {
 
 // { protocol | service | proc }
 fn read_items(alloc: Global, input: &Input) -> Result<(Declared, usize), Denied>
-    ensures read { IfOk result (λ x. ItemsGo (names_of input.now) (tokens_from input.now 0) x.0 (tokens_from input.now x.1)) }
+    ensures reads { IfOk result (λ x. Reads ItemsPart ItemFirst (names_of input.now) (tokens_from input.now 0) (items_of x.0) (tokens_from input.now x.1)) }
+    ensures halts { IfErr result (Halts ItemsPart ItemFirst (names_of input.now) (tokens_from input.now 0)) }
     ensures there { IfOk result (λ x. AreThere x.0.tree.nodes x.0.procs) }
 {
     let protocols = List::new(alloc);
@@ -99,6 +106,9 @@ fn read_item(
     requires { AreThere items.old.tree.nodes items.old.procs }
     ensures some { IfOk result (λ found. IfSome found (λ next. ItemGoes (names_of input.now) (tokens_from input.now at) items.old items.new (tokens_from input.now next))) }
     ensures none { IfOk result (λ found. IfNone found (items.new ≡ items.old)) }
+    ensures over { IfOk result (λ found. IfNone found (Head ItemFirst (names_of input.now) (tokens_from input.now at) → ⊥)) }
+    ensures begun { OnErr result (Head ItemFirst (names_of input.now) (tokens_from input.now at)) }
+    ensures halts { IfErr result (Halts AnItemPart Nothing (names_of input.now) (tokens_from input.now at)) }
     ensures there { OnOk result (AreThere items.new.tree.nodes items.new.procs) }
 {
     if let Some(at) = input.after_word(at, b"protocol") {
@@ -124,7 +134,8 @@ fn add_protocol(
     items: &mut Declared,
 ) -> Result<usize, Denied>
     requires { AreThere items.old.tree.nodes items.old.procs }
-    ensures goes { IfOk result (λ next. IsRestOfItem (names_of input.now) (codes "protocol") (tokens_from input.now at) items.old items.new (tokens_from input.now next)) }
+    ensures goes { IfOk result (λ next. AfterWord (names_of input.now) (codes "protocol") (tokens_from input.now at) (λ t0. ItemGoes (names_of input.now) t0 items.old items.new (tokens_from input.now next))) }
+    ensures halts { IfErr result (λ d. AfterWord (names_of input.now) (codes "protocol") (tokens_from input.now at) (λ t0. Halts AnItemPart Nothing (names_of input.now) t0 d)) }
     ensures there { OnOk result (AreThere items.new.tree.nodes items.new.procs) }
 {
     let (protocol, at) = read_protocol(alloc, input, at)?;
@@ -140,7 +151,8 @@ fn add_service(
     items: &mut Declared,
 ) -> Result<usize, Denied>
     requires { AreThere items.old.tree.nodes items.old.procs }
-    ensures goes { IfOk result (λ next. IsRestOfItem (names_of input.now) (codes "service") (tokens_from input.now at) items.old items.new (tokens_from input.now next)) }
+    ensures goes { IfOk result (λ next. AfterWord (names_of input.now) (codes "service") (tokens_from input.now at) (λ t0. ItemGoes (names_of input.now) t0 items.old items.new (tokens_from input.now next))) }
+    ensures halts { IfErr result (λ d. AfterWord (names_of input.now) (codes "service") (tokens_from input.now at) (λ t0. Halts AnItemPart Nothing (names_of input.now) t0 d)) }
     ensures there { OnOk result (AreThere items.new.tree.nodes items.new.procs) }
 {
     let (service, at) = read_service(alloc, input, at)?;
@@ -156,7 +168,8 @@ fn add_procedure(
     items: &mut Declared,
 ) -> Result<usize, Denied>
     requires { AreThere items.old.tree.nodes items.old.procs }
-    ensures goes { IfOk result (λ next. IsRestOfItem (names_of input.now) (codes "proc") (tokens_from input.now at) items.old items.new (tokens_from input.now next)) }
+    ensures goes { IfOk result (λ next. AfterWord (names_of input.now) (codes "proc") (tokens_from input.now at) (λ t0. ItemGoes (names_of input.now) t0 items.old items.new (tokens_from input.now next))) }
+    ensures halts { IfErr result (λ d. AfterWord (names_of input.now) (codes "proc") (tokens_from input.now at) (λ t0. Halts AnItemPart Nothing (names_of input.now) t0 d)) }
     ensures there { OnOk result (AreThere items.new.tree.nodes items.new.procs) }
 {
     let (procedure, at) = read_procedure(alloc, input, at, &mut items.tree)?;
@@ -171,7 +184,8 @@ fn read_procedure(
     at: usize,
     tree: &mut Tree,
 ) -> Result<(Proc, usize), Denied>
-    ensures read { IfOk result (λ x. IsRestOfProcedure (names_of input.now) (tokens_from input.now at) (procedure_of tree.new.nodes x.0) (tokens_from input.now x.1)) }
+    ensures reads { IfOk result (λ x. AfterWord (names_of input.now) (codes "proc") (tokens_from input.now at) (λ t0. Reads ProcedurePart Nothing (names_of input.now) t0 (procedure_of tree.new.nodes x.0) (tokens_from input.now x.1))) }
+    ensures halts { IfErr result (λ d. AfterWord (names_of input.now) (codes "proc") (tokens_from input.now at) (λ t0. Halts ProcedurePart Nothing (names_of input.now) t0 d)) }
     ensures there { IfOk result (λ x. x.0.body.0 < length tree.new.nodes) }
     ensures grows { OnOk result (Grows tree.old.nodes tree.new.nodes) }
 {
@@ -203,7 +217,8 @@ fn read_main(
     at: usize,
     tree: &mut Tree,
 ) -> Result<(Main, usize), Denied>
-    ensures read { IfOk result (λ x. IsRestOfMain (names_of input.now) (tokens_from input.now at) x.0.processes (block_in (blocks_of tree.new.nodes) x.0.body) (tokens_from input.now x.1)) }
+    ensures reads { IfOk result (λ x. Reads MainPart Nothing (names_of input.now) (tokens_from input.now at) (main_of x.0.processes (block_in (blocks_of tree.new.nodes) x.0.body)) (tokens_from input.now x.1)) }
+    ensures halts { IfErr result (Halts MainPart Nothing (names_of input.now) (tokens_from input.now at)) }
     ensures there { IfOk result (λ x. x.0.body.0 < length tree.new.nodes) }
     ensures grows { OnOk result (Grows tree.old.nodes tree.new.nodes) }
 {

@@ -1,8 +1,10 @@
 //! Statements.
 
-ghost use Rattle.std.specs.Prelude.{◌≡◌, IfOk};
-ghost use Rattle.chor_parser.specs.Grammar.{NewPartsAre, StatementIs};
-ghost use Rattle.chor_parser.specs.Reading.{names_of, tokens_from, form_of, statement_of, IsRestOfStart, IsRestOfSending, IsRestOfValue, IsRestOfLabel, IsRestOfDelegation, IsRestOfSetting, IsRestOfHostCall};
+ghost use Rattle.std.specs.Prelude.{◌≡◌, IfOk, IfErr};
+ghost use Rattle.token_grammar.specs.Symbols.{Nothing, Reads, Halts};
+ghost use Rattle.token_grammar.specs.Expressions.{Operator};
+ghost use Rattle.chor_parser.specs.Statements.{NewRolesPart, RoleMore, StatementPart, StatementMore, StartTail, SendingTail, ValueTail, LabelTail, GiveTail, SettingTail, HostTail};
+ghost use Rattle.chor_parser.specs.Reading.{names_of, tokens_from, form_of, statement_of};
 
 use crate::expression::read_expression;
 use crate::input::Input;
@@ -143,7 +145,8 @@ pub fn form_of(statement: Statement, next: NodeId) -> Form
 
 // stmt
 pub fn read_statement(alloc: Global, input: &Input, at: usize) -> Result<(Statement, usize), Denied>
-    ensures read { IfOk result (λ x. StatementIs (names_of input.now) (tokens_from input.now at) (statement_of x.0) (tokens_from input.now x.1)) }
+    ensures reads { IfOk result (λ x. Reads StatementPart StatementMore (names_of input.now) (tokens_from input.now at) (statement_of x.0) (tokens_from input.now x.1)) }
+    ensures halts { IfErr result (Halts StatementPart StatementMore (names_of input.now) (tokens_from input.now at)) }
 {
     if let Some(at) = input.after_word(at, b"start") {
         let (start, at) = read_start(alloc, input, at)?;
@@ -165,7 +168,8 @@ pub fn read_statement(alloc: Global, input: &Input, at: usize) -> Result<(Statem
 
 // "start" NAME "(" NAME ")" ":" part { "," part } [ "new" part { "," part } ], after its keyword
 fn read_start(alloc: Global, input: &Input, at: usize) -> Result<(Statement, usize), Denied>
-    ensures read { IfOk result (λ x. IsRestOfStart (names_of input.now) (tokens_from input.now at) (statement_of x.0) (tokens_from input.now x.1)) }
+    ensures reads { IfOk result (λ x. Reads StartTail RoleMore (names_of input.now) (tokens_from input.now at) (statement_of x.0) (tokens_from input.now x.1)) }
+    ensures halts { IfErr result (Halts StartTail RoleMore (names_of input.now) (tokens_from input.now at)) }
 {
     let (channel, at) = input.take_name(at)?;
     let at = input.take_mark(at, Mark::OpenParen)?;
@@ -185,7 +189,8 @@ fn read_start(alloc: Global, input: &Input, at: usize) -> Result<(Statement, usi
 
 // [ "new" part { "," part } ]
 fn read_new_parts(alloc: Global, input: &Input, at: usize) -> Result<(List<Part>, usize), Denied>
-    ensures read { IfOk result (λ x. NewPartsAre (names_of input.now) (tokens_from input.now at) x.0 (tokens_from input.now x.1)) }
+    ensures reads { IfOk result (λ x. Reads NewRolesPart RoleMore (names_of input.now) (tokens_from input.now at) x.0 (tokens_from input.now x.1)) }
+    ensures halts { IfErr result (Halts NewRolesPart RoleMore (names_of input.now) (tokens_from input.now at)) }
 {
     match input.after_word(at, b"new") {
         Some(at) => read_parts(alloc, input, at),
@@ -200,7 +205,8 @@ fn read_sending(
     input: &Input,
     at: usize,
 ) -> Result<(Statement, usize), Denied>
-    ensures read { IfOk result (λ x. IsRestOfSending (names_of input.now) process (tokens_from input.now at) (statement_of x.0) (tokens_from input.now x.1)) }
+    ensures reads { IfOk result (λ x. Reads (SendingTail process) Nothing (names_of input.now) (tokens_from input.now at) (statement_of x.0) (tokens_from input.now x.1)) }
+    ensures halts { IfErr result (Halts (SendingTail process) Nothing (names_of input.now) (tokens_from input.now at)) }
 {
     let (role, at) = input.take_name(at)?;
     let at = input.take_mark(at, Mark::CloseBracket)?;
@@ -228,7 +234,8 @@ fn read_value(
     input: &Input,
     at: usize,
 ) -> Result<(Statement, usize), Denied>
-    ensures read { IfOk result (λ x. IsRestOfValue (names_of input.now) from (tokens_from input.now at) (statement_of x.0) (tokens_from input.now x.1)) }
+    ensures reads { IfOk result (λ x. Reads (ValueTail from) Nothing (names_of input.now) (tokens_from input.now at) (statement_of x.0) (tokens_from input.now x.1)) }
+    ensures halts { IfErr result (Halts (ValueTail from) Nothing (names_of input.now) (tokens_from input.now at)) }
 {
     let (expr, at) = read_expression(alloc, input, at)?;
     let at = input.take_mark(at, Mark::Arrow)?;
@@ -255,7 +262,8 @@ fn read_label(
     input: &Input,
     at: usize,
 ) -> Result<(Statement, usize), Denied>
-    ensures read { IfOk result (λ x. IsRestOfLabel (names_of input.now) from to session (tokens_from input.now at) (statement_of x.0) (tokens_from input.now x.1)) }
+    ensures reads { IfOk result (λ x. Reads (LabelTail from to session) Nothing (names_of input.now) (tokens_from input.now at) (statement_of x.0) (tokens_from input.now x.1)) }
+    ensures halts { IfErr result (Halts (LabelTail from to session) Nothing (names_of input.now) (tokens_from input.now at)) }
 {
     let (label, at) = input.take_name(at)?;
     let statement = Statement::Label {
@@ -275,7 +283,8 @@ fn read_give(
     input: &Input,
     at: usize,
 ) -> Result<(Statement, usize), Denied>
-    ensures read { IfOk result (λ x. IsRestOfDelegation (names_of input.now) from to session (tokens_from input.now at) (statement_of x.0) (tokens_from input.now x.1)) }
+    ensures reads { IfOk result (λ x. Reads (GiveTail from to session) Nothing (names_of input.now) (tokens_from input.now at) (statement_of x.0) (tokens_from input.now x.1)) }
+    ensures halts { IfErr result (Halts (GiveTail from to session) Nothing (names_of input.now) (tokens_from input.now at)) }
 {
     let at = input.take_mark(at, Mark::OpenParen)?;
     let (given, at) = read_part(input, at)?;
@@ -296,7 +305,8 @@ fn read_setting(
     input: &Input,
     at: usize,
 ) -> Result<(Statement, usize), Denied>
-    ensures read { IfOk result (λ x. IsRestOfSetting (names_of input.now) process (tokens_from input.now at) (statement_of x.0) (tokens_from input.now x.1)) }
+    ensures reads { IfOk result (λ x. Reads (SettingTail process) Operator (names_of input.now) (tokens_from input.now at) (statement_of x.0) (tokens_from input.now x.1)) }
+    ensures halts { IfErr result (Halts (SettingTail process) Operator (names_of input.now) (tokens_from input.now at)) }
 {
     let (var, at) = input.take_name(at)?;
     let at = input.take_mark(at, Mark::Becomes)?;
@@ -321,7 +331,8 @@ fn read_host(
     input: &Input,
     at: usize,
 ) -> Result<(Statement, usize), Denied>
-    ensures read { IfOk result (λ x. IsRestOfHostCall (names_of input.now) process var (tokens_from input.now at) (statement_of x.0) (tokens_from input.now x.1)) }
+    ensures reads { IfOk result (λ x. Reads (HostTail process var) Nothing (names_of input.now) (tokens_from input.now at) (statement_of x.0) (tokens_from input.now x.1)) }
+    ensures halts { IfErr result (Halts (HostTail process var) Nothing (names_of input.now) (tokens_from input.now at)) }
 {
     let (name, at) = input.take_name(at)?;
     let at = input.take_mark(at, Mark::OpenParen)?;

@@ -6,6 +6,9 @@ use chor_lexer::tokens;
 use std::alloc::Global;
 use std::test::Fail;
 
+mod terminals;
+mod worked;
+
 // Whether a source is taken.
 fn is_taken(alloc: Global, source: &[u8]) -> Result<bool, Fail> {
     let mut names = Names::new(alloc);
@@ -70,26 +73,6 @@ fn is_limit(
 
 fn purchase() -> &'static [u8] {
     b"protocol Buy (Buyer, Seller) { ask = Buyer -> Seller : text then quote; quote = Seller -> Buyer : int then answer; answer = Buyer -> Seller { accept then pay, reject then done }; pay = Buyer -> Seller : int then receipt; receipt = Seller -> Buyer : text then done; done = end; } protocol Settle (Shop, Bank) { hand = Shop -> Bank : Buy.pay@Seller then paid; paid = Bank -> Shop : int then done; done = end; } protocol Ship (Shop, Depot) { order = Shop -> Depot : text then done; done = end; } service buy : Buy (Buyer, Seller); service settle : Settle (Shop | Bank); service ship : Ship (Shop | Depot); main (b, s) { start buy(k): b[Buyer], s[Seller]; b[Buyer].\"book\" -> s[Seller].item : k; s[Seller].20 -> b[Buyer].price : k; if b.price <= 25 { b[Buyer] -> s[Seller] : k.accept; start settle(m): s[Shop] new n[Bank]; s[Shop] -> n[Bank] : m(k[Seller]); b[Buyer].price -> n[Seller].sum : k; n[Seller].\"paid\" -> b[Buyer].note : k; n[Bank].sum -> s[Shop].got : m; start ship(h): s[Shop] new d[Depot]; s[Shop].item -> d[Depot].parcel : h; end } else { b[Buyer] -> s[Seller] : k.reject; end } }"
-}
-
-#[test]
-fn worked_sources_are_taken(rt: HostRuntime) -> Result<(), Fail> {
-    let alloc = rt.alloc();
-    assert!(rt; is_taken(alloc, purchase())?);
-    assert!(rt; is_taken(alloc, b"main () { end }")?);
-    assert!(rt;
-        is_taken(
-            alloc,
-            b"protocol Ping (A, B) { s = A -> B : int then t; t = B -> A : int then s; } service a : Ping (A, B); proc Loop (p, q; k : Ping.s {A = p, B = q}) { p[A].1 -> q[B].x : k; q[B].x + 1 -> p[A].y : k; call Loop(p, q; k) } main (p, q) { start a(k): p[A], q[B]; call Loop(p, q; k) }"
-        )?
-    );
-    assert!(rt;
-        is_taken(
-            alloc,
-            b"proc F (p(x : int, y : bool), q) { call F() } main (p) { p.x := host gap(3, 10); p.b := !true; p show x; call F(p) }"
-        )?
-    );
-    Ok(())
 }
 
 #[test]

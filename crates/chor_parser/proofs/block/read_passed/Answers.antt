@@ -1,8 +1,17 @@
-use Rattle.chor_parser.specs.Grammar.{nothing_passed, processes_passed}
+use Rattle.token_grammar.proofs.Sequels.{past, reads_past}
+use Rattle.chor_parser.proofs.Terminals.{holds_if, fails_if}
+use Rattle.chor_parser.proofs.Statements.{passes}
+use Rattle.chor_parser.proofs.PassedNames.{to_passed, processes_halt, after_processes, nothing_is_passed}
 use Rattle.chor_parser.proofs.block.read_passed.Goals as goal
 
-pub returns-then-is_none : goal.returns-then-is_none
-returns-then-is_none c = record { read = rw (c.new.ensures, c.new-then-is_none.ensures) nothing_passed }
+pub returns-then-not-has_name-clause-reads : goal.returns-then-not-has_name-clause-reads
+returns-then-not-has_name-clause-reads c = rw (c.new.ensures, c.new-then-not-has_name.ensures) (nothing_is_passed (fails_if c.has_name.ensures c.if-not-has_name.true))
 
-pub returns : goal.returns
-returns c = record { read = processes_passed c.in_ok-processes.ensures.read c.in_ok-sessions.ensures.read }
+pub returns-in_err-processes-clause-halts : goal.returns-in_err-processes-clause-halts
+returns-in_err-processes-clause-halts c = passes _ _ c.from_residual.ensures.1 (past (to_passed (holds_if c.has_name.ensures c.if-not-has_name.false)) (processes_halt c.in_err-processes.ensures.halts))
+
+pub returns-in_err-sessions-clause-halts : goal.returns-in_err-sessions-clause-halts
+returns-in_err-sessions-clause-halts c = passes _ _ c.from_residual-in_err-sessions.ensures.1 (past (to_passed (holds_if c.has_name.ensures c.if-not-has_name.false)) (past (after_processes c.in_ok-processes.ensures.reads) c.in_err-sessions.ensures.halts))
+
+pub returns-clause-reads : goal.returns-clause-reads
+returns-clause-reads c = reads_past (to_passed (holds_if c.has_name.ensures c.if-not-has_name.false)) (reads_past (after_processes c.in_ok-processes.ensures.reads) c.in_ok-sessions.ensures.reads)

@@ -1,9 +1,13 @@
-use Rattle.chor_parser.proofs.Coming.{ok_then}
-use Rattle.chor_parser.specs.Grammar.{sessions_passed, no_session_passed}
+use Rattle.token_grammar.proofs.Sequels.{past, reads_past}
+use Rattle.chor_parser.proofs.Statements.{on_ok, on_err}
+use Rattle.chor_parser.proofs.PassedNames.{to_passed_sessions, no_passed_sessions}
 use Rattle.chor_parser.proofs.block.read_passed_sessions.Goals as goal
 
-pub returns-in-Some : goal.returns-in-Some
-returns-in-Some c = record { read = ok_then _ _ _ c.read_names.ensures.read (λ x h. sessions_passed c.in-Some.ensures.found h) }
+pub returns-in-Some-clause-reads : goal.returns-in-Some-clause-reads
+returns-in-Some-clause-reads c = on_ok c.read_all_names.result _ _ c.read_all_names.ensures.reads (λ x r. reads_past (to_passed_sessions c.in-Some.ensures.found) r)
 
-pub returns-in-None : goal.returns-in-None
-returns-in-None c = record { read = rw c.new.ensures no_session_passed }
+pub returns-in-Some-clause-halts : goal.returns-in-Some-clause-halts
+returns-in-Some-clause-halts c = on_err c.read_all_names.result _ _ c.read_all_names.ensures.halts (λ d h. past (to_passed_sessions c.in-Some.ensures.found) h)
+
+pub returns-in-None-clause-reads : goal.returns-in-None-clause-reads
+returns-in-None-clause-reads c = rw c.new.ensures (no_passed_sessions c.in-None.ensures.none)

@@ -1,9 +1,12 @@
-use Rattle.chor_parser.proofs.Coming.{ok_then}
-use Rattle.chor_parser.specs.Grammar.{some_names, no_names}
+use Rattle.chor_parser.proofs.Terminals.{holds_if, fails_if}
+use Rattle.chor_parser.proofs.Readers.{some_names_lead, no_names_read, hands_on, hands_back}
 use Rattle.chor_parser.proofs.lists.read_any_names.Goals as goal
 
-pub returns-then-is_some : goal.returns-then-is_some
-returns-then-is_some c = record { read = ok_then _ _ _ c.read_names.ensures.read (λ x h. some_names h) }
+pub returns-then-has_name-clause-reads : goal.returns-then-has_name-clause-reads
+returns-then-has_name-clause-reads c = hands_on c.read_names.result c.args.input.now.tokens.now.items (some_names_lead c.args.limit (holds_if c.has_name.ensures c.if-has_name.true)) c.read_names.ensures.reads
 
-pub returns-else-is_some : goal.returns-else-is_some
-returns-else-is_some c = record { read = rw c.new.ensures no_names }
+pub returns-then-has_name-clause-halts : goal.returns-then-has_name-clause-halts
+returns-then-has_name-clause-halts c = hands_back c.read_names.result (some_names_lead c.args.limit (holds_if c.has_name.ensures c.if-has_name.true)) c.read_names.ensures.halts
+
+pub returns-else-has_name-clause-reads : goal.returns-else-has_name-clause-reads
+returns-else-has_name-clause-reads c = rw c.new.ensures (no_names_read _ (fails_if c.has_name.ensures c.if-has_name.false))

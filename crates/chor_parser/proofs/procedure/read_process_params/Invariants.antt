@@ -1,11 +1,11 @@
-use Rattle.std.proofs.Common.{length}
-use Rattle.chor_parser.specs.Grammar.{ProcParamIs}
+use Rattle.std.proofs.Common.{◌-◌, length}
+use Rattle.chor_parser.specs.Parts.{ProcParamsPart, ProcParamPart, AParen}
 use Rattle.chor_parser.specs.Reading.{names_of, tokens_from}
-use Rattle.chor_parser.proofs.Coming.{Comes}
+use Rattle.chor_parser.proofs.ItemLists.{Comes, Roomy}
 use Rattle.chor_parser.proofs.procedure.read_process_params.Given as goal
 
 abbrev pub invariant-loop-after : goal.invariant-loop-after
-invariant-loop-after l = Comes (ProcParamIs (names_of l.input)) (tokens_from l.input l.fn.at) l.params (tokens_from l.input l.at)
+invariant-loop-after l = Comes ProcParamsPart (Roomy ProcParamPart) AParen (names_of l.input) (tokens_from l.input l.fn.at) (8 - length l.params) l.params (tokens_from l.input l.at)
 
 abbrev pub decreases-loop-after : goal.decreases-loop-after
 decreases-loop-after l = length (tokens_from l.input l.at)

@@ -1,9 +1,11 @@
-use Rattle.chor_parser.proofs.Coming.{ok_then}
-use Rattle.chor_parser.specs.Grammar.{some_sessions, no_sessions}
+use Rattle.chor_parser.proofs.Readers.{sessions_lead, no_sessions_read, hands_on, hands_back}
 use Rattle.chor_parser.proofs.procedure.read_sessions.Goals as goal
 
-pub returns-in-Some : goal.returns-in-Some
-returns-in-Some c = record { read = ok_then _ _ _ c.read_session_params.ensures.read (λ x h. some_sessions c.in-Some.ensures.found h) }
+pub returns-in-Some-clause-reads : goal.returns-in-Some-clause-reads
+returns-in-Some-clause-reads c = hands_on c.read_session_params.result c.args.input.now.tokens.now.items (sessions_lead c.in-Some.ensures.found) c.read_session_params.ensures.reads
 
-pub returns-in-None : goal.returns-in-None
-returns-in-None c = record { read = rw c.new.ensures no_sessions }
+pub returns-in-Some-clause-halts : goal.returns-in-Some-clause-halts
+returns-in-Some-clause-halts c = hands_back c.read_session_params.result (sessions_lead c.in-Some.ensures.found) c.read_session_params.ensures.halts
+
+pub returns-in-None-clause-reads : goal.returns-in-None-clause-reads
+returns-in-None-clause-reads c = rw c.new.ensures (no_sessions_read c.in-None.ensures.none)

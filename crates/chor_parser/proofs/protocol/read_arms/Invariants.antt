@@ -1,11 +1,13 @@
-use Rattle.std.proofs.Common.{length}
+use Rattle.std.proofs.Common.{◌-◌, length}
+use Rattle.token_grammar.specs.Symbols.{Nothing}
 use Rattle.chor_parser.specs.Grammar.{ArmIs}
+use Rattle.chor_parser.specs.Parts.{ItemPart, Unlimited, ArmsPart}
 use Rattle.chor_parser.specs.Reading.{names_of, tokens_from}
-use Rattle.chor_parser.proofs.Coming.{Comes}
+use Rattle.chor_parser.proofs.ItemLists.{Comes, Roomy}
 use Rattle.chor_parser.proofs.protocol.read_arms.Given as goal
 
 abbrev pub invariant-loop-after : goal.invariant-loop-after
-invariant-loop-after l = Comes (ArmIs (names_of l.input)) (tokens_from l.input l.fn.at) l.arms (tokens_from l.input l.at)
+invariant-loop-after l = Comes (ArmsPart 64) (Roomy (ItemPart ArmIs (Unlimited ArmIs))) Nothing (names_of l.input) (tokens_from l.input l.fn.at) (64 - length l.arms) l.arms (tokens_from l.input l.at)
 
 abbrev pub decreases-loop-after : goal.decreases-loop-after
 decreases-loop-after l = length (tokens_from l.input l.at)

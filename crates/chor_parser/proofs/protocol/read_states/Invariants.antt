@@ -1,10 +1,10 @@
-use Rattle.std.proofs.Common.{length}
+use Rattle.std.proofs.Common.{◌-◌, length}
 use Rattle.chor_parser.specs.Reading.{names_of, tokens_from}
-use Rattle.chor_parser.proofs.Coming.{StatesCome}
+use Rattle.chor_parser.proofs.Readers.{StatesHaveCome}
 use Rattle.chor_parser.proofs.protocol.read_states.Given as goal
 
 abbrev pub invariant-states : goal.invariant-states
-invariant-states l = StatesCome (names_of l.input) (tokens_from l.input l.fn.at) l.states (tokens_from l.input l.at)
+invariant-states l = StatesHaveCome (names_of l.input) (tokens_from l.input l.fn.at) (256 - length l.states) l.states (tokens_from l.input l.at)
 
 abbrev pub decreases-states : goal.decreases-states
 decreases-states l = length (tokens_from l.input l.at)

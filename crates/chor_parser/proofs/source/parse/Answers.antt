@@ -1,6 +1,23 @@
-use Rattle.std.proofs.Common.{refl}
-use Rattle.chor_parser.proofs.Joined.{file_is}
+use Rattle.std.proofs.lemmas.Result.{err_from_is_err_and}
+use Rattle.token_grammar.proofs.Sequels.{now, later, then_reads}
+use Rattle.chor_parser.proofs.Terminals.{holds_if, fails_if}
+use Rattle.chor_parser.proofs.Files.{items_part, items_end, main_part}
+use Rattle.chor_parser.proofs.Joined.{file_within}
+use Rattle.chor_parser.proofs.FirstFaults.{refusal_is, unended, whole}
 use Rattle.chor_parser.proofs.source.parse.Goals as goal
 
+pub returns-in_err-items-clause-denied : goal.returns-in_err-items-clause-denied
+returns-in_err-items-clause-denied c =
+    let p = err_from_is_err_and c.from_residual.result c.from_residual.ensures.1 in
+    rw (p.1, p.2) (refusal_is _ (whole c.args.tokens.now.ended c.requires.known) (now main_part items_end c.in_err-items.ensures.halts))
+
+pub returns-in_err-main-clause-denied : goal.returns-in_err-main-clause-denied
+returns-in_err-main-clause-denied c =
+    let p = err_from_is_err_and c.from_residual-in_err-main.result c.from_residual-in_err-main.ensures.1 in
+    rw (p.1, p.2) (refusal_is _ (whole c.args.tokens.now.ended c.requires.known) (later items_part items_end c.in_ok-items.ensures.reads c.in_err-main.ensures.halts))
+
+pub returns-then-not-is_end-clause-denied : goal.returns-then-not-is_end-clause-denied
+returns-then-not-is_end-clause-denied c = unended _ (whole c.args.tokens.now.ended c.requires.known) (then_reads items_part items_end c.in_ok-items.ensures.reads c.in_ok-main.ensures.reads) (λ t left e k. fails_if c.is_end.ensures c.if-not-is_end.true (record { token = t; rest = left; parts = e; last = k })) c.refused.ensures
+
 pub returns-clause-found : goal.returns-clause-found
-returns-clause-found c = file_is _ _ _ _ _ _ _ _ c.in_ok-items.ensures.read c.in_ok-items.ensures.there c.in_ok-main.ensures.grows c.in_ok-main.ensures.read c.args.tokens.now.ended (c.if-not-is_end.ensures refl)
+returns-clause-found c = file_within _ _ _ c.in_ok-items.items _ _ _ (then_reads items_part items_end c.in_ok-items.ensures.reads c.in_ok-main.ensures.reads) c.in_ok-items.ensures.there c.in_ok-main.ensures.grows c.args.tokens.now.ended (holds_if c.is_end.ensures c.if-not-is_end.false)

@@ -1,5 +1,6 @@
 use Rattle.std.proofs.Common.{length}
-use Rattle.chor_parser.specs.Reading.{names_of, tokens_from, AreThere, ItemsGo}
+use Rattle.chor_parser.specs.Reading.{names_of, tokens_from, AreThere}
+use Rattle.chor_parser.proofs.Joined.{ItemsGo}
 use Rattle.chor_parser.proofs.source.read_items.Given as goal
 
 abbrev pub invariant-items : goal.invariant-items

@@ -1,5 +1,11 @@
-use Rattle.chor_parser.specs.Grammar.{a_label}
+use Rattle.token_grammar.proofs.Sequels.{past, reads_past}
+use Rattle.token_grammar.proofs.Values.{as_leads}
+use Rattle.chor_parser.proofs.Terminals.{name_reads}
+use Rattle.chor_parser.proofs.Statements.{passes}
 use Rattle.chor_parser.proofs.statement.read_label.Goals as goal
 
-pub returns : goal.returns
-returns c = record { read = λ t0 t1 t2 t3 t4 t5 a r b c1 k d. a_label a r b c1 k d c.in_ok-label.ensures.read }
+pub returns-in_err-label-clause-halts : goal.returns-in_err-label-clause-halts
+returns-in_err-label-clause-halts c = passes _ _ c.from_residual.ensures.1 (past (as_leads _) (c.in_err-label.ensures.halts))
+
+pub returns-clause-reads : goal.returns-clause-reads
+returns-clause-reads c = reads_past (as_leads _) (name_reads c.in_ok-label.ensures.read)
