@@ -1,0 +1,98 @@
+-- Tokens that spell a source derive it, but for places.
+use Rattle.std.proofs.Common.{ℕ, List, [], ◌∷◌, refl}
+use Rattle.std.specs.List.{AllByRecursion}
+use Rattle.chor_base.specs.Words.{AllDistinct}
+use Rattle.chor_lexer.specs.declared.token.Token.{Token}
+use Rattle.chor_lexer.specs.Lexeme.{Symbol}
+use Rattle.chor_lexer.specs.Spelling.{IsSource, SpellAll}
+use Rattle.chor_tree.specs.declared.file.Service.{Service}
+use Rattle.chor_tree.specs.declared.protocol.Protocol.{Protocol}
+use Rattle.chor_parser.specs.Source.{Procedure, Source}
+use Rattle.chor_parser.specs.Grammar.{ProtocolIs, ServiceIs, ProcedureIs, a_procedure, ItemsAre, no_item, protocol_first, service_first, procedure_first, FileIs, a_file}
+use Rattle.canonical_laws.specs.Places.{bare_procedure, bare_items}
+use Rattle.canonical_laws.specs.Symbols.{each, protocol_symbols, service_symbols, procedure_symbols, source_symbols}
+use Rattle.canonical_laws.specs.Terms.{AllInBlock, AllTerms}
+use Rattle.canonical_laws.specs.ReadsBack.{DeriveSame}
+use Rattle.canonical_laws.proofs.Derived.{Derived, gathered}
+use Rattle.canonical_laws.proofs.Tokens.{Spelled, Reads, mark_reads, word_reads, end_reads, name_reads}
+use Rattle.canonical_laws.proofs.Pieces.{any_names_read, protocol_reads, service_reads, params_read}
+use Rattle.canonical_laws.proofs.Blocks.{block_reads}
+
+module _ {names texts : List (List ℕ)} (dn : AllDistinct names) (dt : AllDistinct texts) where
+  procedure_reads : (p : Procedure) {us vs : List Token} → ProcedureIs names us p vs → AllInBlock (IsSource names texts) p.body → {ts : List Token} {more : List Symbol}
+      → Spelled names texts ts (procedure_symbols names texts p more) → Reads names texts (ProcedureIs names) bare_procedure p ts more
+  procedure_reads x (a_procedure {n = n} {ps = ps} {ss = ss} {b = body} d1 d2 d3 d4 d5 d6) ok h =
+      let a = word_reads h in
+      let b = name_reads dn n d2 a.others in
+      let c = mark_reads b.others in
+      let d = params_read dn ps ss d4 c.others in
+      let e = mark_reads d.others in
+      let f = block_reads dn dt body d6 ok e.others in
+      record {
+        read = record { name = b.read; params = d.read.0; sessions = d.read.1; body = f.read };
+        rest = f.rest;
+        is = a_procedure a.is b.is c.is d.is e.is f.is;
+        same = λ i. record { name = b.same i; params = (d.same i).0; sessions = (d.same i).1; body = f.same i };
+        others = f.others;
+      }
+
+  procedures_read : (qs : List Procedure) → AllByRecursion (Derived (ProcedureIs names)) qs → AllByRecursion (λ p. AllInBlock (IsSource names texts) p.body) qs
+      → {ts : List Token} {more : List Symbol} → Spelled names texts ts (each (procedure_symbols names texts) qs more)
+      → Reads names texts (ItemsAre names) bare_items (record { protocols = []; services = []; procedures = qs }) ts more
+  procedures_read [] d ok {ts} h = record { read = record { protocols = []; services = []; procedures = [] }; rest = ts; is = no_item; same = refl; others = h }
+  procedures_read (q ∷ qs) d ok h =
+      let a = procedure_reads q d.0.is ok.0 h in
+      let r = procedures_read qs d.1 ok.1 a.others in
+      record {
+        read = record r.read { procedures = a.read ∷ r.read.procedures };
+        rest = r.rest;
+        is = procedure_first a.is r.is;
+        same = λ i. record (r.same i) { procedures = a.same i ∷ (r.same i).procedures };
+        others = r.others;
+      }
+
+  services_read : (qs : List Procedure) (ss : List Service) → AllByRecursion (Derived (ProcedureIs names)) qs → AllByRecursion (λ p. AllInBlock (IsSource names texts) p.body) qs
+      → AllByRecursion (Derived (ServiceIs names)) ss
+      → {ts : List Token} {more : List Symbol} → Spelled names texts ts (each (service_symbols names) ss (each (procedure_symbols names texts) qs more))
+      → Reads names texts (ItemsAre names) bare_items (record { protocols = []; services = ss; procedures = qs }) ts more
+  services_read qs [] d ok e h = procedures_read qs d ok h
+  services_read qs (s ∷ ss) d ok e h =
+      let a = service_reads dn s e.0.is h in
+      let r = services_read qs ss d ok e.1 a.others in
+      record {
+        read = record r.read { services = a.read ∷ r.read.services };
+        rest = r.rest;
+        is = service_first a.is r.is;
+        same = λ i. record (r.same i) { services = a.same i ∷ (r.same i).services };
+        others = r.others;
+      }
+
+  items_read : (qs : List Procedure) (ss : List Service) (ps : List Protocol) → AllByRecursion (Derived (ProcedureIs names)) qs
+      → AllByRecursion (λ p. AllInBlock (IsSource names texts) p.body) qs → AllByRecursion (Derived (ServiceIs names)) ss → AllByRecursion (Derived (ProtocolIs names)) ps
+      → {ts : List Token} {more : List Symbol} → Spelled names texts ts (each (protocol_symbols names) ps (each (service_symbols names) ss (each (procedure_symbols names texts) qs more)))
+      → Reads names texts (ItemsAre names) bare_items (record { protocols = ps; services = ss; procedures = qs }) ts more
+  items_read qs ss [] d ok e f h = services_read qs ss d ok e h
+  items_read qs ss (p ∷ ps) d ok e f h =
+      let a = protocol_reads dn p f.0.is h in
+      let r = items_read qs ss ps d ok e f.1 a.others in
+      record {
+        read = record r.read { protocols = a.read ∷ r.read.protocols };
+        rest = r.rest;
+        is = protocol_first a.is r.is;
+        same = λ i. record (r.same i) { protocols = a.same i ∷ (r.same i).protocols };
+        others = r.others;
+      }
+
+pub symbols_read_back : (names texts : List (List ℕ)) (us ts : List Token) (s : Source) → AllDistinct names → AllDistinct texts → FileIs names us s → AllTerms (IsSource names texts) s
+    → SpellAll names texts ts (source_symbols names texts s) → DeriveSame names ts s
+symbols_read_back names texts us ts s dn dt (a_file {is = is} {ps = ps} {b = body} d1 d2 d3 d4 d5 d6 d7) ok h =
+    let g = gathered is d1 in
+    let all : Spelled names texts ts (source_symbols names texts (record { items = is; processes = ps; body = body })) = record { all = h } in
+    let a = items_read dn dt is.procedures is.services is.protocols g.procedures ok.0 g.services g.protocols all in
+    let b = word_reads a.others in
+    let c = mark_reads b.others in
+    let d = any_names_read dn ps d4 c.others in
+    let e = mark_reads d.others in
+    let f = block_reads dn dt body d6 ok.1 e.others in
+    let k = end_reads f.others in
+    (record { items = a.read; processes = d.read; body = f.read }, a_file a.is b.is c.is d.is e.is f.is k, λ i. record { items = a.same i; processes = d.same i; body = f.same i })

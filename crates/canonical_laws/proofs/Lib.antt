@@ -1,0 +1,14 @@
+pub mod Tokens
+pub mod Derived
+pub mod Pieces
+pub mod Blocks
+pub mod Files
+pub mod Cutting
+pub mod Written
+pub mod Sources
+pub mod WrittenBlocks
+pub mod Known
+pub mod Tables
+pub mod Numbered
+pub mod WrittenFiles
+pub mod Again

@@ -1,0 +1,4 @@
+pub mod Places
+pub mod Symbols
+pub mod Terms
+pub mod ReadsBack

@@ -1,0 +1,8 @@
+//! What the canonical text of a file says when it is read again.
+#![tactic(auto)]
+
+mod laws;
+#[cfg(test)]
+mod tests;
+
+pub use laws::{symbols_read_back, text_has_symbols, text_reads_back};

@@ -1,0 +1,5 @@
+pub mod Pieces
+pub mod Statements
+pub mod Lines
+pub mod Text
+pub mod Parts

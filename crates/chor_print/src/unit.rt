@@ -1,0 +1,138 @@
+//! Protocols, services, procedures and main.
+
+ghost use Rattle.std.specs.Prelude.{◌≡◌, ◌++◌, OnOk, codes, map};
+ghost use Rattle.chor_print.specs.Text.{step_text, state_line, roles_text, protocol_head};
+ghost use Rattle.chor_print.specs.Parts.{line_at, lines_at, protocol_text, service_text, proc_text, main_text};
+
+use crate::block::put_body;
+use crate::piece::{Piece, put_list, put_list_after};
+use chor_base::{Memory, Names, put_bytes};
+use chor_tree::{File, Named, Proc, ProtoStep, Protocol, Service, State};
+use std::alloc::Global;
+
+/// Appends a protocol, each state on a line of its own.
+pub fn put_protocol(out: &mut Vec<u8>, names: &Names, protocol: &Protocol) -> Result<(), Memory>
+    ensures { OnOk result (out.new.items ≡ out.old.items ++ protocol_text names.now protocol.now) }
+{
+    put_protocol_head(out, names, protocol)?;
+    put_states(out, names, protocol.states.as_slice())?;
+    put_bytes(out, b"}\n".as_slice())
+}
+
+fn put_protocol_head(out: &mut Vec<u8>, names: &Names, protocol: &Protocol) -> Result<(), Memory>
+    ensures { OnOk result (out.new.items ≡ out.old.items ++ line_at 0 (protocol_head names.now protocol.now)) }
+{
+    put_bytes(out, b"protocol ".as_slice())?;
+    protocol.name.put(out, names)?;
+    put_bytes(out, b" (".as_slice())?;
+    put_list(out, names, protocol.roles.as_slice())?;
+    put_bytes(out, b") {\n".as_slice())
+}
+
+fn put_states(out: &mut Vec<u8>, names: &Names, states: &[State]) -> Result<(), Memory>
+    ensures { OnOk result (out.new.items ≡ out.old.items ++ lines_at 1 (map (state_line names.now) states.now)) }
+{
+    for state in states {
+        put_bytes(out, b"  ".as_slice())?;
+        state.name.put(out, names)?;
+        put_bytes(out, b" = ".as_slice())?;
+        put_step(out, names, &state.step)?;
+        put_bytes(out, b";\n".as_slice())?;
+    }
+    Ok(())
+}
+
+fn put_step(out: &mut Vec<u8>, names: &Names, step: &ProtoStep) -> Result<(), Memory>
+    ensures { OnOk result (out.new.items ≡ out.old.items ++ step_text names.now step.now) }
+{
+    match step {
+        ProtoStep::End => put_bytes(out, b"end".as_slice()),
+        ProtoStep::Value {
+            from,
+            to,
+            payload,
+            next,
+        } => {
+            from.put(out, names)?;
+            put_bytes(out, b" -> ".as_slice())?;
+            to.put(out, names)?;
+            put_bytes(out, b" : ".as_slice())?;
+            payload.put(out, names)?;
+            put_bytes(out, b" then ".as_slice())?;
+            next.put(out, names)
+        }
+        ProtoStep::Choice { from, to, arms } => {
+            from.put(out, names)?;
+            put_bytes(out, b" -> ".as_slice())?;
+            to.put(out, names)?;
+            put_bytes(out, b" {".as_slice())?;
+            put_list(out, names, arms.as_slice())?;
+            put_bytes(out, b"}".as_slice())
+        }
+    }
+}
+
+/// Appends a service, which is one line.
+pub fn put_service(out: &mut Vec<u8>, names: &Names, service: &Service) -> Result<(), Memory>
+    ensures { OnOk result (out.new.items ≡ out.old.items ++ service_text names.now service.now) }
+{
+    put_bytes(out, b"service ".as_slice())?;
+    service.name.put(out, names)?;
+    put_bytes(out, b" : ".as_slice())?;
+    service.protocol.put(out, names)?;
+    put_bytes(out, b" ".as_slice())?;
+    put_roles(
+        out,
+        names,
+        service.active.as_slice(),
+        service.serve.as_slice(),
+    )?;
+    put_bytes(out, b";\n".as_slice())
+}
+
+fn put_roles(
+    out: &mut Vec<u8>,
+    names: &Names,
+    active: &[Named],
+    serve: &[Named],
+) -> Result<(), Memory>
+    ensures { OnOk result (out.new.items ≡ out.old.items ++ roles_text names.now active.now serve.now) }
+{
+    put_bytes(out, b"(".as_slice())?;
+    put_list(out, names, active)?;
+    put_list_after(out, names, b" | ".as_slice(), serve)?;
+    put_bytes(out, b")".as_slice())
+}
+
+/// Appends a procedure with its body.
+pub fn put_proc(
+    out: &mut Vec<u8>,
+    alloc: Global,
+    file: &File,
+    procedure: &Proc,
+) -> Result<(), Memory>
+    ensures { OnOk result (out.new.items ≡ out.old.items ++ proc_text file.now procedure.now) }
+{
+    put_bytes(out, b"proc ".as_slice())?;
+    procedure.name.put(out, &file.names)?;
+    put_bytes(out, b" (".as_slice())?;
+    put_list(out, &file.names, procedure.params.as_slice())?;
+    put_list_after(
+        out,
+        &file.names,
+        b"; ".as_slice(),
+        procedure.sessions.as_slice(),
+    )?;
+    put_bytes(out, b") {\n".as_slice())?;
+    put_body(out, alloc, file, procedure.body)
+}
+
+/// Appends `main` with its body.
+pub fn put_main(out: &mut Vec<u8>, alloc: Global, file: &File) -> Result<(), Memory>
+    ensures { OnOk result (out.new.items ≡ out.old.items ++ main_text file.now) }
+{
+    put_bytes(out, b"main (".as_slice())?;
+    put_list(out, &file.names, file.processes.as_slice())?;
+    put_bytes(out, b") {\n".as_slice())?;
+    put_body(out, alloc, file, file.body)
+}
