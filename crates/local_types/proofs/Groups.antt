@@ -1,7 +1,6 @@
 -- The acts of a role and their edges, found move by move.
 use Rattle.std.proofs.Common.{ℕ, ◌≡◌, ◌+◌, ◌<◌, ◌≤◌, List, [], ◌∷◌, ◌++◌, Bool, true, false, refl, ap, sym, subst, ◌∙◌, inl, inr, length, take}
 use Rattle.std.specs.Prelude.{◌⊎◌, Some, slice_index_or, slice_set, MatchBool}
-use Rattle.std.specs.List.Sorted.{IsPermutation}
 use Rattle.std.proofs.lemmas.List.{take_all}
 use Rattle.global_types.specs.Moves.{IsIn}
 use Rattle.global_types.specs.Paths.{Action}
@@ -11,9 +10,9 @@ use Rattle.local_types.specs.declared.graph.Group.{Group}
 use Rattle.local_types.specs.declared.moves.Move.{Move}
 use Rattle.local_types.specs.Moves.{action_of, actions_in}
 use Rattle.local_types.specs.Sets.{IsSetFor}
-use Rattle.local_types.specs.Graph.{HasMove, AreEdges, Covers, AreGroups, AreWithin}
+use Rattle.local_types.specs.Graph.{HasMove, AreEdges, Covers, IsActOf, AreActsOf, AreGroups, AreWithin}
 use Rattle.std.proofs.lemmas.Option.{slice_get-get_or}
-use Rattle.local_types.proofs.Lists.{in_of_at, in_more, in_kept, in_new, in_push, in_left, in_last, in_permuted}
+use Rattle.local_types.proofs.Lists.{in_of_at, in_more, in_kept, in_new, in_push, in_left, in_last}
 use Rattle.local_types.proofs.Sets.{set_put, set_same}
 
 -- ---- acts
@@ -30,8 +29,13 @@ covers_more ms i d old new h was kept added m a among is = go (in_more m ms i d 
 pub covers_whole : (ms : List Move) (i : ℕ) (acts : List Act) → length ms ≤ i → Covers (take i ms) acts → Covers ms acts
 covers_whole ms i acts h was = subst (λ l. Covers l acts) (take_all i ms h) was
 
-pub covers_permuted : (ms : List Move) (xs ys : List Act) → IsPermutation xs ys → Covers ms xs → Covers ms ys
-covers_permuted ms xs ys p was m a among is = let q = was m a among is in (q.0, in_permuted q.0 xs ys p q.1, q.2)
+pub own_more : (ms : List Move) (i : ℕ) (d : Move) (old new : List Act) → i < length ms → ((b : Act) → IsIn b old → IsActOf ms b)
+    → ((b : Act) → IsIn b new → IsIn b old ⊎ ((slice_index_or ms i d).act ≡ Some b))
+    → (b : Act) → IsIn b new → IsActOf ms b
+own_more ms i d old new h was added b among = go (added b among) where
+  go : IsIn b old ⊎ ((slice_index_or ms i d).act ≡ Some b) → IsActOf ms b
+  go (inl o) = was b o
+  go (inr e) = (slice_index_or ms i d, in_of_at (slice_index_or ms i d) ms i (slice_get-get_or ms i d h), e)
 
 pub added_known : (acts : List Act) (act : Act) (b : Bool) → MatchBool b ((k : Act) × IsIn k acts × (action_of k ≡ action_of act)) (Unit {0}) → b ≡ true
     → (a : Act) → Some act ≡ Some a → (k : Act) × IsIn k acts × (action_of k ≡ action_of a)
@@ -152,12 +156,14 @@ direct_whole n ms i s marks h was = subst (λ l. IsSetFor n (λ j. (s ≡ j) ⊎
 
 pub groups_more : (ms : List Move) (acts : List Act) (i : ℕ) (d : Act) (old new : List Group) (g : Group) → i < length acts
     → ((k : Group) → IsIn k old → AreEdges ms (action_of k.act) k.edges.items)
+    → ((k : Group) → IsIn k old → IsIn k.act acts)
     → ((a : Act) → IsIn a (take i acts) → (k : Group) × IsIn k old × (k.act ≡ a))
     → g.act ≡ slice_index_or acts i d → AreEdges ms (action_of g.act) g.edges.items
     → new ≡ old ++ g ∷ []
-    → record { edges : (k : Group) → IsIn k new → AreEdges ms (action_of k.act) k.edges.items; covers : (a : Act) → IsIn a (take (i + 1) acts) → (k : Group) × IsIn k new × (k.act ≡ a) }
-groups_more ms acts i d old new g h edges covers act own is = rw is (record {
+    → record { edges : (k : Group) → IsIn k new → AreEdges ms (action_of k.act) k.edges.items; among : (k : Group) → IsIn k new → IsIn k.act acts; covers : (a : Act) → IsIn a (take (i + 1) acts) → (k : Group) × IsIn k new × (k.act ≡ a) }
+groups_more ms acts i d old new g h edges among covers act own is = rw is (record {
   edges = λ k o. edges_at k (in_push k g old o);
+  among = λ k o. among_at k (in_push k g old o);
   covers = λ a o. covers_at a (in_more a acts i d h o);
 })
   where
@@ -165,17 +171,23 @@ groups_more ms acts i d old new g h edges covers act own is = rw is (record {
     edges_at k (inl o) = edges k o
     edges_at k (inr e) = subst (λ (v : Group). AreEdges ms (action_of v.act) v.edges.items) e own
 
+    among_at : (k : Group) → IsIn k old ⊎ (g ≡ k) → IsIn k.act acts
+    among_at k (inl o) = among k o
+    among_at k (inr e) = subst (λ (v : Group). IsIn v.act acts) e (subst (λ b. IsIn b acts) (sym act) (in_of_at (slice_index_or acts i d) acts i (slice_get-get_or acts i d h)))
+
     covers_at : (a : Act) → IsIn a (take i acts) ⊎ (slice_index_or acts i d ≡ a) → (k : Group) × IsIn k (old ++ g ∷ []) × (k.act ≡ a)
     covers_at a (inl o) = let p = covers a o in (p.0, in_left p.0 old (g ∷ []) p.1, p.2)
     covers_at a (inr e) = (g, in_last g old, act ∙ e)
 
-pub groups_whole : (ms : List Move) (acts : List Act) (i : ℕ) (gs : List Group) → length acts ≤ i → Covers ms acts
+pub groups_whole : (ms : List Move) (acts : List Act) (i : ℕ) (gs : List Group) → length acts ≤ i → AreActsOf ms acts
     → ((k : Group) → IsIn k gs → AreEdges ms (action_of k.act) k.edges.items)
+    → ((k : Group) → IsIn k gs → IsIn k.act acts)
     → ((a : Act) → IsIn a (take i acts) → (k : Group) × IsIn k gs × (k.act ≡ a))
     → AreGroups ms gs
-groups_whole ms acts i gs h cover edges covers = record {
+groups_whole ms acts i gs h of edges among covers = record {
+  own = λ g o. of.own g.act (among g o);
   edges = edges;
-  covers = λ m a among is. let p = cover m a among is in let q = covers p.0 (subst (λ l. IsIn p.0 l) (sym (take_all i acts h)) p.1) in (q.0, q.1, ap action_of q.2 ∙ p.2);
+  covers = λ m a o is. let p = of.covers m a o is in let q = covers p.0 (subst (λ l. IsIn p.0 l) (sym (take_all i acts h)) p.1) in (q.0, q.1, ap action_of q.2 ∙ p.2);
 }
 
 -- ---- tests

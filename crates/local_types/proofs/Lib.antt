@@ -11,3 +11,7 @@ pub mod Firsts
 pub mod States
 pub mod Kin
 pub mod Readings
+pub mod Numbers
+pub mod Counts
+pub mod Parts
+pub mod Ascents

@@ -1,7 +1,8 @@
 -- States of types made from arms.
-use Rattle.std.proofs.Common.{ℕ, ◌≡◌, List, [], ◌∷◌, refl, ap, sym, subst, ◌∙◌, inl, inr}
+use Rattle.std.proofs.Common.{ℕ, ◌≡◌, List, [], ◌∷◌, ◌++◌, map, refl, ap, sym, subst, ◌∙◌, inl, inr}
 use Rattle.std.specs.Prelude.{◌⊎◌}
 use Rattle.chor_base.specs.declared.names.NameId.{NameId}
+use Rattle.chor_base.specs.Writing.{name_in}
 use Rattle.chor_tree.specs.declared.protocol.Payload.{Payload}
 use Rattle.global_types.specs.Moves.{IsIn, content_of}
 use Rattle.global_types.specs.Paths.{Action, sends, receives, selects, offers}
@@ -10,12 +11,14 @@ use Rattle.local_types.specs.declared.act.Act.TheVariants.{Send, Recv, Pick, Bra
 use Rattle.local_types.specs.declared.local_type.LocalState.TheVariants as state
 use Rattle.local_types.specs.declared.table.Arm.{Arm}
 use Rattle.local_types.specs.Moves.{action_of}
-use Rattle.local_types.specs.Reading.{acts_of}
+use Rattle.local_types.specs.Reading.{acts_of, nexts_of, Ascend, label_words}
+use Rattle.local_types.specs.Table.{Counts, nexts, act_word, arm_words}
 use Rattle.local_types.specs.States.{IsKin, AreKin, labelled_act, labelled, IsStateOf}
+use Rattle.local_types.proofs.Counts.{counts_once}
 use Rattle.local_types.proofs.Lists.{in_left, in_right, in_either, in_map, in_map_back}
 
 pub state_end : IsStateOf [] state.End
-state_end = record { sound = λ a n h. absurd h; complete = λ x h. absurd h; ends = (λ e. refl, λ e. refl) }
+state_end = record { sound = λ a n h. absurd h; complete = λ x h. absurd h; ends = (λ e. refl, λ e. refl); labels = λ names up. tt; numbered = λ c d h. h }
 
 not_empty : {A : Type 0} (v : A) (xs : List A) → IsIn v xs → xs ≡ [] → ⊥
 not_empty v [] h e = h
@@ -35,13 +38,30 @@ recv_complete a c n (Recv a' c') m h = inl (ap (λ (v : NameId). (receives v (co
 recv_complete a c n (Pick b' l) m h = absurd h
 recv_complete a c n (Branch a' l) m h = absurd h
 
+send_next : (b : NameId) (c : Payload) (n : ℕ) (act : Act) (m : ℕ) → IsKin (Send b c) n act m → n ≡ m
+send_next b c n (Send b' c') m h = h.2
+send_next b c n (Recv a c') m h = absurd h
+send_next b c n (Pick b' l) m h = absurd h
+send_next b c n (Branch a l) m h = absurd h
+
+recv_next : (a : NameId) (c : Payload) (n : ℕ) (act : Act) (m : ℕ) → IsKin (Recv a c) n act m → n ≡ m
+recv_next a c n (Send b' c') m h = absurd h
+recv_next a c n (Recv a' c') m h = h.2
+recv_next a c n (Pick b' l) m h = absurd h
+recv_next a c n (Branch a' l) m h = absurd h
+
 pub state_send : (arms : List Arm) (x : Arm) (b : NameId) (c : Payload) → AreKin arms → IsIn x arms → x.act ≡ Send b c → IsStateOf arms (state.Send b c x.next)
 state_send arms x b c kin among is = record {
   sound = λ a n h. sound_at a n h;
   complete = λ y h. send_complete b c x.next y.act y.next (subst (λ v. IsKin v x.next y.act y.next) is (kin x y among h));
   ends = (λ e. absurd (cc), λ e. absurd (cc));
+  labels = λ names up. tt;
+  numbered = λ i d h. counts_once i d x.next (nexts arms) (λ m p. one_next m (in_map_back (λ (y : Arm). y.next) m arms p)) (in_map (λ (y : Arm). y.next) x arms among) h;
 }
   where
+    one_next : (m : ℕ) → (y : Arm) × IsIn y arms × (y.next ≡ m) → x.next ≡ m
+    one_next m p = send_next b c x.next p.0.act p.0.next (subst (λ v. IsKin v x.next p.0.act p.0.next) is (kin x p.0 among p.1)) ∙ p.2
+
     sound_at : (a : Action) (n : ℕ) → IsIn (a, n) (acts_of (state.Send b c x.next)) → (y : Arm) × IsIn y arms × (action_of y.act ≡ a) × (y.next ≡ n)
     sound_at a n (inl e) = (x, among, ap action_of is ∙ ap (λ (p : Action × ℕ). p.0) e, ap (λ (p : Action × ℕ). p.1) e)
     sound_at a n (inr h) = absurd h
@@ -51,8 +71,13 @@ state_recv arms x b c kin among is = record {
   sound = λ a n h. sound_at a n h;
   complete = λ y h. recv_complete b c x.next y.act y.next (subst (λ v. IsKin v x.next y.act y.next) is (kin x y among h));
   ends = (λ e. absurd (cc), λ e. absurd (cc));
+  labels = λ names up. tt;
+  numbered = λ i d h. counts_once i d x.next (nexts arms) (λ m p. one_next m (in_map_back (λ (y : Arm). y.next) m arms p)) (in_map (λ (y : Arm). y.next) x arms among) h;
 }
   where
+    one_next : (m : ℕ) → (y : Arm) × IsIn y arms × (y.next ≡ m) → x.next ≡ m
+    one_next m p = recv_next b c x.next p.0.act p.0.next (subst (λ v. IsKin v x.next p.0.act p.0.next) is (kin x p.0 among p.1)) ∙ p.2
+
     sound_at : (a : Action) (n : ℕ) → IsIn (a, n) (acts_of (state.Recv b c x.next)) → (y : Arm) × IsIn y arms × (action_of y.act ≡ a) × (y.next ≡ n)
     sound_at a n (inl e) = (x, among, ap action_of is ∙ ap (λ (p : Action × ℕ). p.0) e, ap (λ (p : Action × ℕ). p.1) e)
     sound_at a n (inr h) = absurd h
@@ -103,11 +128,33 @@ branch_label b l n (Recv a c) m k = absurd k
 branch_label b l n (Pick b' l') m k = absurd k
 branch_label b l n (Branch a l') m k = ((l', m), inl refl, ap (λ (v : NameId). (offers v l', m)) k)
 
+pick_one : (b l : NameId) (n : ℕ) (act : Act) (m : ℕ) (rest : List (NameId × ℕ)) → IsKin (Pick b l) n act m → map (λ (p : Action × ℕ). p.1) (map (λ (q : NameId × ℕ). (selects b q.0, q.1)) (labelled_act act m ++ rest)) ≡ m ∷ map (λ (p : Action × ℕ). p.1) (map (λ (q : NameId × ℕ). (selects b q.0, q.1)) rest)
+pick_one b l n (Send b' c) m rest k = absurd k
+pick_one b l n (Recv a c) m rest k = absurd k
+pick_one b l n (Pick b' l') m rest k = refl
+pick_one b l n (Branch a l') m rest k = absurd k
+
+pick_nexts : (b l : NameId) (n : ℕ) (arms : List Arm) → ((y : Arm) → IsIn y arms → IsKin (Pick b l) n y.act y.next) → nexts_of (state.Pick b (labelled arms)) ≡ nexts arms
+pick_nexts b l n [] kin = refl
+pick_nexts b l n (x ∷ xs) kin = pick_one b l n x.act x.next (labelled xs) (kin x (inl refl)) ∙ ap (λ t. x.next ∷ t) (pick_nexts b l n xs (λ y h. kin y (inr h)))
+
+pick_word : (names : List (List ℕ)) (b l : NameId) (n : ℕ) (act : Act) (m : ℕ) (rest : List (NameId × ℕ)) → IsKin (Pick b l) n act m → map (λ (q : NameId × ℕ). name_in names q.0) (labelled_act act m ++ rest) ≡ act_word names act ∷ map (λ (q : NameId × ℕ). name_in names q.0) rest
+pick_word names b l n (Send b' c) m rest k = absurd k
+pick_word names b l n (Recv a c) m rest k = absurd k
+pick_word names b l n (Pick b' l') m rest k = refl
+pick_word names b l n (Branch a l') m rest k = absurd k
+
+pick_words : (names : List (List ℕ)) (b l : NameId) (n : ℕ) (arms : List Arm) → ((y : Arm) → IsIn y arms → IsKin (Pick b l) n y.act y.next) → label_words names (state.Pick b (labelled arms)) ≡ arm_words names arms
+pick_words names b l n [] kin = refl
+pick_words names b l n (x ∷ xs) kin = pick_word names b l n x.act x.next (labelled xs) (kin x (inl refl)) ∙ ap (λ t. act_word names x.act ∷ t) (pick_words names b l n xs (λ y h. kin y (inr h)))
+
 pub state_pick : (arms : List Arm) (x : Arm) (b l : NameId) (ls : List (NameId × ℕ)) → AreKin arms → IsIn x arms → x.act ≡ Pick b l → ls ≡ labelled arms → IsStateOf arms (state.Pick b ls)
 state_pick arms x b l ls kin among is all = record {
   sound = λ a n h. sound_at a n h;
   complete = λ y h. complete_at y h;
   ends = (λ e. absurd (cc), λ e. absurd (not_empty _ _ (complete_at x among) e));
+  labels = λ names up. subst Ascend (sym (ap (λ (v : List (NameId × ℕ)). label_words names (state.Pick b v)) all ∙ pick_words names b l x.next arms kin_to)) up;
+  numbered = λ i d h. subst (λ v. Counts i v d) (sym (ap (λ (v : List (NameId × ℕ)). nexts_of (state.Pick b v)) all ∙ pick_nexts b l x.next arms kin_to)) h;
 }
   where
     kin_to : (y : Arm) → IsIn y arms → IsKin (Pick b l) x.next y.act y.next
@@ -125,11 +172,33 @@ state_pick arms x b l ls kin among is all = record {
         let p = pick_label b l x.next y.act y.next (kin_to y h) in
         subst (λ v. IsIn v (acts_of (state.Pick b ls))) p.2 (in_map (λ (q : NameId × ℕ). (selects b q.0, q.1)) p.0 ls (subst (λ v. IsIn p.0 v) (sym all) (labelled_in arms y p.0 h p.1)))
 
+branch_one : (b l : NameId) (n : ℕ) (act : Act) (m : ℕ) (rest : List (NameId × ℕ)) → IsKin (Branch b l) n act m → map (λ (p : Action × ℕ). p.1) (map (λ (q : NameId × ℕ). (offers b q.0, q.1)) (labelled_act act m ++ rest)) ≡ m ∷ map (λ (p : Action × ℕ). p.1) (map (λ (q : NameId × ℕ). (offers b q.0, q.1)) rest)
+branch_one b l n (Send b' c) m rest k = absurd k
+branch_one b l n (Recv a c) m rest k = absurd k
+branch_one b l n (Pick b' l') m rest k = absurd k
+branch_one b l n (Branch a l') m rest k = refl
+
+branch_nexts : (b l : NameId) (n : ℕ) (arms : List Arm) → ((y : Arm) → IsIn y arms → IsKin (Branch b l) n y.act y.next) → nexts_of (state.Branch b (labelled arms)) ≡ nexts arms
+branch_nexts b l n [] kin = refl
+branch_nexts b l n (x ∷ xs) kin = branch_one b l n x.act x.next (labelled xs) (kin x (inl refl)) ∙ ap (λ t. x.next ∷ t) (branch_nexts b l n xs (λ y h. kin y (inr h)))
+
+branch_word : (names : List (List ℕ)) (b l : NameId) (n : ℕ) (act : Act) (m : ℕ) (rest : List (NameId × ℕ)) → IsKin (Branch b l) n act m → map (λ (q : NameId × ℕ). name_in names q.0) (labelled_act act m ++ rest) ≡ act_word names act ∷ map (λ (q : NameId × ℕ). name_in names q.0) rest
+branch_word names b l n (Send b' c) m rest k = absurd k
+branch_word names b l n (Recv a c) m rest k = absurd k
+branch_word names b l n (Pick b' l') m rest k = absurd k
+branch_word names b l n (Branch a l') m rest k = refl
+
+branch_words : (names : List (List ℕ)) (b l : NameId) (n : ℕ) (arms : List Arm) → ((y : Arm) → IsIn y arms → IsKin (Branch b l) n y.act y.next) → label_words names (state.Branch b (labelled arms)) ≡ arm_words names arms
+branch_words names b l n [] kin = refl
+branch_words names b l n (x ∷ xs) kin = branch_word names b l n x.act x.next (labelled xs) (kin x (inl refl)) ∙ ap (λ t. act_word names x.act ∷ t) (branch_words names b l n xs (λ y h. kin y (inr h)))
+
 pub state_branch : (arms : List Arm) (x : Arm) (b l : NameId) (ls : List (NameId × ℕ)) → AreKin arms → IsIn x arms → x.act ≡ Branch b l → ls ≡ labelled arms → IsStateOf arms (state.Branch b ls)
 state_branch arms x b l ls kin among is all = record {
   sound = λ a n h. sound_at a n h;
   complete = λ y h. complete_at y h;
   ends = (λ e. absurd (cc), λ e. absurd (not_empty _ _ (complete_at x among) e));
+  labels = λ names up. subst Ascend (sym (ap (λ (v : List (NameId × ℕ)). label_words names (state.Branch b v)) all ∙ branch_words names b l x.next arms kin_to)) up;
+  numbered = λ i d h. subst (λ v. Counts i v d) (sym (ap (λ (v : List (NameId × ℕ)). nexts_of (state.Branch b v)) all ∙ branch_nexts b l x.next arms kin_to)) h;
 }
   where
     kin_to : (y : Arm) → IsIn y arms → IsKin (Branch b l) x.next y.act y.next

@@ -1,5 +1,5 @@
 -- The table of a role's view, set by set.
-use Rattle.std.proofs.Common.{ℕ, ◌≡◌, ◌+◌, ◌<◌, ◌≤◌, List, [], ◌∷◌, ◌++◌, Bool, true, false, refl, ap, sym, subst, ◌∙◌, arith, inl, inr, length, take, zero, suc, length-append, length-set}
+use Rattle.std.proofs.Common.{drop, ℕ, ◌≡◌, ◌+◌, ◌<◌, ◌≤◌, List, [], ◌∷◌, ◌++◌, Bool, true, false, refl, ap, sym, subst, ◌∙◌, arith, inl, inr, length, take, zero, suc, length-append, length-set}
 use Rattle.std.specs.declared.alloc.Global.{Global}
 use Rattle.std.specs.Prelude.{◌⊎◌, Some, Vec, slice_get, slice_index_or, slice_set, bytes_eq, if◌then◌else◌, MatchBool}
 use Rattle.std.specs.List.{list_any}
@@ -17,7 +17,10 @@ use Rattle.local_types.specs.declared.table.Row.{Row}
 use Rattle.local_types.specs.Moves.{action_of}
 use Rattle.local_types.specs.Sets.{Has, row_at, IsSetFor}
 use Rattle.local_types.specs.Graph.{AreRowsFor}
-use Rattle.local_types.specs.Table.{Silent, AreActs, Target, IsNext, Keeps, HasGrown, IsArm, AreArms, IsRow, IsFound, IsTable, AreTooMany, IsWhole}
+use Rattle.local_types.specs.Table.{Silent, AreActs, Target, IsNext, Keeps, HasGrown, IsArm, AreArms, IsRow, IsFound, IsTable, AreTooMany, IsWhole, nexts, all_nexts, Counts, group_words, arm_words, HasAscendingArms}
+use Rattle.local_types.specs.Reading.{Ascend}
+use Rattle.local_types.proofs.Ascents.{arms_ascend_begin, arms_ascend_in, arms_ascend_out}
+use Rattle.local_types.proofs.Counts.{counts_arm, counts_row}
 use Rattle.local_types.proofs.Lists.{in_more, in_kept, in_new, in_push, in_left, in_last, in_of_at}
 use Rattle.local_types.proofs.Sets.{set_put, set_same, has_within}
 use Rattle.local_types.proofs.Walks.{at_is_still, still_silent, still_is_tail, at_after, at_before, nil_not_push}
@@ -294,6 +297,8 @@ pub record ArmsSoFar (gs : List Group) (still : List ℕ) (first : List (List �
   pub grown : (ss : List State) (r : NameId) → AreActs ss r gs → HasGrown ss r (length still) still first sets
   pub sound : (ss : List State) (r : NameId) → AreActs ss r gs → (arm : Arm) → IsIn arm arms → IsArm ss r (length still) sets still arm
   pub complete : (g : Group) → IsIn g (take i gs) → (e : Edge) → IsIn e g.edges.items → Has still e.from → (arm : Arm) × IsIn arm arms × (arm.act ≡ g.act)
+  pub numbered : Counts (length first) (nexts arms) (length sets)
+  pub ascend : (names : List (List ℕ)) → Ascend (group_words names gs) → Ascend (arm_words names arms ++ group_words names (drop i gs))
 
 pub arms_begin : (gs : List Group) (still : List ℕ) (sets : List (List ℕ)) → length sets ≤ 1024 → AllDistinct sets → ArmsSoFar gs still sets 0 sets []
 arms_begin gs still sets few distinct = record {
@@ -304,6 +309,8 @@ arms_begin gs still sets few distinct = record {
   grown = λ ss r acts. grown_begins ss r (length still) still sets;
   sound = λ ss r acts arm m. absurd m;
   complete = λ g m. absurd m;
+  numbered = refl;
+  ascend = λ names up. arms_ascend_begin names gs up;
 }
 
 pub group_among : (gs : List Group) (i : ℕ) (g : Group) → i < length gs → g ≡ slice_index_or gs i g → IsIn g gs
@@ -342,6 +349,8 @@ arms_in gs still first i sets arms g word new arm more was h is allowed set adde
   grown = grown_over gs still first i sets arms g word new was h is allowed set added;
   sound = λ ss r acts a m. sound_at ss r acts a (in_push a arm arms m);
   complete = λ k m e o p. complete_at k e o p (in_more k gs i g h m);
+  numbered = counts_arm (length first) arms arm sets new word was.numbered added distinct at;
+  ascend = λ names up. arms_ascend_in names gs i g arms arm h is act (was.ascend names up);
 })
   where
     keeps : Keeps sets new
@@ -367,6 +376,8 @@ arms_out gs still first i sets arms g was h is not = record {
   grown = was.grown;
   sound = was.sound;
   complete = λ k m e o p. complete_at k e o p (in_more k gs i g h m);
+  numbered = was.numbered;
+  ascend = λ names up. arms_ascend_out names gs i g arms h (was.ascend names up);
 }
   where
     complete_at : (k : Group) (e : Edge) → IsIn e k.edges.items → Has still e.from → IsIn k (take i gs) ⊎ (slice_index_or gs i g ≡ k) → (a : Arm) × IsIn a arms × (a.act ≡ k.act)
@@ -394,6 +405,8 @@ pub record RowsSoFar (gs : List Group) (reach : List (Vec ℕ Global)) (sets : L
   pub distinct : AllDistinct sets
   pub sizes : (k : ℕ) (v : List ℕ) → slice_get sets k ≡ Some v → length v ≡ length reach
   pub table : (ss : List State) (r : NameId) → AreRowsFor (length reach) (Silent ss r) reach → AreActs ss r gs → IsTable ss r (length reach) sets rows
+  pub numbered : Counts 1 (all_nexts rows) (length sets)
+  pub ascend : (names : List (List ℕ)) → Ascend (group_words names gs) → HasAscendingArms names rows
 
 pub rows_begin : (gs : List Group) (reach : List (Vec ℕ Global)) (marks word : List ℕ) (sets : List (List ℕ)) (rows : List Row) → 0 < length reach
     → IsSetFor (length reach) (λ i. ⊥) marks → word ≡ slice_set marks 0 1 → sets ≡ word ∷ [] → AllDistinct sets → rows ≡ []
@@ -404,6 +417,8 @@ rows_begin gs reach marks word sets rows h none is one distinct empty = rw (one,
   distinct = (let P : List (List ℕ) → Type 0 = λ s. AllDistinct s in subst P one distinct);
   sizes = λ k v e. sizes_at k v e;
   table = λ ss r are acts. table_begins ss r (length reach) word (rw is (first_found ss r (length reach) marks h none));
+  numbered = refl;
+  ascend = λ names up row m. absurd m;
 })
   where
     sizes_at : (k : ℕ) (v : List ℕ) → slice_get (word ∷ []) k ≡ Some v → length v ≡ length reach
@@ -417,17 +432,25 @@ pub rows_in : (gs : List Group) (reach : List (Vec ℕ Global)) (sets new : List
     → ((k : ℕ) (v : List ℕ) → slice_get new k ≡ Some v → (slice_get sets k ≡ Some v) ⊎ (length v ≡ length row.still.items))
     → ((ss : List State) (r : NameId) → AreActs ss r gs → HasGrown ss r (length row.still.items) row.still.items sets new)
     → ((ss : List State) (r : NameId) → AreActs ss r gs → AreArms ss r (length row.still.items) new row.still.items row.arms.items)
+    → Counts (length sets) (nexts row.arms.items) (length new)
+    → ((names : List (List ℕ)) → Ascend (group_words names gs) → Ascend (arm_words names row.arms.items))
     → more ≡ rows ++ row ∷ []
     → RowsSoFar gs reach new more
-rows_in gs reach sets new rows more word row was at still distinct few long sizes grown arms is = record {
+rows_in gs reach sets new rows more word row was at still distinct few long sizes grown arms numbered ascend is = record {
   few = few;
   done = (let e : length more ≡ length rows + 1 = ap (λ (l : List Row). length l) is ∙ length-append rows (row ∷ []) in let b : length rows < length new = longer in omega (arith, e, b));
   distinct = distinct;
   sizes = λ k v e. sizes_at k v (sizes k v e);
   table = λ ss r are acts. table_more ss r (length reach) sets new rows more word row (was.table ss r are acts) at (union_is ss r (length reach) reach word row.still.items are size still)
       (subst (λ n. HasGrown ss r n row.still.items sets new) still_size (grown ss r acts)) (subst (λ n. AreArms ss r n new row.still.items row.arms.items) still_size (arms ss r acts)) is;
+  numbered = subst (λ (l : List Row). Counts 1 (all_nexts l) (length new)) (sym is) (counts_row 1 (length sets) (length new) rows row was.numbered numbered);
+  ascend = λ names up o m. ascend_at names up o (in_push o row rows (subst (λ (l : List Row). IsIn o l) is m));
 }
   where
+    ascend_at : (names : List (List ℕ)) → Ascend (group_words names gs) → (o : Row) → IsIn o rows ⊎ (row ≡ o) → Ascend (arm_words names o.arms.items)
+    ascend_at names up o (inl m) = was.ascend names up o m
+    ascend_at names up o (inr e) = subst (λ (v : Row). Ascend (arm_words names v.arms.items)) e (ascend names up)
+
     size : length word ≡ length reach
     size = was.sizes (length rows) word at
 
@@ -448,6 +471,7 @@ rows_end gs reach sets rows was h ss r are acts = record {
   distinct = was.distinct;
   whole = (let d = was.done in omega (arith, d, h));
   few = was.few;
+  numbered = was.numbered;
   table = was.table ss r are acts;
 }
 

@@ -1,9 +1,10 @@
 -- What a role's view is made from: where silent exchanges lead, and where the role's own acts lead.
-use Rattle.std.specs.Prelude.{ℕ, ◌≡◌, ◌<◌, ◌⊎◌, List, [], ◌∷◌, Some, length, Vec}
+use Rattle.std.specs.Prelude.{ℕ, Bool, true, false, ◌%◌, ◌==◌, Option, None, ◌≡◌, ◌<◌, ◌⊎◌, List, [], ◌∷◌, Some, length, Vec}
 use Rattle.std.specs.declared.alloc.Global.{Global}
 use Rattle.global_types.specs.Moves.{IsIn}
 use Rattle.global_types.specs.Paths.{Action}
 use Rattle.local_types.specs.declared.act.Act.{Act}
+use Rattle.local_types.specs.declared.act.Act.TheVariants.{Send, Recv, Pick, Branch}
 use Rattle.local_types.specs.declared.graph.Edge.{Edge}
 use Rattle.local_types.specs.declared.graph.Group.{Group}
 use Rattle.local_types.specs.declared.moves.Move.{Move}
@@ -37,9 +38,35 @@ pub record AreEdges (ms : List Move) (a : Action) (es : List Edge) : Type 0 wher
 abbrev pub Covers : List Move → List Act → Type 0
 Covers ms acts = (m : Move) (a : Act) → IsIn m ms → m.act ≡ Some a → (b : Act) × IsIn b acts × (action_of b ≡ action_of a)
 
+-- the act is that of one of the moves
+abbrev pub IsActOf : List Move → Act → Type 0
+IsActOf ms b = (m : Move) × IsIn m ms × (m.act ≡ Some b)
+
+-- these are the acts of the moves, and there is no other one
+pub record AreActsOf (ms : List Move) (acts : List Act) : Type 0 where
+  pub own : (b : Act) → IsIn b acts → IsActOf ms b
+  pub covers : Covers ms acts
+
 pub record AreGroups (ms : List Move) (gs : List Group) : Type 0 where
+  pub own : (g : Group) → IsIn g gs → IsActOf ms g.act
   pub edges : (g : Group) → IsIn g gs → AreEdges ms (action_of g.act) g.edges.items
   pub covers : (m : Move) (a : Act) → IsIn m ms → m.act ≡ Some a → (g : Group) × IsIn g gs × (action_of g.act ≡ action_of a)
+
+-- the part into which an act falls, by the number of its label
+abbrev pub part_number : Act → ℕ
+part_number (Send b c) = 0
+part_number (Recv a c) = 0
+part_number (Pick b l) = l.0 % 128
+part_number (Branch a l) = l.0 % 128
+
+abbrev pub falls : ℕ → Option Act → Bool
+falls n None = false
+falls n (Some a) = part_number a == n
+
+-- the moves whose acts fall into a part
+pub record IsPart (ms : List Move) (n : ℕ) (part : List Move) : Type 0 where
+  pub sound : (m : Move) → IsIn m part → IsIn m ms × (falls n m.act ≡ true)
+  pub complete : (m : Move) → IsIn m ms → falls n m.act ≡ true → IsIn m part
 
 -- both states of each edge are among the first n
 abbrev pub AreInside : ℕ → List Group → Type 0

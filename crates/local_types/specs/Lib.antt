@@ -1,5 +1,6 @@
 pub mod Text
 pub mod Reading
+pub mod Numbers
 pub mod Sets
 pub mod Moves
 pub mod Graph

@@ -1,5 +1,9 @@
 -- What a role's type says: the lists of actions that can be read from it.
-use Rattle.std.specs.Prelude.{take, Option, None, ◌==◌, if◌then◌else◌, ℕ, ◌<◌, ◌≤◌, ◌^◌, length, ◌≡◌, ◌↔◌, List, [], ◌∷◌, map, Some, slice_get}
+use Rattle.std.specs.Prelude.{false, take, Option, None, ◌==◌, if◌then◌else◌, ℕ, ◌<◌, ◌≤◌, ◌^◌, length, ◌≡◌, ◌↔◌, List, [], ◌∷◌, map, Some, slice_get}
+use Rattle.std.specs.List.{flat_map}
+use Rattle.std.specs.Ordering.{is_lt, nat_cmp}
+use Rattle.std.specs.Cmp.Lexicographic.{slice_cmp}
+use Rattle.chor_base.specs.Writing.{name_in}
 use Rattle.chor_base.specs.declared.names.NameId.{NameId}
 use Rattle.chor_base.specs.declared.rule.Place.{Place}
 use Rattle.chor_base.specs.declared.rule.Rule.{Rule}
@@ -9,7 +13,7 @@ use Rattle.chor_tree.specs.declared.file.Named.{Named}
 use Rattle.chor_tree.specs.declared.protocol.Protocol.{Protocol}
 use Rattle.chor_tree.specs.declared.protocol.State.{State}
 use Rattle.global_types.specs.Moves.{IsIn, content_of}
-use Rattle.global_types.specs.Paths.{Action, sends, receives, selects, offers, IsView}
+use Rattle.global_types.specs.Paths.{Action, sends, receives, selects, offers, IsView, At}
 use Rattle.global_types.specs.Views.{IsViewFault, HasNoViewFault}
 use Rattle.local_types.specs.declared.local_type.LocalState.{LocalState}
 use Rattle.local_types.specs.declared.local_type.LocalState.TheVariants.{End, Send, Recv, Pick, Branch}
@@ -22,16 +26,57 @@ acts_of (Recv a c n) = (receives a (content_of c), n) ∷ []
 acts_of (Pick b ls) = map (λ l. (selects b l.0, l.1)) ls
 acts_of (Branch a ls) = map (λ l. (offers a l.0, l.1)) ls
 
+-- these actions, read one after the other, lead from state n to state m
+abbrev pub LeadsTo : List LocalState → ℕ → List Action → ℕ → Type 0
+LeadsTo ts n [] m = n ≡ m
+LeadsTo ts n (a ∷ w) m = (t : LocalState) × (slice_get ts n ≡ Some t) × (k : ℕ) × IsIn (a, k) (acts_of t) × LeadsTo ts k w m
+
 -- these actions can be read from state n
 abbrev pub IsRead : List LocalState → ℕ → List Action → Type 0
-IsRead ts n [] = Unit {0}
-IsRead ts n (a ∷ w) = (t : LocalState) × (slice_get ts n ≡ Some t) × (m : ℕ) × IsIn (a, m) (acts_of t) × IsRead ts m w
+IsRead ts n w = (m : ℕ) × LeadsTo ts n w m
+
+-- the two sets have the same states
+abbrev pub AreSame : (ℕ → Type 0) → (ℕ → Type 0) → Type 0
+AreSame S T = (i : ℕ) → (S i) ↔ (T i)
 
 -- The type stands for the role's view: what can be read from its first state is what the view holds, and a state is the
--- end exactly where no action follows
+-- end exactly where no action follows. Its states are what the role can tell apart: each is led to by some list of
+-- actions, and two lists lead to the same state exactly where they leave the protocol in the same set of states
 pub record IsTypeOf (ss : List State) (r : NameId) (ts : List LocalState) : Type 0 where
   pub view : (w : List Action) → (IsRead ts 0 w) ↔ (IsView ss r w)
   pub ends : (n : ℕ) (t : LocalState) → slice_get ts n ≡ Some t → (t ≡ End) ↔ (acts_of t ≡ [])
+  pub there : (w : List Action) (n : ℕ) → LeadsTo ts 0 w n → (t : LocalState) × (slice_get ts n ≡ Some t)
+  pub led : (n : ℕ) (t : LocalState) → slice_get ts n ≡ Some t → (w : List Action) × LeadsTo ts 0 w n
+  pub told : (v w : List Action) (n m : ℕ) → LeadsTo ts 0 v n → LeadsTo ts 0 w m → (n ≡ m) ↔ AreSame (At ss r v) (At ss r w)
+
+-- the numbers of the states after a state, in the order of its actions
+abbrev pub nexts_of : LocalState → List ℕ
+nexts_of t = map (λ p. p.1) (acts_of t)
+
+-- wherever a number stands among these, each lesser one but 0 stands before it
+abbrev pub AreInOrder : List ℕ → Type 0
+AreInOrder ns = (i n m : ℕ) → slice_get ns i ≡ Some n → 0 < m → m < n → IsIn m (take i ns)
+
+-- The states are numbered as they are found: those after state 0 first, then those after state 1, and so on
+abbrev pub IsBreadthFirst : List LocalState → Type 0
+IsBreadthFirst ts = AreInOrder (flat_map nexts_of ts)
+
+-- no word stands before a lesser one, as bytes are compared
+abbrev pub Ascend : List (List ℕ) → Type 0
+Ascend [] = Unit {0}
+Ascend (w ∷ ws) = ((v : List ℕ) → IsIn v ws → is_lt (slice_cmp nat_cmp v w) ≡ false) × Ascend ws
+
+-- the words of a state's labels
+abbrev pub label_words : List (List ℕ) → LocalState → List (List ℕ)
+label_words names End = []
+label_words names (Send b c n) = []
+label_words names (Recv a c n) = []
+label_words names (Pick b ls) = map (λ l. name_in names l.0) ls
+label_words names (Branch a ls) = map (λ l. name_in names l.0) ls
+
+-- The labels of each state stand in ascending order
+abbrev pub HasAscendingLabels : List (List ℕ) → List LocalState → Type 0
+HasAscendingLabels names ts = (n : ℕ) (t : LocalState) → slice_get ts n ≡ Some t → Ascend (label_words names t)
 
 -- it has a first state, and fewer states than there are numbers for them
 pub record IsProper (p : Protocol) : Type 0 where

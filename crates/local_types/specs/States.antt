@@ -10,7 +10,8 @@ use Rattle.local_types.specs.declared.local_type.LocalState.TheVariants.{End}
 use Rattle.local_types.specs.declared.table.Arm.{Arm}
 use Rattle.local_types.specs.declared.table.Row.{Row}
 use Rattle.local_types.specs.Moves.{action_of}
-use Rattle.local_types.specs.Reading.{acts_of}
+use Rattle.local_types.specs.Reading.{acts_of, nexts_of, Ascend, label_words}
+use Rattle.local_types.specs.Table.{Counts, nexts, arm_words}
 
 -- two acts with the sets after them that one state can have: all is the same, but for labels
 abbrev pub IsKin : Act → ℕ → Act → ℕ → Type 0
@@ -34,11 +35,13 @@ abbrev pub labelled : List Arm → List (NameId × ℕ)
 labelled [] = []
 labelled (x ∷ xs) = labelled_act x.act x.next ++ labelled xs
 
--- the state's actions are those of the arms, and it is the end exactly where there is none
+-- the state's actions are those of the arms, in their order, and it is the end exactly where there is none
 pub record IsStateOf (arms : List Arm) (t : LocalState) : Type 0 where
   pub sound : (a : Action) (n : ℕ) → IsIn (a, n) (acts_of t) → (x : Arm) × IsIn x arms × (action_of x.act ≡ a) × (x.next ≡ n)
   pub complete : (x : Arm) → IsIn x arms → IsIn (action_of x.act, x.next) (acts_of t)
   pub ends : (t ≡ End) ↔ (acts_of t ≡ [])
+  pub labels : (names : List (List ℕ)) → Ascend (arm_words names arms) → Ascend (label_words names t)
+  pub numbered : (c d : ℕ) → Counts c (nexts arms) d → Counts c (nexts_of t) d
 
 -- a state for each row
 pub record AreStatesOf (rows : List Row) (ts : List LocalState) : Type 0 where

@@ -1,12 +1,17 @@
 -- The sets of states that a role can't tell apart, with what follows each.
-use Rattle.std.specs.Prelude.{ℕ, ◌≡◌, ◌≤◌, ◌⊎◌, List, [], ◌∷◌, Some, length, Vec, slice_get}
+use Rattle.std.specs.Prelude.{ℕ, suc, ◌<◌, map, ◌≡◌, ◌≤◌, ◌⊎◌, List, [], ◌∷◌, Some, length, Vec, slice_get}
 use Rattle.std.specs.declared.alloc.Global.{Global}
+use Rattle.std.specs.List.{flat_map}
 use Rattle.chor_base.specs.declared.names.NameId.{NameId}
 use Rattle.chor_base.specs.Words.{AllDistinct}
 use Rattle.chor_tree.specs.declared.protocol.State.{State}
 use Rattle.global_types.specs.Moves.{IsIn, Exchange, Leads}
 use Rattle.global_types.specs.Paths.{IsPath, Action, action_in, actions_of, At}
 use Rattle.global_types.specs.Views.{IsApart}
+use Rattle.chor_base.specs.Writing.{name_in}
+use Rattle.local_types.specs.declared.act.Act.{Act}
+use Rattle.local_types.specs.declared.act.Act.TheVariants.{Send, Recv, Pick, Branch}
+use Rattle.local_types.specs.Reading.{Ascend}
 use Rattle.local_types.specs.declared.graph.Edge.{Edge}
 use Rattle.local_types.specs.declared.graph.Group.{Group}
 use Rattle.local_types.specs.declared.table.Arm.{Arm}
@@ -81,6 +86,35 @@ pub record IsTable (ss : List State) (r : NameId) (n : ℕ) (sets : List (List �
   pub found : (k : ℕ) (word : List ℕ) → slice_get sets k ≡ Some word → IsFound ss r n word
   pub follows : (k : ℕ) (word : List ℕ) (row : Row) → slice_get rows k ≡ Some row → slice_get sets k ≡ Some word → IsRow ss r n sets word row
 
+-- the numbers of the sets after a state, in the order of its acts
+abbrev pub nexts : List Arm → List ℕ
+nexts arms = map (λ x. x.next) arms
+
+abbrev pub all_nexts : List Row → List ℕ
+all_nexts rows = flat_map (λ row. nexts row.arms.items) rows
+
+-- each of these numbers was given out before, or is the next one; the first c were given out at the beginning, and d are in the end
+abbrev pub Counts : ℕ → List ℕ → ℕ → Type 0
+Counts c [] d = c ≡ d
+Counts c (n ∷ ns) d = ((n < c) × Counts c ns d) ⊎ ((n ≡ c) × Counts (suc c) ns d)
+
+-- the word of an act's label; an act without a label has an empty one
+abbrev pub act_word : List (List ℕ) → Act → List ℕ
+act_word names (Send b c) = []
+act_word names (Recv a c) = []
+act_word names (Pick b l) = name_in names l
+act_word names (Branch a l) = name_in names l
+
+abbrev pub group_words : List (List ℕ) → List Group → List (List ℕ)
+group_words names gs = map (λ g. act_word names g.act) gs
+
+abbrev pub arm_words : List (List ℕ) → List Arm → List (List ℕ)
+arm_words names arms = map (λ x. act_word names x.act) arms
+
+-- the arms of each row stand by ascending labels
+abbrev pub HasAscendingArms : List (List ℕ) → List Row → Type 0
+HasAscendingArms names rows = (row : Row) → IsIn row rows → Ascend (arm_words names row.arms.items)
+
 -- More different sets than a view may have
 pub record AreTooMany (ss : List State) (r : NameId) (n : ℕ) : Type 0 where
   pub sets : List (List ℕ)
@@ -94,6 +128,7 @@ pub record IsWhole (ss : List State) (r : NameId) (n : ℕ) (rows : List Row) : 
   pub distinct : AllDistinct sets
   pub whole : length sets ≡ length rows
   pub few : length sets ≤ 1024
+  pub numbered : Counts 1 (all_nexts rows) (length sets)
   pub table : IsTable ss r n sets rows
 
 -- ---- what the rules of views ask of a state

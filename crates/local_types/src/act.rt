@@ -2,7 +2,10 @@
 
 ghost use Rattle.std.specs.Prelude.{◌≡◌, IsTrue, ◌↔◌};
 ghost use Rattle.global_types.specs.Moves.{content_of};
+ghost use Rattle.std.specs.Ordering.{nat_cmp};
+ghost use Rattle.std.specs.Cmp.Lexicographic.{slice_cmp};
 ghost use Rattle.local_types.specs.Moves.{action_of};
+ghost use Rattle.local_types.specs.Table.{act_word};
 
 use chor_base::{NameId, Names};
 use chor_tree::Payload;
@@ -60,7 +63,9 @@ pub fn same_act(one: &Act, other: &Act) -> bool
 }
 
 // The bytes of an act's label. An act without a label has none.
-fn label_bytes<'a>(names: &'a Names, act: &Act) -> &'a [u8] {
+fn label_bytes<'a>(names: &'a Names, act: &Act) -> &'a [u8]
+    ensures { result.now ≡ act_word names.now act.now }
+{
     match act {
         Act::Pick(_, label) | Act::Branch(_, label) if (label.0 as usize) < names.len() => {
             names.at(*label)
@@ -70,6 +75,8 @@ fn label_bytes<'a>(names: &'a Names, act: &Act) -> &'a [u8] {
 }
 
 // The order of acts by the bytes of their labels.
-pub fn by_label(names: &Names, one: &Act, other: &Act) -> Ordering {
+pub fn by_label(names: &Names, one: &Act, other: &Act) -> Ordering
+    ensures { result ≡ slice_cmp nat_cmp (act_word names.now one.now) (act_word names.now other.now) }
+{
     label_bytes(names, one).cmp(label_bytes(names, other))
 }

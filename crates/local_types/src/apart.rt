@@ -146,12 +146,26 @@ fn same_labels(arms: &[ProtoArm], others: &[ProtoArm]) -> bool
 fn offers_all(arms: &[ProtoArm], others: &[ProtoArm]) -> bool
     ensures { IsTrue result ↔ ((l : NameId) → IsIn l (labels_of arms.now) → IsIn l (labels_of others.now)) }
 {
-    for arm in arms {
-        if !offers(others, arm.label.name) {
+    for (number, arm) in arms.iter().enumerate() {
+        if !offers_near(others, number, arm.label.name) {
             return false;
         }
     }
     true
+}
+
+// Whether a label is among these arms. It is looked for at the place where it stands if both choices
+// have one order, and then everywhere.
+fn offers_near(arms: &[ProtoArm], place: usize, label: NameId) -> bool
+    ensures { IsTrue result ↔ (IsIn label (labels_of arms.now)) }
+{
+    stands_at(arms, place, label) || offers(arms, label)
+}
+
+fn stands_at(arms: &[ProtoArm], place: usize, label: NameId) -> bool
+    ensures { IsTrue result → IsIn label (labels_of arms.now) }
+{
+    place < arms.len() && arms[place].label.name == label
 }
 
 fn offers(arms: &[ProtoArm], label: NameId) -> bool

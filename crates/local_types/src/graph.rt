@@ -3,8 +3,10 @@
 ghost use Rattle.std.specs.Prelude.{◌≡◌, ◌<◌, ◌⊎◌, ℕ, [], ◌∷◌, IfOk, OnOk, MatchBool, IsTrue, ◌↔◌, Some, None, length};
 ghost use Rattle.global_types.specs.Moves.{IsIn};
 ghost use Rattle.local_types.specs.Moves.{action_of, actions_in};
+ghost use Rattle.local_types.specs.Reading.{Ascend};
+ghost use Rattle.local_types.specs.Table.{group_words};
 ghost use Rattle.local_types.specs.Sets.{Has, row_at, IsSetFor};
-ghost use Rattle.local_types.specs.Graph.{HasMove, IsSilentPath, GoesSilently, AreEdges, Covers, AreGroups, AreWithin, AreRowsFor, IsThrough};
+ghost use Rattle.local_types.specs.Graph.{HasMove, IsSilentPath, GoesSilently, AreEdges, AreActsOf, AreGroups, part_number, falls, IsPart, AreWithin, AreRowsFor, IsThrough};
 
 use crate::act::{Act, by_label, same_act};
 use crate::marks::{has, no_marks, put, put_all};
@@ -26,18 +28,69 @@ pub struct Group {
     pub edges: Vec<Edge>,
 }
 
+// Into how many parts moves are cut, by the numbers of their labels. An act is compared with those of
+// its part alone, which are few also where no two exchanges have the same label.
+const PARTS: u32 = 128;
+
 // The acts of a role, by ascending labels.
 pub fn groups(alloc: Global, moves: &[Move], names: &Names) -> Result<Vec<Group>, Memory>
+    ensures are { IfOk result (λ v. AreGroups moves.now v.items) }
+    ensures ascend { IfOk result (λ v. Ascend (group_words names.now v.items)) }
+{
+    let mut groups = Vec::new(alloc);
+    for number in 0..PARTS {
+        let part = part(alloc, moves, number)?;
+        let mut more = groups_in(alloc, part.as_slice())?;
+        groups.append(&mut more)?;
+    }
+    groups.sort_by(|one, other| by_label(names, &one.act, &other.act))?;
+    Ok(groups)
+}
+
+// The moves whose acts fall into a part.
+fn part(alloc: Global, moves: &[Move], number: u32) -> Result<Vec<Move>, Memory>
+    ensures { IfOk result (λ v. IsPart moves.now number v.items) }
+{
+    let mut part = Vec::new(alloc);
+    for item in moves {
+        if falls(item, number) {
+            part.push(*item)?;
+        }
+    }
+    Ok(part)
+}
+
+// Whether the act of a move falls into a part. Where the role doesn't act, it falls into none.
+fn falls(item: &Move, number: u32) -> bool
+    ensures { result ≡ falls number item.now.act }
+{
+    match &item.act {
+        Some(act) => part_number(act) == number,
+        None => false,
+    }
+}
+
+// The part into which an act falls.
+fn part_number(act: &Act) -> u32
+    ensures { result ≡ part_number act.now }
+{
+    match act {
+        Act::Pick(_, label) | Act::Branch(_, label) => label.0 % PARTS,
+        _ => 0,
+    }
+}
+
+// The acts of some moves.
+fn groups_in(alloc: Global, moves: &[Move]) -> Result<Vec<Group>, Memory>
     ensures { IfOk result (λ v. AreGroups moves.now v.items) }
 {
-    let mut acts = acts(alloc, moves)?;
-    acts.sort_by(|one, other| by_label(names, one, other))?;
+    let acts = acts(alloc, moves)?;
     groups_of(alloc, moves, acts.as_slice())
 }
 
 // These acts, each with all exchanges in which the role does so.
 fn groups_of(alloc: Global, moves: &[Move], acts: &[Act]) -> Result<Vec<Group>, Memory>
-    requires { Covers moves.now acts.now }
+    requires { AreActsOf moves.now acts.now }
     ensures { IfOk result (λ v. AreGroups moves.now v.items) }
 {
     let mut groups = Vec::new(alloc);
@@ -50,7 +103,7 @@ fn groups_of(alloc: Global, moves: &[Move], acts: &[Act]) -> Result<Vec<Group>, 
 
 // The acts of these moves, each once.
 fn acts(alloc: Global, moves: &[Move]) -> Result<Vec<Act>, Memory>
-    ensures { IfOk result (λ v. Covers moves.now v.items) }
+    ensures { IfOk result (λ v. AreActsOf moves.now v.items) }
 {
     let mut acts = Vec::new(alloc);
     for item in moves {
@@ -62,6 +115,7 @@ fn acts(alloc: Global, moves: &[Move]) -> Result<Vec<Act>, Memory>
 // An act comes in, unless it is there.
 fn add_act(acts: &mut Vec<Act>, act: Option<Act>) -> Result<(), Memory>
     ensures kept { (b : Act) → IsIn b acts.old.items → IsIn b acts.new.items }
+    ensures own { (b : Act) → IsIn b acts.new.items → IsIn b acts.old.items ⊎ (act ≡ Some b) }
     ensures added { OnOk result ((a : Act) → act ≡ Some a → (b : Act) × IsIn b acts.new.items × (action_of b ≡ action_of a)) }
 {
     if let Some(act) = act

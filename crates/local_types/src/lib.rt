@@ -4,6 +4,7 @@
 mod act;
 mod apart;
 mod graph;
+mod laws;
 mod local_type;
 mod marks;
 mod moves;
@@ -13,6 +14,7 @@ mod table;
 mod tests;
 mod view;
 
+pub use laws::{one_state, only_numbers_are_free, states_are_sets, view_leads_to_states};
 pub use local_type::{LocalState, LocalType};
 pub use print::print_local;
 pub use view::{check_views, local};

@@ -7,7 +7,8 @@ ghost use Rattle.chor_tree.specs.declared.protocol.State.{State};
 ghost use Rattle.global_types.specs.Moves.{IsIn};
 ghost use Rattle.local_types.specs.Sets.{Has, row_at, IsSetFor};
 ghost use Rattle.local_types.specs.Graph.{AreRowsFor, AreInside};
-ghost use Rattle.local_types.specs.Table.{Silent, AreActs, HasGrown, AreArms, AreTooMany, IsWhole};
+ghost use Rattle.local_types.specs.Table.{Silent, AreActs, HasGrown, AreArms, nexts, Counts, group_words, arm_words, HasAscendingArms, AreTooMany, IsWhole};
+ghost use Rattle.local_types.specs.Reading.{Ascend};
 
 use crate::act::Act;
 use crate::graph::{Edge, Group};
@@ -38,7 +39,8 @@ pub fn rows(alloc: Global, groups: &[Group], reach: &[Vec<u8>]) -> Result<Option
     requires first { 0 < length reach.now }
     requires reach { (k i : ℕ) → Has (row_at reach.now k) i → i < length reach.now }
     requires inside { AreInside (length reach.now) groups.now }
-    ensures { IfOk result (λ o. (ss : List State) (r : NameId) → AreRowsFor (length reach.now) (Silent ss r) reach.now → AreActs ss r groups.now → MatchOption o (AreTooMany ss r (length reach.now)) (λ v. IsWhole ss r (length reach.now) v.items)) }
+    ensures ascend { IfOk result (λ o. MatchOption o (Unit {0}) (λ v. (names : List (List ℕ)) → Ascend (group_words names groups.now) → HasAscendingArms names v.items)) }
+    ensures table { IfOk result (λ o. (ss : List State) (r : NameId) → AreRowsFor (length reach.now) (Silent ss r) reach.now → AreActs ss r groups.now → MatchOption o (AreTooMany ss r (length reach.now)) (λ v. IsWhole ss r (length reach.now) v.items)) }
 {
     let mut first = no_marks(alloc, reach.len())?;
     put(&mut first, 0);
@@ -71,6 +73,8 @@ fn arms(
     ensures sizes { OnOk result ((k : ℕ) (v : List ℕ) → slice_get sets.new k ≡ Some v → (slice_get sets.old k ≡ Some v) ⊎ (length v ≡ length still.now)) }
     ensures count { IfOk result (λ o. MatchOption o (length sets.new ≡ 1025) (λ v. length sets.new ≤ 1024)) }
     ensures grown { OnOk result ((ss : List State) (r : NameId) → AreActs ss r groups.now → HasGrown ss r (length still.now) still.now sets.old sets.new) }
+    ensures numbered { IfOk result (λ o. MatchOption o (Unit {0}) (λ v. Counts (length sets.old) (nexts v.items) (length sets.new))) }
+    ensures ascend { IfOk result (λ o. MatchOption o (Unit {0}) (λ v. (names : List (List ℕ)) → Ascend (group_words names groups.now) → Ascend (arm_words names v.items))) }
     ensures arms { IfOk result (λ o. (ss : List State) (r : NameId) → AreActs ss r groups.now → MatchOption o (Unit {0}) (λ v. AreArms ss r (length still.now) sets.new still.now v.items)) }
 {
     let mut arms = Vec::new(alloc);

@@ -1,8 +1,11 @@
 //! Types of small protocols, and views with faults.
 
+mod large;
+mod purchase;
+
 ghost use Rattle.local_types.specs.Reading.{IsProper};
 
-use crate::{check_views, local, print_local};
+use crate::{LocalType, check_views, local, print_local};
 use chor_base::{Denied, List, Memory, Names, Place, Rule, Sort, Texts};
 use chor_tree::{File, Named, NodeId, Payload, ProtoArm, ProtoStep, Protocol, State, Tree};
 use std::alloc::Global;
@@ -10,7 +13,7 @@ use std::process::Abort;
 use std::test::Fail;
 
 fn named(names: &mut Names, word: &[u8], col: u32) -> Result<Named, Memory> {
-    if names.len() >= 100 {
+    if names.len() >= 100_000 {
         return Err(Memory);
     }
     let name = names.intern(word)?;
@@ -27,12 +30,22 @@ fn protocol(
     words: &[(&[u8], u32)],
     states: List<State>,
 ) -> Result<Protocol, Memory> {
+    protocol_named(alloc, names, b"V".as_slice(), words, states)
+}
+
+fn protocol_named(
+    alloc: Global,
+    names: &mut Names,
+    name: &[u8],
+    words: &[(&[u8], u32)],
+    states: List<State>,
+) -> Result<Protocol, Memory> {
     let mut roles = List::new(alloc);
     for (word, col) in words {
         roles.push(named(names, word, *col)?)?;
     }
     Ok(Protocol {
-        name: named(names, b"V".as_slice(), 10)?,
+        name: named(names, name, 10)?,
         roles,
         states,
     })
@@ -40,14 +53,28 @@ fn protocol(
 
 // A state in which a number is sent.
 fn number(names: &mut Names, words: [&[u8]; 4]) -> Result<State, Memory> {
+    value(names, words, Payload::Plain(Sort::Int))
+}
+
+// A state in which this payload is sent.
+fn value(names: &mut Names, words: [&[u8]; 4], payload: Payload) -> Result<State, Memory> {
     Ok(State {
         name: named(names, words[0], 1)?,
         step: ProtoStep::Value {
             from: named(names, words[1], 1)?,
             to: named(names, words[2], 1)?,
-            payload: Payload::Plain(Sort::Int),
+            payload,
             next: named(names, words[3], 1)?,
         },
+    })
+}
+
+// An endpoint as payload: of a protocol, in a state, with a role.
+fn endpoint(names: &mut Names, words: [&[u8]; 3]) -> Result<Payload, Memory> {
+    Ok(Payload::Endpoint {
+        protocol: named(names, words[0], 1)?,
+        state: named(names, words[1], 1)?,
+        role: named(names, words[2], 1)?,
     })
 }
 
@@ -94,15 +121,19 @@ fn types(alloc: Global, protocol: &Protocol, names: &Names) -> Result<Vec<u8>, D
     Ok(out)
 }
 
-// A file of one protocol is refused by this rule at this column.
-fn assert_refused(
-    rt: &impl Abort,
-    alloc: Global,
-    names: Names,
-    protocol: Protocol,
-    rule: Rule,
-    col: u32,
-) -> Result<(), Memory>
+// The types of all roles of a protocol.
+fn all_types(alloc: Global, protocol: &Protocol, names: &Names) -> Result<List<LocalType>, Denied>
+    requires { IsProper protocol.now }
+{
+    let mut types = List::new(alloc);
+    for role in protocol.roles.as_slice() {
+        types.push(local(alloc, protocol, role.name, names)?)?;
+    }
+    Ok(types)
+}
+
+// What the check of a file of one protocol answers.
+fn views(alloc: Global, names: Names, protocol: Protocol) -> Result<(), Denied>
     requires { IsProper protocol }
 {
     let mut protocols = List::new(alloc);
@@ -117,7 +148,21 @@ fn assert_refused(
         tree: Tree::new(alloc),
         body: NodeId(0),
     };
-    match check_views(alloc, &file) {
+    check_views(alloc, &file)
+}
+
+// A file of one protocol is refused by this rule at this column.
+fn assert_refused(
+    rt: &impl Abort,
+    alloc: Global,
+    names: Names,
+    protocol: Protocol,
+    rule: Rule,
+    col: u32,
+) -> Result<(), Memory>
+    requires { IsProper protocol }
+{
+    match views(alloc, names, protocol) {
         Err(Denied::Refused(refusal)) => {
             assert!(rt; refusal.rule == rule);
             assert!(rt; refusal.place == Place { line: 1, col });
@@ -198,5 +243,199 @@ fn a_role_that_has_done_its_part(rt: HostRuntime) -> Result<(), Fail> {
     let expected =
         b"local V@C\n0: recv A int 1\n1: end\nlocal V@A\n0: send C int 1\n1: pick B done 2 more 1\n2: end\n";
     assert!(rt; text.as_slice() == expected.as_slice());
+    Ok(())
+}
+
+// s = A -> B { l then t, r then u }; t = A -> C : one then e; u = A -> C : other then e; e = end;
+fn hidden(
+    alloc: Global,
+    names: &mut Names,
+    one: Payload,
+    other: Payload,
+) -> Result<Protocol, Memory> {
+    let mut states = List::new(alloc);
+    let arms: [(&[u8], &[u8]); 2] = [(b"l", b"t"), (b"r", b"u")];
+    states.push(choice(alloc, names, [b"s", b"A", b"B"], arms.as_slice())?)?;
+    states.push(value(names, [b"t", b"A", b"C", b"e"], one)?)?;
+    states.push(value(names, [b"u", b"A", b"C", b"e"], other)?)?;
+    states.push(end(names, b"e")?)?;
+    let roles: [(&[u8], u32); 3] = [(b"A", 13), (b"B", 16), (b"C", 19)];
+    protocol(alloc, names, roles.as_slice(), states)
+}
+
+fn assert_differ(
+    rt: &impl Abort,
+    alloc: Global,
+    mut names: Names,
+    one: Payload,
+    other: Payload,
+) -> Result<(), Memory> {
+    let protocol = hidden(alloc, &mut names, one, other)?;
+    assert!(rt; !protocol.states.is_empty() && protocol.states.len() < 10);
+    assert_refused(rt, alloc, names, protocol, Rule::V1, 19)
+}
+
+// A number for C, or a truth value
+#[test]
+fn payloads_of_two_sorts(rt: HostRuntime) -> Result<(), Fail> {
+    let alloc = rt.alloc();
+    let names = Names::new(alloc);
+    let (one, other) = (Payload::Plain(Sort::Int), Payload::Plain(Sort::Bool));
+    assert_differ(&rt, alloc, names, one, other)?;
+    Ok(())
+}
+
+// An endpoint for C in state s, or in state t
+#[test]
+fn endpoints_in_two_states(rt: HostRuntime) -> Result<(), Fail> {
+    let alloc = rt.alloc();
+    let mut names = Names::new(alloc);
+    let one = endpoint(&mut names, [b"W", b"s", b"A"])?;
+    let other = endpoint(&mut names, [b"W", b"t", b"A"])?;
+    assert_differ(&rt, alloc, names, one, other)?;
+    Ok(())
+}
+
+// An endpoint for C in role A, or in role B
+#[test]
+fn endpoints_in_two_roles(rt: HostRuntime) -> Result<(), Fail> {
+    let alloc = rt.alloc();
+    let mut names = Names::new(alloc);
+    let one = endpoint(&mut names, [b"W", b"s", b"A"])?;
+    let other = endpoint(&mut names, [b"W", b"s", b"B"])?;
+    assert_differ(&rt, alloc, names, one, other)?;
+    Ok(())
+}
+
+// An endpoint for C of one protocol, or of another
+#[test]
+fn endpoints_of_two_protocols(rt: HostRuntime) -> Result<(), Fail> {
+    let alloc = rt.alloc();
+    let mut names = Names::new(alloc);
+    let one = endpoint(&mut names, [b"V", b"s", b"A"])?;
+    let other = endpoint(&mut names, [b"W", b"s", b"A"])?;
+    assert_differ(&rt, alloc, names, one, other)?;
+    Ok(())
+}
+
+// The same endpoint for C in both cases, written at two places
+#[test]
+fn one_endpoint_in_two_states(rt: HostRuntime) -> Result<(), Fail> {
+    let alloc = rt.alloc();
+    let mut names = Names::new(alloc);
+    let one = endpoint(&mut names, [b"W", b"s", b"A"])?;
+    let other = Payload::Endpoint {
+        protocol: named(&mut names, b"W", 90)?,
+        state: named(&mut names, b"s", 92)?,
+        role: named(&mut names, b"A", 94)?,
+    };
+    let protocol = hidden(alloc, &mut names, one, other)?;
+    assert!(rt; !protocol.states.is_empty() && protocol.states.len() < 10);
+    let text = types(alloc, &protocol, &names)?;
+    let expected =
+        b"local V@A\n0: pick B l 1 r 2\n1: send C W.s@A 3\n2: send C W.s@A 3\n3: end\nlocal V@B\n0: branch A l 1 r 2\n1: end\n2: end\nlocal V@C\n0: recv A W.s@A 1\n1: end\n";
+    assert!(rt; text.as_slice() == expected.as_slice());
+    Ok(())
+}
+
+// s = A -> B { l then t, r then u }; t = C -> A { these then e }; u = C -> A { those then e }; e = end;
+fn chosen(
+    alloc: Global,
+    names: &mut Names,
+    parties: [&[u8]; 2],
+    these: &[(&[u8], &[u8])],
+    those: &[(&[u8], &[u8])],
+) -> Result<Protocol, Memory> {
+    let mut states = List::new(alloc);
+    let arms: [(&[u8], &[u8]); 2] = [(b"l", b"t"), (b"r", b"u")];
+    states.push(choice(alloc, names, [b"s", b"A", b"B"], arms.as_slice())?)?;
+    states.push(choice(alloc, names, [b"t", parties[0], parties[1]], these)?)?;
+    states.push(choice(alloc, names, [b"u", parties[0], parties[1]], those)?)?;
+    states.push(end(names, b"e")?)?;
+    let roles: [(&[u8], u32); 3] = [(b"A", 13), (b"B", 16), (b"C", 19)];
+    protocol(alloc, names, roles.as_slice(), states)
+}
+
+// t = C -> A { yes then e, no then e }; u = C -> A { no then e, yes then e };
+#[test]
+fn the_same_labels_in_another_order(rt: HostRuntime) -> Result<(), Fail> {
+    let alloc = rt.alloc();
+    let mut names = Names::new(alloc);
+    let these: [(&[u8], &[u8]); 2] = [(b"yes", b"e"), (b"no", b"e")];
+    let those: [(&[u8], &[u8]); 2] = [(b"no", b"e"), (b"yes", b"e")];
+    let (these, those) = (these.as_slice(), those.as_slice());
+    let protocol = chosen(alloc, &mut names, [b"C", b"A"], these, those)?;
+    assert!(rt; !protocol.states.is_empty() && protocol.states.len() < 10);
+    let text = types(alloc, &protocol, &names)?;
+    let expected =
+        b"local V@A\n0: pick B l 1 r 2\n1: branch C no 3 yes 3\n2: branch C no 3 yes 3\n3: end\nlocal V@B\n0: branch A l 1 r 2\n1: end\n2: end\nlocal V@C\n0: pick A no 1 yes 1\n1: end\n";
+    assert!(rt; text.as_slice() == expected.as_slice());
+    Ok(())
+}
+
+// t = C -> A { yes then e, no then e }; u = C -> A { no then e }: C can't know whether it may say yes
+#[test]
+fn a_label_that_is_missing(rt: HostRuntime) -> Result<(), Fail> {
+    let alloc = rt.alloc();
+    let mut names = Names::new(alloc);
+    let these: [(&[u8], &[u8]); 2] = [(b"yes", b"e"), (b"no", b"e")];
+    let those: [(&[u8], &[u8]); 1] = [(b"no", b"e")];
+    let (these, those) = (these.as_slice(), those.as_slice());
+    let protocol = chosen(alloc, &mut names, [b"C", b"A"], these, those)?;
+    assert!(rt; !protocol.states.is_empty() && protocol.states.len() < 10);
+    assert_refused(&rt, alloc, names, protocol, Rule::V1, 19)?;
+    Ok(())
+}
+
+// t = A -> C { yes then e, no then e }; u = A -> C { no then e }: C is told
+#[test]
+fn a_label_that_is_missing_where_it_is_told(rt: HostRuntime) -> Result<(), Fail> {
+    let alloc = rt.alloc();
+    let mut names = Names::new(alloc);
+    let these: [(&[u8], &[u8]); 2] = [(b"yes", b"e"), (b"no", b"e")];
+    let those: [(&[u8], &[u8]); 1] = [(b"no", b"e")];
+    let (these, those) = (these.as_slice(), those.as_slice());
+    let protocol = chosen(alloc, &mut names, [b"A", b"C"], these, those)?;
+    assert!(rt; !protocol.states.is_empty() && protocol.states.len() < 10);
+    let text = types(alloc, &protocol, &names)?;
+    let expected =
+        b"local V@A\n0: pick B l 1 r 2\n1: pick C no 3 yes 3\n2: pick C no 3\n3: end\nlocal V@B\n0: branch A l 1 r 2\n1: end\n2: end\nlocal V@C\n0: branch A no 1 yes 1\n1: end\n";
+    assert!(rt; text.as_slice() == expected.as_slice());
+    Ok(())
+}
+
+// s = A -> B { more then t, done then e }; t = A -> C : int then s; e = end; the circle names C, which
+// can't tell whether it is over
+#[test]
+fn a_circle_that_names_the_role(rt: HostRuntime) -> Result<(), Fail> {
+    let alloc = rt.alloc();
+    let mut names = Names::new(alloc);
+    let mut states = List::new(alloc);
+    let arms: [(&[u8], &[u8]); 2] = [(b"more", b"t"), (b"done", b"e")];
+    states.push(choice(alloc, &mut names, [b"s", b"A", b"B"], arms.as_slice())?)?;
+    states.push(number(&mut names, [b"t", b"A", b"C", b"s"])?)?;
+    states.push(end(&mut names, b"e")?)?;
+    let roles: [(&[u8], u32); 3] = [(b"A", 13), (b"B", 16), (b"C", 19)];
+    let protocol = protocol(alloc, &mut names, roles.as_slice(), states)?;
+    assert!(rt; !protocol.states.is_empty() && protocol.states.len() < 10);
+    assert_refused(&rt, alloc, names, protocol, Rule::V1, 19)?;
+    Ok(())
+}
+
+// s = A -> B { more then s, done then t, stop then e }; t = A -> C : int then e; e = end; C is left
+// behind, and it can't tell whether it is over either
+#[test]
+fn left_behind_comes_before_a_clash(rt: HostRuntime) -> Result<(), Fail> {
+    let alloc = rt.alloc();
+    let mut names = Names::new(alloc);
+    let mut states = List::new(alloc);
+    let arms: [(&[u8], &[u8]); 3] = [(b"more", b"s"), (b"done", b"t"), (b"stop", b"e")];
+    states.push(choice(alloc, &mut names, [b"s", b"A", b"B"], arms.as_slice())?)?;
+    states.push(number(&mut names, [b"t", b"A", b"C", b"e"])?)?;
+    states.push(end(&mut names, b"e")?)?;
+    let roles: [(&[u8], u32); 3] = [(b"A", 13), (b"B", 16), (b"C", 19)];
+    let protocol = protocol(alloc, &mut names, roles.as_slice(), states)?;
+    assert!(rt; !protocol.states.is_empty() && protocol.states.len() < 10);
+    assert_refused(&rt, alloc, names, protocol, Rule::V2, 19)?;
     Ok(())
 }

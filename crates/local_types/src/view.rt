@@ -1,14 +1,14 @@
 //! The type of a role, and the rules that its view keeps.
 
-ghost use Rattle.std.specs.Prelude.{◌≡◌, IfOk, IfErr, OnOk, IsSome, Some, MatchBool, MatchOption, length};
+ghost use Rattle.std.specs.Prelude.{◌≡◌, ℕ, List, IfOk, IfErr, OnOk, IsSome, Some, MatchBool, MatchOption, length};
 ghost use Rattle.global_types.specs.Views.{HasTooMany, HasNoViewFault};
 ghost use Rattle.local_types.specs.Sets.{IsSetFor};
 ghost use Rattle.local_types.specs.States.{AreKin, labelled, IsStateOf, AreStatesOf};
 ghost use Rattle.local_types.specs.declared.table.Row.{Row};
-ghost use Rattle.local_types.specs.Table.{IsLeft, IsTorn, IsWhole, Circles};
+ghost use Rattle.local_types.specs.Table.{IsLeft, IsTorn, HasAscendingArms, IsWhole, Circles};
 ghost use Rattle.chor_tree.specs.declared.protocol.Protocol.{Protocol};
 ghost use Rattle.global_types.specs.Moves.{IsIn};
-ghost use Rattle.local_types.specs.Reading.{IsProper, IsTypeOf, role_place, IsRefusal, IsRefusalBy, HasFineRoles, IsFirstRole, IsFirstRefusal};
+ghost use Rattle.local_types.specs.Reading.{IsProper, IsTypeOf, IsBreadthFirst, HasAscendingLabels, role_place, IsRefusal, IsRefusalBy, HasFineRoles, IsFirstRole, IsFirstRefusal};
 
 use crate::act::Act;
 use crate::apart::{apart, has_clash, named};
@@ -36,6 +36,8 @@ pub fn local(
     requires proper { IsProper protocol.now }
     requires role { IsSome (role_place protocol.now.roles role) }
     ensures stands { IfOk result (λ t. IsTypeOf protocol.now.states role t.states) }
+    ensures numbered { IfOk result (λ t. IsBreadthFirst t.states) }
+    ensures ascend { IfOk result (λ t. HasAscendingLabels names.now t.states) }
     ensures fine { OnOk result (HasNoViewFault protocol.now.states role) }
     ensures refused { IfErr result (IsRefusal protocol.now role) }
 {
@@ -57,6 +59,8 @@ fn judged(
     requires whole { IsWhole protocol.now.states role (length protocol.now.states) sight.now.rows.items }
     requires circling { IsSetFor (length protocol.now.states) (Circles protocol.now.states role) sight.now.circling.items }
     ensures stands { IfOk result (λ t. IsTypeOf protocol.now.states role t.states) }
+    ensures numbered { IfOk result (λ t. IsBreadthFirst t.states) }
+    ensures ascend { IfOk result (λ t. (names : List (List ℕ)) → HasAscendingArms names sight.now.rows.items → HasAscendingLabels names t.states) }
     ensures fine { OnOk result (HasNoViewFault protocol.now.states role) }
     ensures refused { IfErr result (IsRefusal protocol.now role) }
 {
@@ -90,7 +94,8 @@ fn sight_of(
     names: &Names,
 ) -> Result<Option<Sight>, Memory>
     requires { IsProper protocol.now }
-    ensures { IfOk result (λ o. MatchOption o (HasTooMany protocol.now.states role) (λ s. IsWhole protocol.now.states role (length protocol.now.states) s.rows.items × IsSetFor (length protocol.now.states) (Circles protocol.now.states role) s.circling.items)) }
+    ensures ascend { IfOk result (λ o. MatchOption o (Unit {0}) (λ s. HasAscendingArms names.now s.rows.items)) }
+    ensures seen { IfOk result (λ o. MatchOption o (HasTooMany protocol.now.states role) (λ s. IsWhole protocol.now.states role (length protocol.now.states) s.rows.items × IsSetFor (length protocol.now.states) (Circles protocol.now.states role) s.circling.items)) }
 {
     let moves = moves(alloc, protocol, role)?;
     let groups = groups(alloc, moves.as_slice(), names)?;

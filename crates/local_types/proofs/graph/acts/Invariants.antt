@@ -1,6 +1,11 @@
 use Rattle.std.proofs.Common.{take}
-use Rattle.local_types.specs.Graph.{Covers}
+use Rattle.global_types.specs.Moves.{IsIn}
+use Rattle.local_types.specs.declared.act.Act.{Act}
+use Rattle.local_types.specs.Graph.{Covers, IsActOf}
 use Rattle.local_types.proofs.graph.acts.Given as goal
 
 abbrev pub invariant-loop-item : goal.invariant-loop-item
-invariant-loop-item l = Covers (take l.item-index l.moves) l.acts.items
+invariant-loop-item l = record {
+  own : (b : Act) → IsIn b l.acts.items → IsActOf l.moves b;
+  covers : Covers (take l.item-index l.moves) l.acts.items;
+}

@@ -1,12 +1,20 @@
-use Rattle.std.proofs.Common.{sym, ap, ◌∙◌, ◌≡◌, [], ◌∷◌}
-use Rattle.std.specs.Prelude.{Some}
+use Rattle.std.proofs.Common.{sym, ap, subst, ◌∙◌, ◌≡◌, [], ◌∷◌, inl, inr}
+use Rattle.std.specs.Prelude.{◌⊎◌, Some}
+use Rattle.global_types.specs.Moves.{IsIn}
 use Rattle.local_types.specs.declared.act.Act.{Act}
 use Rattle.local_types.specs.Moves.{action_of}
-use Rattle.local_types.proofs.Lists.{in_left, in_last}
+use Rattle.local_types.proofs.Lists.{in_left, in_last, in_push}
 use Rattle.local_types.proofs.graph.add_act.Goals as goal
 
 pub returns-in_ok-push-clause-kept : goal.returns-in_ok-push-clause-kept
 returns-in_ok-push-clause-kept c = λ b h. rw c.in_ok-push.ensures.items (in_left b c.args.acts.now.items (c.in-Some.act ∷ []) h)
+
+pub returns-in_ok-push-clause-own : goal.returns-in_ok-push-clause-own
+returns-in_ok-push-clause-own c = λ b h. of b (in_push b c.in-Some.act c.args.acts.now.items (subst (λ l. IsIn b l) c.in_ok-push.ensures.items h))
+  where
+    of : (b : Act) → IsIn b c.args.acts.now.items ⊎ (c.in-Some.act ≡ b) → IsIn b c.args.acts.now.items ⊎ (c.args.act ≡ Some b)
+    of b (inl o) = inl o
+    of b (inr e) = inr (c.in-Some.is ∙ ap (λ (v : Act). Some v) e)
 
 pub returns-in_ok-push-clause-added : goal.returns-in_ok-push-clause-added
 returns-in_ok-push-clause-added c = λ a e. (c.in-Some.act, rw c.in_ok-push.ensures.items (in_last c.in-Some.act c.args.acts.now.items), same_act c.in-Some.act a (sym c.in-Some.is ∙ e))

@@ -9,5 +9,6 @@ use Rattle.local_types.proofs.graph.groups_of.Given as goal
 abbrev pub invariant-loop-act : goal.invariant-loop-act
 invariant-loop-act l = record {
   edges : (g : Group) → IsIn g l.groups.items → AreEdges l.moves (action_of g.act) g.edges.items;
+  among : (g : Group) → IsIn g l.groups.items → IsIn g.act l.acts;
   covers : (a : Act) → IsIn a (take l.act-index l.acts) → (g : Group) × IsIn g l.groups.items × (g.act ≡ a);
 }

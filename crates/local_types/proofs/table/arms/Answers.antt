@@ -3,6 +3,7 @@ use Rattle.global_types.specs.Moves.{IsIn}
 use Rattle.local_types.specs.declared.graph.Edge.{Edge}
 use Rattle.local_types.specs.Sets.{Has, IsSetFor}
 use Rattle.local_types.proofs.Tables.{group_among, sizes_more, grown_over, arms_in, arms_out, arms_end}
+use Rattle.local_types.proofs.Ascents.{arms_ascend_end}
 use Rattle.local_types.proofs.table.arms.Goals as goal
 use Rattle.local_types.proofs.table.arms.Goals.{then-is_allowed+in_ok-after+in_ok-next+else-len-gt-MOST+in_ok-push, else-is_allowed}
 
@@ -51,3 +52,6 @@ loop-group-preserved c =
 
 pub returns-clause-arms : goal.returns-clause-arms
 returns-clause-arms c = arms_end c.args.groups.now c.args.still.now c.args.sets.now c.loop-group.group-index c.loop-group.sets c.loop-group.arms.items c.loop-group.invariant c.loop-group-test.false
+
+pub returns-clause-ascend : goal.returns-clause-ascend
+returns-clause-ascend c = λ names up. arms_ascend_end names c.args.groups.now c.loop-group.group-index c.loop-group.arms.items (c.loop-group.invariant.ascend names up)

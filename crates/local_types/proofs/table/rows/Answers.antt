@@ -2,7 +2,8 @@ use Rattle.std.proofs.Common.{ℕ, List, ◌≡◌, ◌≤◌, sym, ap, ◌∙�
 use Rattle.std.specs.Prelude.{◌⊎◌, slice_get, Some, vec_len}
 use Rattle.chor_base.specs.declared.names.NameId.{NameId}
 use Rattle.chor_tree.specs.declared.protocol.State.{State}
-use Rattle.local_types.specs.Table.{AreActs, HasGrown, AreArms}
+use Rattle.local_types.specs.Table.{AreActs, HasGrown, AreArms, nexts, Counts, group_words, arm_words}
+use Rattle.local_types.specs.Reading.{Ascend}
 use Rattle.local_types.proofs.Tables.{rows_begin, rows_in, rows_end, rows_over}
 use Rattle.local_types.proofs.table.rows.Goals as goal
 use Rattle.std.proofs.lemmas.Option.{MatchOption-at_some, MatchOption-at_none}
@@ -31,16 +32,21 @@ loop-alloc-preserved c =
     (subst (λ (l : List ℕ). (k : ℕ) (v : List ℕ) → slice_get new k ≡ Some v → (slice_get sets k ≡ Some v) ⊎ (length v ≡ length l)) value c.in_ok-arms.ensures.sizes)
     (subst (λ (l : List ℕ). (ss : List State) (r : NameId) → AreActs ss r c.args.groups.now → HasGrown ss r (length l) l sets new) value c.in_ok-arms.ensures.grown)
     (λ ss r acts. subst (λ (l : List ℕ). AreArms ss r (length l) new l c.in-Some.arms.items) value (MatchOption-at_some (Unit {0}) (λ v. AreArms ss r (length c.as_slice-in-loop-alloc.result.now) new c.as_slice-in-loop-alloc.result.now v.items) c.in-Some.arms c.in-Some.is (c.in_ok-arms.ensures.arms ss r acts)))
+    (MatchOption-at_some (Unit {0}) (λ v. Counts (length sets) (nexts v.items) (length new)) c.in-Some.arms c.in-Some.is c.in_ok-arms.ensures.numbered)
+    (MatchOption-at_some (Unit {0}) (λ v. (names : List (List ℕ)) → Ascend (group_words names c.args.groups.now) → Ascend (arm_words names v.items)) c.in-Some.arms c.in-Some.is c.in_ok-arms.ensures.ascend)
     c.in_ok-push-in-Some.ensures.items
 
-pub returns-in-None : goal.returns-in-None
-returns-in-None c =
+pub returns-in-None-clause-table : goal.returns-in-None-clause-table
+returns-in-None-clause-table c =
     let at : slice_get c.loop-alloc.sets (length c.loop-alloc.rows.items) ≡ Some c.at.result.now = ap (λ n. slice_get c.loop-alloc.sets n) (sym (c.len-in-loop-alloc-2.ensures ∙ c.loop-alloc.rows.ok.0)) ∙ c.at.ensures in
     let new = c.arms.new.sets in
     let many : length new ≡ 1025 = MatchOption-at_none (length new ≡ 1025) (λ v. length new ≤ 1024) c.in-None.is c.in_ok-arms.ensures.count in
     rows_over c.args.groups.now c.args.reach.now c.loop-alloc.sets new c.loop-alloc.rows.items c.at.result.now c.in_ok-still.still.items c.loop-alloc.invariant at c.in_ok-still.ensures c.in_ok-arms.ensures.distinct many
     (subst (λ (l : List ℕ). (ss : List State) (r : NameId) → AreActs ss r c.args.groups.now → HasGrown ss r (length l) l c.loop-alloc.sets new) c.as_slice-in-loop-alloc.ensures.value c.in_ok-arms.ensures.grown)
 
-pub returns : goal.returns
-returns c = rows_end c.args.groups.now c.args.reach.now c.loop-alloc.sets c.loop-alloc.rows.items c.loop-alloc.invariant
+pub returns-clause-ascend : goal.returns-clause-ascend
+returns-clause-ascend c = c.loop-alloc.invariant.ascend
+
+pub returns-clause-table : goal.returns-clause-table
+returns-clause-table c = rows_end c.args.groups.now c.args.reach.now c.loop-alloc.sets c.loop-alloc.rows.items c.loop-alloc.invariant
     (let a = c.loop-alloc-test.false in let b = c.len.ensures in let d : vec_len c.loop-alloc.rows ≡ length c.loop-alloc.rows.items = c.loop-alloc.rows.ok.0 in let e = c.len-in-loop-alloc.ensures.len in omega (arith, a, b, d, e))

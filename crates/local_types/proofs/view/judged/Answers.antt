@@ -12,10 +12,11 @@ use Rattle.global_types.specs.Views.{NamesAt, IsViewFault}
 use Rattle.local_types.specs.Reading.{IsRefusal, IsRefusalBy}
 use Rattle.local_types.specs.Sets.{IsSetFor}
 use Rattle.local_types.specs.Graph.{AreRowsFor}
-use Rattle.local_types.specs.Table.{IsWhole, Circles, ApartAt}
+use Rattle.local_types.specs.Table.{HasAscendingArms, IsWhole, Circles, ApartAt}
 use Rattle.local_types.proofs.Verdicts.{few_sets, left_behind, not_left, torn, not_torn}
 use Rattle.local_types.proofs.Kin.{rows_kin}
-use Rattle.local_types.proofs.Readings.{type_of}
+use Rattle.local_types.proofs.Counts.{breadth_first}
+use Rattle.local_types.proofs.Readings.{type_of, labels_ascend}
 use Rattle.local_types.proofs.view.judged.Goals as goal
 
 refusal_by : (rule : Rule) (p : Protocol) (r : NameId) (d : Denied) → IsRefusalBy rule p r d → IsViewFault p.states r rule → IsRefusal p r d
@@ -86,3 +87,14 @@ returns-clause-stands c =
     let rows = c.as_slice-rows.result.now in
     let whole = subst (λ l. IsWhole ss r n l) (sym c.as_slice-rows.ensures.value) c.requires.whole in
     type_of ss r n rows c.in_ok-states_of.field-0 whole c.in_ok-states_of.ensures
+
+pub returns-clause-numbered : goal.returns-clause-numbered
+returns-clause-numbered c =
+    let ss = c.args.protocol.now.states in
+    let rows = c.as_slice-rows.result.now in
+    let whole = subst (λ l. IsWhole ss c.args.role (length ss) l) (sym c.as_slice-rows.ensures.value) c.requires.whole in
+    breadth_first (length whole.sets) rows c.in_ok-states_of.field-0 c.in_ok-states_of.ensures whole.numbered
+
+pub returns-clause-ascend : goal.returns-clause-ascend
+returns-clause-ascend c = λ names up.
+    labels_ascend names c.as_slice-rows.result.now c.in_ok-states_of.field-0 c.in_ok-states_of.ensures (subst (λ l. HasAscendingArms names l) (sym c.as_slice-rows.ensures.value) up)

@@ -5,7 +5,8 @@ use Rattle.chor_tree.specs.declared.protocol.State.{State}
 use Rattle.local_types.specs.declared.moves.Move.{Move}
 use Rattle.local_types.specs.Moves.{moves_from}
 use Rattle.local_types.specs.Graph.{AreWithin, AreInside}
-use Rattle.local_types.specs.Table.{AreTooMany, IsWhole}
+use Rattle.local_types.specs.Reading.{Ascend}
+use Rattle.local_types.specs.Table.{group_words, HasAscendingArms, AreTooMany, IsWhole}
 use Rattle.local_types.proofs.Collected.{collected, moves_within, groups_inside, acts_handed, reach_handed, circles_are}
 use Rattle.local_types.proofs.Verdicts.{too_many}
 use Rattle.local_types.proofs.view.sight_of.Goals as goal
@@ -32,28 +33,33 @@ pub rows-requires-clause-inside : goal.rows-requires-clause-inside
 rows-requires-clause-inside c =
     let n : length c.as_slice-6.result.now ≡ length c.args.protocol.now.states = ap (λ l. length l) c.as_slice-6.ensures.value ∙ c.in_ok-reach.ensures.size ∙ c.len-count.ensures in
     let within = within_of c.args.protocol.now.states c.args.role (length c.as_slice-6.result.now) c.as_slice.result.now (c.as_slice.ensures.value ∙ c.in_ok-moves.ensures) n in
-    subst (λ gs. AreInside (length c.as_slice-6.result.now) gs) (sym c.as_slice-5.ensures.value) (groups_inside (length c.as_slice-6.result.now) c.as_slice.result.now c.in_ok-groups.groups.items within c.in_ok-groups.ensures)
+    subst (λ gs. AreInside (length c.as_slice-6.result.now) gs) (sym c.as_slice-5.ensures.value) (groups_inside (length c.as_slice-6.result.now) c.as_slice.result.now c.in_ok-groups.groups.items within c.in_ok-groups.ensures.are)
 
-pub returns : goal.returns
-returns c =
+pub returns-clause-seen : goal.returns-clause-seen
+returns-clause-seen c =
     let ss = c.args.protocol.now.states in
     let r = c.args.role in
-    let acts = acts_handed ss r c.in_ok-moves.moves.items c.as_slice.result.now c.in_ok-groups.groups.items c.as_slice-5.result.now c.in_ok-moves.ensures c.as_slice.ensures.value c.in_ok-groups.ensures c.as_slice-5.ensures.value in
+    let acts = acts_handed ss r c.in_ok-moves.moves.items c.as_slice.result.now c.in_ok-groups.groups.items c.as_slice-5.result.now c.in_ok-moves.ensures c.as_slice.ensures.value c.in_ok-groups.ensures.are c.as_slice-5.ensures.value in
     let reach = reach_handed ss r c.len-count.result c.in_ok-moves.moves.items c.as_slice-2.result.now c.in_ok-reach.reach.items c.as_slice-6.result.now c.in_ok-moves.ensures c.as_slice-2.ensures.value c.in_ok-reach.ensures c.as_slice-6.ensures.value in
     let n = length c.as_slice-6.result.now in
-    too_many ss r n (MatchOption-at_none (AreTooMany ss r n) (λ v. IsWhole ss r n v.items) c.in-None.is (c.in_ok-rows.ensures ss r reach acts))
+    too_many ss r n (MatchOption-at_none (AreTooMany ss r n) (λ v. IsWhole ss r n v.items) c.in-None.is (c.in_ok-rows.ensures.table ss r reach acts))
 
-pub returns-in-Some : goal.returns-in-Some
-returns-in-Some c =
+pub returns-in-Some-clause-seen : goal.returns-in-Some-clause-seen
+returns-in-Some-clause-seen c =
     let ss = c.args.protocol.now.states in
     let r = c.args.role in
-    let acts = acts_handed ss r c.in_ok-moves.moves.items c.as_slice.result.now c.in_ok-groups.groups.items c.as_slice-5.result.now c.in_ok-moves.ensures c.as_slice.ensures.value c.in_ok-groups.ensures c.as_slice-5.ensures.value in
+    let acts = acts_handed ss r c.in_ok-moves.moves.items c.as_slice.result.now c.in_ok-groups.groups.items c.as_slice-5.result.now c.in_ok-moves.ensures c.as_slice.ensures.value c.in_ok-groups.ensures.are c.as_slice-5.ensures.value in
     let reach = reach_handed ss r c.len-count.result c.in_ok-moves.moves.items c.as_slice-2.result.now c.in_ok-reach.reach.items c.as_slice-6.result.now c.in_ok-moves.ensures c.as_slice-2.ensures.value c.in_ok-reach.ensures c.as_slice-6.ensures.value in
     let reach4 = reach_handed ss r c.len-count.result c.in_ok-moves.moves.items c.as_slice-2.result.now c.in_ok-reach.reach.items c.as_slice-4.result.now c.in_ok-moves.ensures c.as_slice-2.ensures.value c.in_ok-reach.ensures c.as_slice-4.ensures.value in
     let n = length c.as_slice-6.result.now in
     let size : n ≡ length ss = ap (λ l. length l) c.as_slice-6.ensures.value ∙ c.in_ok-reach.ensures.size ∙ c.len-count.ensures in
     let long4 : length c.as_slice-4.result.now ≡ c.len-count.result = ap (λ l. length l) c.as_slice-4.ensures.value ∙ c.in_ok-reach.ensures.size in
-    let whole = MatchOption-at_some (AreTooMany ss r n) (λ v. IsWhole ss r n v.items) c.in-Some.rows c.in-Some.is (c.in_ok-rows.ensures ss r reach acts) in (
+    let whole = MatchOption-at_some (AreTooMany ss r n) (λ v. IsWhole ss r n v.items) c.in-Some.rows c.in-Some.is (c.in_ok-rows.ensures.table ss r reach acts) in (
       subst (λ k. IsWhole ss r k c.in-Some.rows.items) size whole,
       circles_are ss r c.len-count.result c.in_ok-moves.moves.items c.as_slice-3.result.now c.as_slice-4.result.now c.in_ok-circling.circling.items c.in_ok-moves.ensures c.as_slice-3.ensures.value c.len-count.ensures reach4 long4 c.in_ok-circling.ensures,
     )
+
+pub returns-in-Some-clause-ascend : goal.returns-in-Some-clause-ascend
+returns-in-Some-clause-ascend c =
+    MatchOption-at_some (Unit {0}) (λ v. (names : List (List ℕ)) → Ascend (group_words names c.as_slice-5.result.now) → HasAscendingArms names v.items) c.in-Some.rows c.in-Some.is c.in_ok-rows.ensures.ascend c.args.names.now
+    (subst (λ gs. Ascend (group_words c.args.names.now gs)) (sym c.as_slice-5.ensures.value) c.in_ok-groups.ensures.ascend)
