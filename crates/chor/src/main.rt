@@ -3,6 +3,7 @@
 
 use chor_base::{List, Memory, Word};
 use chor_cmd::{Words, chor};
+use chor_host::HostTable;
 use chor_io::{DiskShelf, OpenGate, OutSink};
 use std::alloc::Global;
 use std::env;
@@ -28,7 +29,8 @@ fn main(rt: HostRuntime) -> ExitCode {
     let mut shelf = DiskShelf::new(rt.alloc(), &rt);
     let mut out = OutSink::new(&rt);
     let gate = OpenGate;
-    let status = chor(rt.alloc(), &words, &mut shelf, &mut out, &gate);
+    let hosts = HostTable::new(rt.alloc());
+    let status = chor(rt.alloc(), &words, &mut shelf, &mut out, &gate, &hosts);
     ExitCode::from(status.number())
 }
 

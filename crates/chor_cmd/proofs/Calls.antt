@@ -1,6 +1,7 @@
 -- How a call ends, by what was fetched.
-use Rattle.std.proofs.Common.{◌≡◌, ◌<◌, ℕ, List, [], Option, Some, None, length, sym, ◌∙◌, subst}
+use Rattle.std.proofs.Common.{◌≡◌, ◌<◌, ℕ, Bool, true, false, List, [], Option, Some, None, length, sym, ◌∙◌, subst}
 use Rattle.std.specs.Option.{IfSome, IfNone}
+use Rattle.std.specs.Prelude.{IsTrue}
 use Rattle.chor_io.specs.Outside.{FetchTells, FetchFrom}
 use Rattle.chor_io.specs.declared.outside.Fetched.TheVariants as fetched
 use Rattle.chor_cmd.specs.Endings.{Told, Tells, TellsOnly, source_limit}
@@ -32,3 +33,13 @@ of_some (Some b) a P e h = let same : b ≡ a = cc in subst P same h
 pub of_none : {A : Type 0} (o : Option A) (P : Type 0) → o ≡ None → IfNone o P → P
 of_none None P e h = h
 of_none (Some b) P e h = absurd cc
+
+-- what holds anyway holds of an option's case
+pub none_so : {A : Type 0} (o : Option A) (P : Type 0) → P → IfNone o P
+none_so None P p = p
+none_so (Some b) P p = tt
+
+-- a test is not both
+pub not_true : (b : Bool) → b ≡ false → IsTrue b → ⊥
+not_true true e i = cc
+not_true false e i = cc

@@ -29,7 +29,7 @@ module _ (e : Endpoints) (k o : NameId) where
   line_scoped id (Out z ∷ acts) l = sends l.1 (rw (true_eq k.0) refl) (line_scoped l.0 acts l.2)
   line_scoped id (In x ∷ acts) l = receives l.1 (rw (true_eq k.0) refl) (line_scoped l.0 acts l.2)
 
-module _ (e : Endpoints) (t : Thin NameId) (are : AreEndpointsOf e t) (roles : t.first_role.0 ≢ t.second_role.0) (processes : t.first_process.0 ≢ t.second_process.0) where
+module _ (e : Endpoints) (t : Thin) (are : AreEndpointsOf e t) (roles : t.first_role.0 ≢ t.second_role.0) (processes : t.first_process.0 ≢ t.second_process.0) where
   abbrev the_channel : Channel
   the_channel = record { name = t.channel; active = t.first_role ∷ t.second_role ∷ []; serve = [] }
 

@@ -1,51 +1,62 @@
--- How the file of a thin source grows.
-use Rattle.std.proofs.Common.{◌≡◌, List, [], ◌∷◌, ◌++◌, length, refl, sym, ap, ◌∙◌, subst, append_assoc}
-use Rattle.std.specs.Prelude.{map}
+-- Bytes that are the text of a file, and what else they can't be.
+use Rattle.std.proofs.Common.{◌≡◌, ℕ, List, [], sym, subst}
 use Rattle.chor_base.specs.declared.rule.Place.{Place}
-use Rattle.chor_tree.specs.declared.file.Named.{Named}
-use Rattle.chor_tree.specs.declared.protocol.State.{State}
-use Rattle.chor_tree.specs.declared.protocol.ProtoStep.TheVariants.{End as Ended}
-use Rattle.chor_tree.specs.declared.tree.Node.{Node}
-use Rattle.chor_tree.specs.declared.tree.NodeId.{NodeId}
-use Rattle.chor_tree.specs.declared.tree.Part.{Part}
-use Rattle.chor_tree.specs.declared.tree.Form.TheVariants.{Start, End}
-use Rattle.chor_base.specs.declared.names.NameId.{NameId}
-use Rattle.chor_semantics.specs.Choreography.{Named as Unbound, Then, Starts}
-use Rattle.chor_semantics.specs.Sources.{tree_in, trees_of, parts_of, served_of}
-use Rattle.chor_semantics.proofs.Grown.{tree_at-push}
-use Rattle.chor_cmd.specs.declared.shape.Exchange.{Exchange as Held}
-use Rattle.chor_cmd.specs.Shapes.{exchange_of}
-use Rattle.chor_cmd.specs.Thin.{Thin, exchange_node, exchanges_tree, start_tree}
-use Rattle.chor_cmd.specs.Pieces.{state_before}
-use Rattle.chor_cmd.specs.ThinFile.{IsExchange, AreStates, AddsStates, IsExchangeForm}
+use Rattle.chor_base.specs.declared.rule.Rule.{Rule}
+use Rattle.chor_base.specs.declared.rule.Denied.{Denied}
+use Rattle.chor_base.specs.declared.rule.Denied.TheVariants.{Refused, Memory}
+use Rattle.chor_tree.specs.declared.file.File.{File}
+use Rattle.chor_lexer.specs.declared.token.Token.{Token}
+use Rattle.chor_lexer.specs.Refusal.{Refuses}
+use Rattle.chor_lexer.specs.Tokens.{AreTokensOf}
+use Rattle.chor_lexer.proofs.Cuts.{not_both}
+use Rattle.chor_lexer.proofs.Faults.{one_refusal}
+use Rattle.chor_parser.specs.Source.{source_of}
+use Rattle.chor_parser.specs.Faults.{IsFirstFault, IsRefusal, IsWithin}
+use Rattle.chor_cmd.specs.ThinFile.{IsThin}
+use Rattle.chor_cmd.specs.Source.{IsFileOf, IsNoSource, tokens, grammar, IsDenialOfTokens}
+use Rattle.chor_cmd.proofs.Blocks.{same_thin}
+use Rattle.chor_cmd.proofs.OneReading.{one_list}
+use Rattle.chor_parser.proofs.FirstFaults.{one_source_is, never_refused_is}
+use Rattle.chor_cmd.proofs.OnePlace.{one_place}
 
--- ---- states
+-- bytes that are made of tokens aren't refused by a rule of tokens
+pub has_tokens : (bytes : List ℕ) (names texts : List (List ℕ)) (ts : List Token) (rule : Rule) (place : Place) → AreTokensOf bytes [] [] names texts ts → Refuses bytes rule place → ⊥
+has_tokens bytes names texts ts rule place a r = not_both bytes a.lexemes rule place a.tokens r
 
-pub states_none : (t : Thin NameId) (ms : List Held) (old new : List State) (s : State) → ms ≡ [] → new ≡ old ++ s ∷ [] → s.name.name ≡ t.last_state → s.step ≡ Ended → AddsStates t (map exchange_of ms) old new
-states_none t [] old new s e h i j = record { more = s ∷ []; added = h; are = (i, j, refl) }
-states_none t (m ∷ ms) old new s e h i j = absurd cc
+-- bytes that no rule of tokens lets through violate that rule alone
+pub refused_alone : (bytes : List ℕ) (r q : Rule) (p o : Place) → Refuses bytes r p → IsNoSource bytes q o → (q ≡ r) × (o ≡ p)
+refused_alone bytes r q p o h (tokens i) = one_refusal bytes q r o p i h
+refused_alone bytes r q p o h (grammar {names = names} {texts = texts} {ts = ts} a f) = absurd (has_tokens bytes names texts ts r p a h)
 
-pub states_some : (t : Thin NameId) (ms rest : List Held) (m : Held) (old mid new : List State) (s : State) → ms ≡ m ∷ rest → mid ≡ old ++ s ∷ [] → s.name.name ≡ m.state → IsExchange t (exchange_of m) (state_before t (map exchange_of rest)) s.step → AddsStates t (map exchange_of rest) mid new → AddsStates t (map exchange_of ms) old new
-states_some t ms rest m old mid new s e h i j a = record {
-  more = s ∷ a.more;
-  added = a.added ∙ ap (λ l. l ++ a.more) h ∙ append_assoc old (s ∷ []) a.more;
-  are = subst (λ (l : List Held). AreStates t (map exchange_of l) (s ∷ a.more)) (sym e) (i, j, a.are);
-}
+-- bytes violate a rule first at one place
+pub one_violation : (bytes : List ℕ) (r q : Rule) (p o : Place) → IsNoSource bytes r p → IsNoSource bytes q o → o ≡ p
+one_violation bytes r q p o (tokens h) v = (refused_alone bytes r q p o h v).1
+one_violation bytes r q p o (grammar {names = names} {texts = texts} {ts = ts} a f) (tokens i) = absurd (has_tokens bytes names texts ts q o a i)
+one_violation bytes r q p o (grammar {names = names} {texts = texts} {ts = ts} a f) (grammar {names = names'} {texts = texts'} {ts = ts'} b g) =
+    let same = one_list bytes names texts names' texts' ts ts' a b in
+    let g' : IsFirstFault names ts q o = subst (λ (ns : List (List ℕ)). IsFirstFault ns ts q o) (sym same.names_are) (subst (λ (us : List Token). IsFirstFault names' us q o) (sym same.tokens_are) g) in
+    one_place names ts q r o p g' f
 
--- ---- nodes
+-- a file's bytes violate nothing
+pub never_violated : (bytes : List ℕ) (f : File) (rule : Rule) (place : Place) → IsFileOf bytes f → IsNoSource bytes rule place → ⊥
+never_violated bytes f rule place i (tokens h) = has_tokens bytes f.names f.texts i.tokens rule place i.are h
+never_violated bytes f rule place i (grammar {names = names} {texts = texts} {ts = ts} a g) =
+    let same = one_list bytes names texts f.names f.texts ts i.tokens a i.are in
+    let g' : IsFirstFault f.names i.tokens rule place = subst (λ (ns : List (List ℕ)). IsFirstFault ns i.tokens rule place) same.names_are (subst (λ (us : List Token). IsFirstFault names us rule place) same.tokens_are g) in
+    never_refused_is f.names i.tokens (source_of f) rule place i.within g'
 
-pub end_at : (t : Thin NameId) (ms : List Held) (old new : List Node) (p : Place) (id : NodeId) → ms ≡ [] → new ≡ old ++ record { place = p; form = End } ∷ [] → id.0 ≡ length old → tree_in (trees_of new) id ≡ exchanges_tree t (map exchange_of ms)
-end_at t [] old new p id e h i = tree_at-push old new (record { place = p; form = End }) id h i
-end_at t (m ∷ ms) old new p id e h i = absurd cc
+-- files of the same bytes have the same source
+pub one_file : (bytes : List ℕ) (f g : File) → IsFileOf bytes f → IsFileOf bytes g → source_of f ≡ source_of g
+one_file bytes f g i j =
+    let same = one_list bytes f.names f.texts g.names g.texts i.tokens j.tokens i.are j.are in
+    let w : IsWithin f.names i.tokens (source_of g) = subst (λ (ns : List (List ℕ)). IsWithin ns i.tokens (source_of g)) (sym same.names_are) (subst (λ (us : List Token). IsWithin g.names us (source_of g)) (sym same.tokens_are) j.within) in
+    one_source_is f.names i.tokens (source_of f) (source_of g) i.within.is w.is
 
-pub exchange_at : (t : Thin NameId) (ms rest : List Held) (m : Held) (old new : List Node) (node : Node) (id next : NodeId) → ms ≡ m ∷ rest → new ≡ old ++ node ∷ [] → id.0 ≡ length old → IsExchangeForm t (exchange_of m) next node.form → tree_in (trees_of old) next ≡ exchanges_tree t (map exchange_of rest) → tree_in (trees_of new) id ≡ exchanges_tree t (map exchange_of ms)
-exchange_at t ms rest m old new node id next e h i f r =
-    tree_at-push old new node id h i ∙ f.1 (trees_of old) ∙ ap (λ c. Then (exchange_node t (exchange_of m)) c) r ∙ ap (λ l. exchanges_tree t (map exchange_of l)) (sym e)
+-- and are thin or not alike
+pub thin_alike : (bytes : List ℕ) (f g : File) → IsFileOf bytes f → IsFileOf bytes g → IsThin f → IsThin g
+thin_alike bytes f g i j t = same_thin f g (one_file bytes f g i j) t
 
-pub start_at : (t : Thin NameId) (old new : List Node) (p : Place) (ch k : Named) (active serve : List Part) (id next : NodeId)
-    → new ≡ old ++ record { place = p; form = Start ch k active serve next } ∷ [] → id.0 ≡ length old
-    → ch.name ≡ t.channel → k.name ≡ t.session → parts_of active ≡ (Unbound t.first_process.0 0, t.first_role) ∷ (Unbound t.second_process.0 0, t.second_role) ∷ [] → serve ≡ []
-    → tree_in (trees_of new) id ≡ start_tree t (tree_in (trees_of old) next)
-start_at t old new p ch k active serve id next h i c s a n =
-    tree_at-push old new (record { place = p; form = Start ch k active serve next }) id h i
-    ∙ (λ j. Then (Starts (c j) 0 (s j).0 (a j) (served_of (n j))) (tree_in (trees_of old) next))
+-- a refusal of the tokens is one of the bytes
+pub denied_so : (bytes : List ℕ) (names texts : List (List ℕ)) (ts : List Token) (d : Denied) → AreTokensOf bytes [] [] names texts ts → IsRefusal names ts d → IsDenialOfTokens bytes d
+denied_so bytes names texts ts (Refused r) a h = grammar a h.0
+denied_so bytes names texts ts Memory a h = tt

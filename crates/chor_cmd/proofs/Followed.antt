@@ -34,16 +34,16 @@ who u v true = u
 who u v false = v
 
 -- the exchanges of these two processes in this session
-abbrev between : Thin NameId → Ref → Ref → Ref → List (Exchange NameId) → Choreography
+abbrev between : Thin → Ref → Ref → Ref → List Exchange → Choreography
 between t u v s [] = Ends
 between t u v s (m ∷ ms) =
     Then (Communicates s (who u v m.forward) (role t m.forward) (who u v (not m.forward)) (role t (not m.forward)) (OfValue (Constant (Int m.number)) m.variable)) (between t u v s ms)
 
 -- a start by both
-abbrev started_by : Thin NameId → Ref → Ref → Choreography → Choreography
+abbrev started_by : Thin → Ref → Ref → Choreography → Choreography
 started_by t u v rest = Then (Starts t.channel 0 t.session.0 ((u, t.first_role) ∷ (v, t.second_role) ∷ []) []) rest
 
-instance_between : (t : Thin NameId) (f g : ℕ → Ref) (ms : List (Exchange NameId)) → instance_of 0 f g (exchanges_tree t ms) ≡ between t (f t.first_process.0) (f t.second_process.0) (g t.session.0) ms
+instance_between : (t : Thin) (f g : ℕ → Ref) (ms : List Exchange) → instance_of 0 f g (exchanges_tree t ms) ≡ between t (f t.first_process.0) (f t.second_process.0) (g t.session.0) ms
 instance_between t f g [] = refl
 instance_between t f g (m ∷ ms) =
     let rest = instance_between t f g ms in
@@ -59,7 +59,7 @@ number_of true = 0
 number_of false = 1
 
 -- both processes are numbered in order, and the session keeps its name
-instance_thin : (t : Thin NameId) (f g : ℕ → Ref) → f t.first_process.0 ≡ Live 0 → f t.second_process.0 ≡ Live 1 → instance_of 0 f g (thin_tree t) ≡ started_by t (Live 0) (Live 1) (between t (Live 0) (Live 1) (Named t.session.0 0) t.exchanges)
+instance_thin : (t : Thin) (f g : ℕ → Ref) → f t.first_process.0 ≡ Live 0 → f t.second_process.0 ≡ Live 1 → instance_of 0 f g (thin_tree t) ≡ started_by t (Live 0) (Live 1) (between t (Live 0) (Live 1) (Named t.session.0 0) t.exchanges)
 instance_thin t f g first second =
     let h = bound t.session.0 (Named t.session.0 0) g in
     let named : h t.session.0 ≡ Named t.session.0 0 = ap (λ (b : Bool). if b then Named t.session.0 0 else g t.session.0) (same_name t.session.0) in
@@ -81,16 +81,16 @@ numbered_two (v ∷ w ∷ []) p q d h =
 
 -- ---- the code follows
 
-module _ (e : Endpoints) (t : Thin NameId) (procs : List Procedure) (R : Choreography → At) where
+module _ (e : Endpoints) (t : Thin) (procs : List Procedure) (R : Choreography → At) where
   -- at a node that stands in the table and is no call
   at_node : {o : Option CodeNode} {c : CodeNode} (S : At) (P : CodeNode → Type 0) (m : SessionMap) → o ≡ Some c → HoldsOf S P (standing e (Some c) m) → HoldsOf S P (standing e o m)
   at_node S P m h x = subst (λ (o : Option CodeNode). HoldsOf S P (standing e o m)) (sym h) x
 
-  abbrev From : Bool → List (Exchange NameId) → CodeId → SessionMap → Type 0
+  abbrev From : Bool → List Exchange → CodeId → SessionMap → Type 0
   From d ms q m = follows_over e procs (Live (number_of d)) R (between t (Live 0) (Live 1) (Named t.session.0 0) ms) q m
 
   -- one exchange, and the rest
-  one : (d b : Bool) (x : Exchange NameId) (ms : List (Exchange NameId)) (q : CodeId) (m : SessionMap) → m t.session.0 ≡ Some (Named t.session.0 0, role t d)
+  one : (d b : Bool) (x : Exchange) (ms : List Exchange) (q : CodeId) (m : SessionMap) → m t.session.0 ≡ Some (Named t.session.0 0, role t d)
       → ((next : CodeId) → IsLine e.code.nodes t.session (role t (not d)) next (acts_in d ms) → From d ms next m)
       → IsLine e.code.nodes t.session (role t (not d)) q (act_of d (record x { forward = b }) ∷ acts_in d ms) → From d (record x { forward = b } ∷ ms) q m
   one true true x ms q m s k l = at_node _ _ m l.1 ((s, refl, refl), k l.0 l.2)
@@ -98,7 +98,7 @@ module _ (e : Endpoints) (t : Thin NameId) (procs : List Procedure) (R : Choreog
   one false true x ms q m s k l = at_node _ _ m l.1 ((s, refl, refl), k l.0 l.2)
   one false false x ms q m s k l = at_node _ _ m l.1 ((s, refl, refl), k l.0 l.2)
 
-  all : (d : Bool) (ms : List (Exchange NameId)) (q : CodeId) (m : SessionMap) → m t.session.0 ≡ Some (Named t.session.0 0, role t d) → IsLine e.code.nodes t.session (role t (not d)) q (acts_in d ms) → From d ms q m
+  all : (d : Bool) (ms : List Exchange) (q : CodeId) (m : SessionMap) → m t.session.0 ≡ Some (Named t.session.0 0, role t d) → IsLine e.code.nodes t.session (role t (not d)) q (acts_in d ms) → From d ms q m
   all d [] q m s l = at_node _ _ m l refl
   all d (x ∷ ms) q m s l = one d x.forward x ms q m s (λ next. all d ms next m s) l
 
@@ -114,7 +114,7 @@ module _ (e : Endpoints) (t : Thin NameId) (procs : List Procedure) (R : Choreog
       holds r = ap (λ (b : Bool). if b then Some (Named t.session.0 0, r) else None) (same_name t.session.0)
 
 -- with any fuel
-followed : (f : File) (e : Endpoints) (t : Thin NameId) → HasShape f t → t.first_process.0 ≢ t.second_process.0 → AreEndpointsOf e t → (d : Bool) (body : CodeId) → IsBody e.code.nodes t d body → (n : ℕ) → Follows e (procedures_of f) n (Live (number_of d)) (first_configuration f).tree body no_sessions
+followed : (f : File) (e : Endpoints) (t : Thin) → HasShape f t → t.first_process.0 ≢ t.second_process.0 → AreEndpointsOf e t → (d : Bool) (body : CodeId) → IsBody e.code.nodes t d body → (n : ℕ) → Follows e (procedures_of f) n (Live (number_of d)) (first_configuration f).tree body no_sessions
 followed f e t h apart are d body b zero = tt
 followed f e t h apart are d body b (suc n) =
     let two = numbered_two f.processes t.first_process t.second_process apart h.processes in
@@ -125,7 +125,7 @@ followed f e t h apart are d body b (suc n) =
     (whole e t (procedures_of f) (Follows e (procedures_of f) n (Live (number_of d))) d body b)
 
 -- each process by its number
-pub projections_follow : (f : File) (t : Thin NameId) (e : Endpoints) → HasShape f t → t.first_process.0 ≢ t.second_process.0 → Projects f e → AllFollow f e
+pub projections_follow : (f : File) (t : Thin) (e : Endpoints) → HasShape f t → t.first_process.0 ≢ t.second_process.0 → Projects f e → AllFollow f e
 projections_follow f t e h apart p i q at = go i (sym (ap (λ (qs : List Process). slice_get qs i) are.processes) ∙ at)
   where
     are : AreEndpointsOf e t

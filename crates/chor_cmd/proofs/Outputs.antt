@@ -16,16 +16,16 @@ wrote_front None new text h = tt
 wrote_front (Some old) new text h = subst (λ (n : Option (List ℕ)). WroteFront (Some old) n text) (sym h.1) h.2
 
 -- the whole text was written
-pub wrote_all : (words : Words) (files : Told) (before after : List ℕ → ℕ) (f f' : ℕ) (old new : Option (List ℕ)) (status : Status) (text : List ℕ) → Ends words files before after status text → PutTells old new text put.All → HasEnded words files before after f f' old new status
-wrote_all words files before after f f' old new Done text e h = (text, e, wrote old new text h)
-wrote_all words files before after f f' old new Refused text e h = (text, e, wrote old new text h)
-wrote_all words files before after f f' old new Usage text e h = (text, e, wrote old new text h)
-wrote_all words files before after f f' old new ReadFault text e h = (text, e, wrote old new text h)
-wrote_all words files before after f f' old new TooLarge text e h = (text, e, wrote old new text h)
-wrote_all words files before after f f' old new Unbuilt text e h = (text, e, wrote old new text h)
-wrote_all words files before after f f' old new WriteFault text e h = elim e [ ]
-wrote_all words files before after f f' old new Memory text e h = elim e [ ]
+pub wrote_all : (hosts : List (List ℕ)) (words : Words) (files : Told) (before after : List ℕ → ℕ) (f f' : ℕ) (old new : Option (List ℕ)) (status : Status) (text : List ℕ) → Ends hosts words files before after status text → PutTells old new text put.All → HasEnded hosts words files before after f f' old new status
+wrote_all hosts words files before after f f' old new Done text e h = (text, e, wrote old new text h)
+wrote_all hosts words files before after f f' old new Refused text e h = (text, e, wrote old new text h)
+wrote_all hosts words files before after f f' old new Usage text e h = (text, e, wrote old new text h)
+wrote_all hosts words files before after f f' old new ReadFault text e h = (text, e, wrote old new text h)
+wrote_all hosts words files before after f f' old new TooLarge text e h = (text, e, wrote old new text h)
+wrote_all hosts words files before after f f' old new Unbuilt text e h = (text, e, wrote old new text h)
+wrote_all hosts words files before after f f' old new WriteFault text e h = elim e [ ]
+wrote_all hosts words files before after f f' old new Memory text e h = elim e [ ]
 
 -- the write failed after a front of it
-pub wrote_some : (words : Words) (files : Told) (before after : List ℕ → ℕ) (f f' : ℕ) (old new : Option (List ℕ)) (status : Status) (text : List ℕ) → Ends words files before after status text → PutTells old new text put.Failed → Risen f f' → HasEnded words files before after f f' old new WriteFault
-wrote_some words files before after f f' old new status text e h r = (r, (status, text, e, wrote_front old new text h))
+pub wrote_some : (hosts : List (List ℕ)) (words : Words) (files : Told) (before after : List ℕ → ℕ) (f f' : ℕ) (old new : Option (List ℕ)) (status : Status) (text : List ℕ) → Ends hosts words files before after status text → PutTells old new text put.Failed → Risen f f' → HasEnded hosts words files before after f f' old new WriteFault
+wrote_some hosts words files before after f f' old new status text e h r = (r, (status, text, e, wrote_front old new text h))

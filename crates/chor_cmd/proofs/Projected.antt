@@ -41,11 +41,11 @@ use Rattle.chor_cmd.specs.ThinCode.{Act, Out, In, act_of, acts_in, IsStep, IsLin
 
 -- ---- thin files are straight
 
-exchanges_line : (t : Thin NameId) (ms : List (Exchange NameId)) → IsStraightLine (exchanges_tree t ms)
+exchanges_line : (t : Thin) (ms : List Exchange) → IsStraightLine (exchanges_tree t ms)
 exchanges_line t [] = tt
 exchanges_line t (m ∷ ms) = exchanges_line t ms
 
-no_serve : (t : Thin NameId) (ss : List Service) (s : Service) → ss ≡ s ∷ [] → IsService t s → All (λ s. s.serve ≡ []) ss
+no_serve : (t : Thin) (ss : List Service) (s : Service) → ss ≡ s ∷ [] → IsService t s → All (λ s. s.serve ≡ []) ss
 no_serve t ss s e h = subst (λ (l : List Service). All (λ (x : Service). x.serve ≡ []) l) (sym e) (All-cons (λ x. x.serve ≡ []) s [] h.serve (All-nil (λ x. x.serve ≡ [])))
 
 body_inside : (f : File) (n : Node) (rest : Choreography) → tree_in (trees_of f.tree.nodes) f.body ≡ Then n rest → f.body.0 < length f.tree.nodes
@@ -60,7 +60,7 @@ body_inside f n rest e = go (ltb f.body.0 (length f.tree.nodes)) refl
         clash : Then n rest ≡ Stops → ⊥
         clash c = cc
 
-pub thin_straight : (f : File) (t : Thin NameId) → HasShape f t → IsStraight f
+pub thin_straight : (f : File) (t : Thin) → HasShape f t → IsStraight f
 thin_straight f t h = record {
   procs = h.procs;
   serve = no_serve t f.services h.service.0 h.service.1 h.service.2;
@@ -189,14 +189,14 @@ receives_part r k p a q b v x e f =
     ap (λ u. if u then Acts (Sends k b v) else (if r.0 == q.0 then Acts (Receives k a x) else Absent)) e
     ∙ ap (λ u. if u then Acts (Receives k a x) else Absent) f
 
-module _ (t : Thin NameId) (apart : t.first_process.0 ≢ t.second_process.0) where
-  part_as : (d b : Bool) (m : Exchange NameId) → part_in (process t d) (exchange_node t (record m { forward = b })) ≡ Acts (action_of t.session (role t (not d)) (act_of d (record m { forward = b })))
+module _ (t : Thin) (apart : t.first_process.0 ≢ t.second_process.0) where
+  part_as : (d b : Bool) (m : Exchange) → part_in (process t d) (exchange_node t (record m { forward = b })) ≡ Acts (action_of t.session (role t (not d)) (act_of d (record m { forward = b })))
   part_as true true m = sends_part t.first_process t.session t.first_process t.first_role t.second_process t.second_role (Constant (Int m.number)) m.variable (same_name t.first_process.0)
   part_as true false m = receives_part t.first_process t.session t.second_process t.second_role t.first_process t.first_role (Constant (Int m.number)) m.variable (other_name _ _ apart) (same_name t.first_process.0)
   part_as false true m = receives_part t.second_process t.session t.first_process t.first_role t.second_process t.second_role (Constant (Int m.number)) m.variable (other_name _ _ (λ e. apart (sym e))) (same_name t.second_process.0)
   part_as false false m = sends_part t.second_process t.session t.second_process t.second_role t.first_process t.first_role (Constant (Int m.number)) m.variable (same_name t.second_process.0)
 
-  part_of : (d : Bool) (m : Exchange NameId) → part_in (process t d) (exchange_node t m) ≡ Acts (action_of t.session (role t (not d)) (act_of d m))
+  part_of : (d : Bool) (m : Exchange) → part_in (process t d) (exchange_node t m) ≡ Acts (action_of t.session (role t (not d)) (act_of d m))
   part_of d m = part_as d m.forward m
 
   start_of : (d : Bool) (rest : Choreography) → part_before (process t d) (start_tree t rest) ≡ Acts (Joins t.channel (role t d) t.session)
@@ -222,7 +222,7 @@ module _ (t : Thin NameId) (apart : t.first_process.0 ≢ t.second_process.0) wh
         let s = standing nodes id closed within in
         let f = followed within s (recv_of (codes_of nodes) s.node k o y x (sym s.code ∙ e)) in record { next = f.next; step = f.is; rest = f.rest; within = f.within }
 
-    line_at : (d : Bool) (ms : List (Exchange NameId)) (id : CodeId) → id.0 < length nodes → IsCodeOf procs (process t d) (exchanges_tree t ms) (code_at nodes id) → IsLine nodes t.session (role t (not d)) id (acts_in d ms)
+    line_at : (d : Bool) (ms : List Exchange) (id : CodeId) → id.0 < length nodes → IsCodeOf procs (process t d) (exchanges_tree t ms) (code_at nodes id) → IsLine nodes t.session (role t (not d)) id (acts_in d ms)
     line_at d [] id within c =
         let s = standing nodes id closed within in s.is ∙ ap Some (end_of (codes_of nodes) s.node (sym s.code ∙ at_end procs (process t d) c))
     line_at d (m ∷ ms) id within c =
@@ -241,7 +241,7 @@ module _ (t : Thin NameId) (apart : t.first_process.0 ≢ t.second_process.0) wh
 
 -- ---- the lists
 
-started : (f : File) (t : Thin NameId) (a : NameId) → HasShape f t → a ≡ t.channel → is_some_start (starts_of f a) ≡ true
+started : (f : File) (t : Thin) (a : NameId) → HasShape f t → a ≡ t.channel → is_some_start (starts_of f a) ≡ true
 started f t a h e =
     ap (λ (hs : List Proc). is_some_start (starts_in_procs f a hs ++ starts_in a (main_of f f.body))) h.procs
     ∙ ap (λ (c : Choreography). is_some_start (starts_in a c)) h.tree
@@ -251,7 +251,7 @@ started f t a h e =
     the_start : Started
     the_start = record { session = t.session.0; serve = []; rest = exchanges_tree t t.exchanges }
 
-channels_of : (f : File) (t : Thin NameId) → HasShape f t → map channel_from (started_services f) ≡ record { name = t.channel; active = t.first_role ∷ t.second_role ∷ []; serve = [] } ∷ []
+channels_of : (f : File) (t : Thin) → HasShape f t → map channel_from (started_services f) ≡ record { name = t.channel; active = t.first_role ∷ t.second_role ∷ []; serve = [] } ∷ []
 channels_of f t h =
     let s = h.service.0 in
     let is = h.service.2 in
@@ -260,14 +260,14 @@ channels_of f t h =
     ∙ (λ j. record { name = is.name j; active = is.active j; serve = plain (is.serve j) } ∷ [])
 
 -- the two processes of the endpoints, with the codes of their bodies
-record Two (f : File) (e : Endpoints) (t : Thin NameId) (qs : List Process) : Type 0 where
+record Two (f : File) (e : Endpoints) (t : Thin) (qs : List Process) : Type 0 where
   one : CodeId
   other : CodeId
   are : qs ≡ record { name = t.first_process; body = one } ∷ record { name = t.second_process; body = other } ∷ []
   of_one : IsCodeOf f.procs t.first_process (main_of f f.body) (code_at e.code.nodes one)
   of_other : IsCodeOf f.procs t.second_process (main_of f f.body) (code_at e.code.nodes other)
 
-two_of : (f : File) (e : Endpoints) (t : Thin NameId) (ws : List Written) (qs : List Process) → plain ws ≡ t.first_process ∷ t.second_process ∷ [] → AllZip (IsProcessOf f e) ws qs → Two f e t qs
+two_of : (f : File) (e : Endpoints) (t : Thin) (ws : List Written) (qs : List Process) → plain ws ≡ t.first_process ∷ t.second_process ∷ [] → AllZip (IsProcessOf f e) ws qs → Two f e t qs
 two_of f e t [] qs h z = absurd (clash h)
   where
     clash : {x : NameId} {xs : List NameId} → [] ≡ x ∷ xs → ⊥
@@ -294,7 +294,7 @@ two_of f e t (a ∷ b ∷ []) (p ∷ q ∷ []) h z =
       of_other = subst (λ (n : NameId). IsCodeOf f.procs n (main_of f f.body) (code_at e.code.nodes q.body)) second z.1.0.body;
     }
 
-no_service_roles : (f : File) (t : Thin NameId) → HasShape f t → service_roles (started_services f) ≡ []
+no_service_roles : (f : File) (t : Thin) → HasShape f t → service_roles (started_services f) ≡ []
 no_service_roles f t h =
     let s = h.service.0 in
     let is = h.service.2 in
@@ -312,7 +312,7 @@ no_pairs R (x ∷ xs) ys e z = absurd (clash x xs e)
 
 -- ---- the projection of a thin file is its endpoints
 
-pub apart_are : (f : File) (e : Endpoints) (t : Thin NameId) → HasShape f t → t.first_process.0 ≢ t.second_process.0 → Projects f e → AreEndpointsOf e t
+pub apart_are : (f : File) (e : Endpoints) (t : Thin) → HasShape f t → t.first_process.0 ≢ t.second_process.0 → Projects f e → AreEndpointsOf e t
 apart_are f e t h apart p = record {
   channels = p.channels ∙ channels_of f t h;
   procedures = no_pairs (IsProcedureOf f e) (parameters_of f.procs) e.procedures (ap parameters_of h.procs) p.procedures;
@@ -341,7 +341,7 @@ apart_are f e t h apart p = record {
     bodies true = body_at t apart e.code.nodes e.code.closed f.procs true two.one (All-head Within first (second ∷ []) inside) (subst (λ (c : Choreography). IsCodeOf f.procs t.first_process c (code_at e.code.nodes two.one)) h.tree two.of_one)
     bodies false = body_at t apart e.code.nodes e.code.closed f.procs false two.other (All-head Within second [] (All-tail Within first (second ∷ []) inside)) (subst (λ (c : Choreography). IsCodeOf f.procs t.second_process c (code_at e.code.nodes two.other)) h.tree two.of_other)
 
-pub projected_are : (f : File) (e : Endpoints) (t : Thin NameId) → IsRunnable f t → Projects f e → AreEndpointsOf e t
+pub projected_are : (f : File) (e : Endpoints) (t : Thin) → IsRunnable f t → Projects f e → AreEndpointsOf e t
 projected_are f e t h p = apart_are f e t h.shape h.processes p
 
 -- ---- the network runs them
@@ -359,12 +359,12 @@ is_light_code (Does (Receives k a x) rest) = true
 is_light_code Ends = true
 is_light_code _ = false
 
-light_exchanges : (t : Thin NameId) (ms : List (Exchange NameId)) (n : Node) → HasNode n (exchanges_tree t ms) → is_light n ≡ true
+light_exchanges : (t : Thin) (ms : List Exchange) (n : Node) → HasNode n (exchanges_tree t ms) → is_light n ≡ true
 light_exchanges t [] n h = elim h [ ]
 light_exchanges t (m ∷ ms) n (here e) = ap is_light (sym e)
 light_exchanges t (m ∷ ms) n (later h) = light_exchanges t ms n h
 
-light_thin : (t : Thin NameId) (n : Node) → HasNode n (thin_tree t) → is_light n ≡ true
+light_thin : (t : Thin) (n : Node) → HasNode n (thin_tree t) → is_light n ≡ true
 light_thin t n (here e) = ap is_light (sym e)
 light_thin t n (later h) = light_exchanges t t.exchanges n h
 
@@ -400,13 +400,13 @@ plain_code (If v f g) = refl
 plain_code (Call f p ss) = refl
 plain_code End = refl
 
-plain_node : (f : File) (t : Thin NameId) (n : CodeNode) → HasShape f t → IsPartOrEnd f.processes (main_of f f.body) n → is_plain n ≡ true
+plain_node : (f : File) (t : Thin) (n : CodeNode) → HasShape f t → IsPartOrEnd f.processes (main_of f f.body) n → is_plain n ≡ true
 plain_node f t n h (is_end e) = ap is_plain e
 plain_node f t n h (is_part p) =
     let stands : HasNode p.node (thin_tree t) = subst (HasNode p.node) h.tree p.stands in
     plain_code n ∙ ap is_light_code (p.does.tree []) ∙ light_part p.process.name p.node (light_thin t p.node stands)
 
-pub projected_plain : (f : File) (e : Endpoints) (t : Thin NameId) → HasShape f t → Projects f e → HoldsOnly f e → IsPlain e
+pub projected_plain : (f : File) (e : Endpoints) (t : Thin) → HasShape f t → Projects f e → HoldsOnly f e → IsPlain e
 projected_plain f e t h p o = record {
   nodes = λ k d lt. plain_node f t (get_or e.code.nodes k d) h (o.nodes k d lt);
   channels = subst (λ (ks : List Channel). All (λ (k : Channel). k.serve ≡ []) ks) (sym (p.channels ∙ channels_of f t h)) (All-cons (λ k. k.serve ≡ []) the_channel [] refl (All-nil (λ k. k.serve ≡ [])));

@@ -31,11 +31,11 @@ false_eq : (m n : ℕ) → m ≢ n → (m == n) ≡ false
 false_eq m n h = grind (arith, nat_tests)
 
 -- the exchanges, none of which is made yet
-abbrev pub items_of : List (Exchange NameId) → List Item
+abbrev pub items_of : List Exchange → List Item
 items_of [] = []
 items_of (m ∷ ms) = Unsent m.forward m.number m.variable ∷ items_of ms
 
-acts_items : (d : Bool) (ms : List (Exchange NameId)) → acts_of d (items_of ms) ≡ acts_in d ms
+acts_items : (d : Bool) (ms : List Exchange) → acts_of d (items_of ms) ≡ acts_in d ms
 acts_items d [] = refl
 acts_items true (m ∷ ms) = one m.forward refl (acts_items true ms)
   where
@@ -48,22 +48,22 @@ acts_items false (m ∷ ms) = one m.forward refl (acts_items false ms)
     one true e r = rw e (ap (λ w. In m.variable ∷ w) r)
     one false e r = rw e (ap (λ w. Out m.number ∷ w) r)
 
-loads_items : (d : Bool) (ms : List (Exchange NameId)) → loads_of d (items_of ms) ≡ []
+loads_items : (d : Bool) (ms : List Exchange) → loads_of d (items_of ms) ≡ []
 loads_items d [] = refl
 loads_items true (m ∷ ms) = loads_items true ms
 loads_items false (m ∷ ms) = loads_items false ms
 
-ordered_items : (ms : List (Exchange NameId)) → IsOrdered (items_of ms)
+ordered_items : (ms : List Exchange) → IsOrdered (items_of ms)
 ordered_items [] = tt
 ordered_items (m ∷ ms) = (loads_items m.forward ms, ordered_items ms)
 
-left_items : (ms : List (Exchange NameId)) → left_of (items_of ms) ≡ 2 * length ms
+left_items : (ms : List Exchange) → left_of (items_of ms) ≡ 2 * length ms
 left_items [] = refl
 left_items (m ∷ ms) = let r = left_items ms in omega arith
 
 -- ---- the choreography's first step
 
-module _ (t : Thin NameId) (f g : ℕ → Ref) (first : f t.first_process.0 ≡ Live 0) (second : f t.second_process.0 ≡ Live 1) (session : g t.session.0 ≡ Named t.session.0 0) where
+module _ (t : Thin) (f g : ℕ → Ref) (first : f t.first_process.0 ≡ Live 0) (second : f t.second_process.0 ≡ Live 1) (session : g t.session.0 ≡ Named t.session.0 0) where
   who : (d : Bool) → f (process t d).0 ≡ Live (number_of d)
   who true = first
   who false = second
@@ -76,7 +76,7 @@ module _ (t : Thin NameId) (f g : ℕ → Ref) (first : f t.first_process.0 ≡ 
   numbered_session = rw (true_eq t.session.0) refl
 
   -- with the session's number, the exchanges stand as they run
-  numbered_tree : (ms : List (Exchange NameId)) → put (numbers_for 0 [] 2) (number_for t.session.0 0 0) (instance_of 0 f g (exchanges_tree t ms)) ≡ tree_of t.first_role t.second_role 0 (items_of ms)
+  numbered_tree : (ms : List Exchange) → put (numbers_for 0 [] 2) (number_for t.session.0 0 0) (instance_of 0 f g (exchanges_tree t ms)) ≡ tree_of t.first_role t.second_role 0 (items_of ms)
   numbered_tree [] = refl
   numbered_tree (m ∷ ms) =
       let rest = numbered_tree ms in
@@ -89,7 +89,7 @@ module _ (t : Thin NameId) (f g : ℕ → Ref) (first : f t.first_process.0 ≡ 
 
 -- ---- the network's first step
 
-module _ (e : Endpoints) (t : Thin NameId) (are : AreEndpointsOf e t) (roles : t.first_role.0 ≢ t.second_role.0) where
+module _ (e : Endpoints) (t : Thin) (are : AreEndpointsOf e t) (roles : t.first_role.0 ≢ t.second_role.0) where
   abbrev standing_at : Bool → Machine
   standing_at d = standing (are.body d)
 

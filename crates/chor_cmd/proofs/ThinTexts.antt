@@ -55,7 +55,7 @@ two (v ∷ w ∷ []) p q d h =
     let c : (w.name.0 == q.0) ≡ true = ap (λ n. n.0 == q.0) j ∙ true_eq q.0 in
     record { vars = refl; first = rw a refl; second = rw b (rw c refl) }
 
-module _ (f : File) (t : Thin NameId) (r : IsRunnable f t) (e : Endpoints) (are : AreEndpointsOf e t) where
+module _ (f : File) (t : Thin) (r : IsRunnable f t) (e : Endpoints) (are : AreEndpointsOf e t) where
   processes : AreTwo f.processes t.first_process t.second_process
   processes = two f.processes t.first_process t.second_process r.processes r.shape.processes
 
@@ -93,7 +93,7 @@ module _ (f : File) (t : Thin NameId) (r : IsRunnable f t) (e : Endpoints) (are 
       }
 
 -- a network that is at its beginning has numbers enough
-pub thin_fits : (v : NetworkView) (e : Endpoints) (t : Thin NameId) → AreEndpointsOf e t → v.endpoints ≡ e → v.state ≡ first_state e → v.history ≡ [] → FitsMore v (100000 - length v.history)
+pub thin_fits : (v : NetworkView) (e : Endpoints) (t : Thin) → AreEndpointsOf e t → v.endpoints ≡ e → v.state ≡ first_state e → v.history ≡ [] → FitsMore v (100000 - length v.history)
 thin_fits v e t are i j k = record {
   sid = subst (λ (n : ℕ). n + (100000 - length v.history) < 2 ^ 32) (sym (ap (λ n. n.sid) j)) (omega arith);
   machines =
@@ -124,7 +124,7 @@ scheduled_from v e b h last close s =
     (subst (λ (n : NetworkState). IsScheduled e [] None 0 100000 n (length v.history) h last close) b.state
     (subst (λ (w : Endpoints). IsScheduled w [] None 0 100000 v.state (length v.history) h last close) b.endpoints s))
 
-module _ (f : File) (t : Thin NameId) (r : IsRunnable f t) (e : Endpoints) (are : AreEndpointsOf e t) (old new : NetworkView) (b : Begins old e) where
+module _ (f : File) (t : Thin) (r : IsRunnable f t) (e : Endpoints) (are : AreEndpointsOf e t) (old new : NetworkView) (b : Begins old e) where
   -- the run comes to its end
   pub ends_so : (close : Close) → HasRun 0 100000 old new close → close ≡ Ended
   ends_so close run = closes_ended f t r e are run.events new.state close (scheduled_from old e b run.events new.state close run.run)

@@ -9,7 +9,6 @@ use Rattle.chor_base.specs.declared.event.Entry.{Entry}
 use Rattle.chor_base.specs.Events.{IsFifo}
 use Rattle.chor_tree.specs.declared.file.File.{File}
 use Rattle.chor_semantics.specs.Runs.{IsEndedRun}
-use Rattle.chor_lexer.specs.Refusal.{Refuses}
 use Rattle.endpoint_code.specs.declared.endpoints.Endpoints.{Endpoints}
 use Rattle.projection.specs.Projects.{Projects}
 use Rattle.endpoint_text.specs.Text.{endpoints_text}
@@ -19,12 +18,12 @@ use Rattle.chor_cmd.specs.declared.words.Words.{Words}
 use Rattle.chor_cmd.specs.declared.status.Status.{Status}
 use Rattle.chor_cmd.specs.declared.status.Status.TheVariants.{Done, Refused, Usage, ReadFault, WriteFault, Memory, TooLarge, Unbuilt}
 use Rattle.chor_cmd.specs.declared.words.Command.{Command}
-use Rattle.chor_cmd.specs.declared.words.Command.TheVariants.{Run, Project}
+use Rattle.chor_cmd.specs.declared.words.Command.TheVariants.{Run, Project, Types}
 use Rattle.chor_cmd.specs.Words.{IsForm, NamesFile, HasNoForm}
-use Rattle.chor_base.specs.declared.names.NameId.{NameId}
 use Rattle.chor_cmd.specs.Thin.{Thin}
-use Rattle.chor_cmd.specs.ThinFile.{plain, IsSourceOf, IsNoSource}
-use Rattle.chor_cmd.specs.Source.{HasTokens}
+use Rattle.chor_cmd.specs.ThinFile.{plain, IsRunnable, IsThin}
+use Rattle.chor_cmd.specs.Source.{Breaks, IsAccepted, Violates}
+use Rattle.chor_cmd.specs.Types.{IsTypesText}
 
 -- the files by name, where they are told
 abbrev pub Told : Type 0
@@ -62,7 +61,7 @@ pub record IsRunText (f : File) (text : List ℕ) : Type 0 where
   pub text_is : text ≡ transcript (book_of f) history (end_line (length history))
 
 -- such a run of a file that says what t says has a start and two events for each exchange
-pub record RunsShape (f : File) (t : Thin NameId) (text : List ℕ) : Type 0 where
+pub record RunsShape (f : File) (t : Thin) (text : List ℕ) : Type 0 where
   pub run : IsRunText f text
   pub count : length run.history ≡ suc (2 * length t.exchanges)
 
@@ -72,17 +71,23 @@ pub record IsProjectionText (f : File) (text : List ℕ) : Type 0 where
   pub projects : Projects f endpoints
   pub text_is : text ≡ endpoints_text endpoints
 
--- what a command writes for a file that says what t says
-abbrev pub IsOutput : Command → File → Thin NameId → List ℕ → Type 0
-IsOutput (Run word) f t text = RunsShape f t text
-IsOutput (Project word) f t text = IsProjectionText f text
+-- what a command writes for a file
+abbrev pub IsOutput : Command → File → List ℕ → Type 0
+IsOutput (Run word) f text = (t : Thin) × IsRunnable f t × RunsShape f t text
+IsOutput (Project word) f text = IsThin f × IsProjectionText f text
+IsOutput (Types word) f text = IsTypesText f text
 
--- what a command writes for a thin file with these bytes
-pub record Answers (command : Command) (bytes text : List ℕ) : Type 0 where
+-- the command handles thin files only, so far
+abbrev pub NeedsThin : Command → Type 0
+NeedsThin (Run word) = Unit {0}
+NeedsThin (Project word) = Unit {0}
+NeedsThin (Types word) = ⊥
+
+-- what a command writes for a file with these bytes
+pub record Answers (hosts : List (List ℕ)) (command : Command) (bytes text : List ℕ) : Type 0 where
   pub file : File
-  pub thin : Thin NameId
-  pub source : IsSourceOf bytes file thin
-  pub output : IsOutput command file thin text
+  pub source : IsAccepted hosts bytes file
+  pub output : IsOutput command file text
 
 abbrev pub line_naming : List ℕ → List ℕ → List ℕ
 line_naming what name = what ++ name ++ 10 ∷ []
@@ -91,20 +96,29 @@ line_naming what name = what ++ name ++ 10 ∷ []
 abbrev pub refused_line : Rule → Place → List ℕ
 refused_line rule place = codes "refused " ++ rule_name rule ++ codes " " ++ decimal place.line ++ codes ":" ++ decimal place.col ++ 10 ∷ []
 
--- The statuses with which a call may end that could write its text, each with its cause and that text. The counts are
+-- the text is the line of a rule that the bytes violate at this place
+abbrev pub IsRefusedAt : List (List ℕ) → List ℕ → Place → List ℕ → Type 0
+IsRefusedAt hosts bytes place text = (rule : Rule) × Violates hosts bytes rule place × (text ≡ refused_line rule place)
+
+-- the text is the line of a rule that the file breaks
+abbrev pub IsRefusedBy : List (List ℕ) → File → List ℕ → Type 0
+IsRefusedBy hosts f text = (rule : Rule) × (place : Place) × Breaks hosts f rule place × (text ≡ refused_line rule place)
+
+-- The statuses with which a call may end that could write its text, each with its cause and that text, where the host
+-- functions have these names. The counts are
 -- those of the failed fetches of each name, before and after
-pub data Ends (words : Words) (files : Told) (before after : List ℕ → ℕ) : Status → List ℕ → Type 0 where
-  usage : HasNoForm words → Ends words files before after Usage (codes "usage: chor COMMAND ARGUMENTS\n")
+pub data Ends (hosts : List (List ℕ)) (words : Words) (files : Told) (before after : List ℕ → ℕ) : Status → List ℕ → Type 0 where
+  usage : HasNoForm words → Ends hosts words files before after Usage (codes "usage: chor COMMAND ARGUMENTS\n")
   read_fault : (name : List ℕ) → NamesFile words name → Risen (before name) (after name)
-      → Ends words files before after ReadFault (line_naming (codes "read fault ") name)
+      → Ends hosts words files before after ReadFault (line_naming (codes "read fault ") name)
   too_large : (name : List ℕ) → NamesFile words name → ((bytes : List ℕ) → Tells files name bytes → source_limit < length bytes)
-      → Ends words files before after TooLarge (line_naming (codes "too large ") name)
-  refused : (name bytes : List ℕ) (rule : Rule) (place : Place) → NamesFile words name → TellsOnly files name bytes → length bytes ≤ source_limit → Refuses bytes rule place
-      → Ends words files before after Refused (refused_line rule place)
-  unbuilt : (name bytes : List ℕ) → NamesFile words name → TellsOnly files name bytes → length bytes ≤ source_limit → HasTokens bytes → IsNoSource bytes
-      → Ends words files before after Unbuilt (codes "not built\n")
-  done : (command : Command) (name bytes text : List ℕ) → IsForm words command name → TellsOnly files name bytes → length bytes ≤ source_limit → Answers command bytes text
-      → Ends words files before after Done text
+      → Ends hosts words files before after TooLarge (line_naming (codes "too large ") name)
+  refused : (name bytes : List ℕ) (rule : Rule) (place : Place) → NamesFile words name → TellsOnly files name bytes → length bytes ≤ source_limit → Violates hosts bytes rule place
+      → Ends hosts words files before after Refused (refused_line rule place)
+  unbuilt : (command : Command) (name bytes : List ℕ) (f : File) → IsForm words command name → NeedsThin command → TellsOnly files name bytes → length bytes ≤ source_limit → IsAccepted hosts bytes f → (IsThin f → ⊥)
+      → Ends hosts words files before after Unbuilt (codes "not built\n")
+  done : (command : Command) (name bytes text : List ℕ) → IsForm words command name → TellsOnly files name bytes → length bytes ≤ source_limit → Answers hosts command bytes text
+      → Ends hosts words files before after Done text
 
 -- where the bytes written are told, exactly this text was added
 abbrev pub Wrote : Option (List ℕ) → Option (List ℕ) → List ℕ → Type 0
@@ -118,16 +132,16 @@ WroteFront (Some old) None text = ⊥
 WroteFront (Some old) (Some new) text = GrowsByFront old new text
 
 -- A call has ended so: by a failing write after a front of a text, for want of memory, or with the whole text
-abbrev pub HasEnded : Words → Told → (List ℕ → ℕ) → (List ℕ → ℕ) → ℕ → ℕ → Option (List ℕ) → Option (List ℕ) → Status → Type 0
-HasEnded words files before after faults faults' old new WriteFault =
-    Risen faults faults' × ((status : Status) × (text : List ℕ) × Ends words files before after status text × WroteFront old new text)
-HasEnded words files before after faults faults' old new Memory = ((name : List ℕ) × NamesFile words name) × (new ≡ old)
-HasEnded words files before after faults faults' old new status = (text : List ℕ) × Ends words files before after status text × Wrote old new text
+abbrev pub HasEnded : List (List ℕ) → Words → Told → (List ℕ → ℕ) → (List ℕ → ℕ) → ℕ → ℕ → Option (List ℕ) → Option (List ℕ) → Status → Type 0
+HasEnded hosts words files before after faults faults' old new WriteFault =
+    Risen faults faults' × ((status : Status) × (text : List ℕ) × Ends hosts words files before after status text × WroteFront old new text)
+HasEnded hosts words files before after faults faults' old new Memory = ((name : List ℕ) × NamesFile words name) × (new ≡ old)
+HasEnded hosts words files before after faults faults' old new status = (text : List ℕ) × Ends hosts words files before after status text × Wrote old new text
 
 -- A call for a file whose bytes the shelf tells would end so, and not because reading failed
-pub record ReadAndEnds (words : Words) (files : Told) (before after : List ℕ → ℕ) (bytes : List ℕ) (status : Status) (text : List ℕ) : Type 0 where
+pub record ReadAndEnds (hosts : List (List ℕ)) (words : Words) (files : Told) (before after : List ℕ → ℕ) (bytes : List ℕ) (status : Status) (text : List ℕ) : Type 0 where
   pub name : List ℕ
   pub named : NamesFile words name
   pub told : Tells files name bytes
   pub read : status ≢ ReadFault
-  pub ends : Ends words files before after status text
+  pub ends : Ends hosts words files before after status text

@@ -1,6 +1,5 @@
 -- When endpoint programs follow a file.
 use Rattle.std.specs.Prelude.{ℕ, ◌≡◌, ◌≢◌, Some, slice_get}
-use Rattle.chor_base.specs.declared.names.NameId.{NameId}
 use Rattle.chor_tree.specs.declared.file.File.{File}
 use Rattle.chor_semantics.specs.Choreography.{Live}
 use Rattle.chor_semantics.specs.Sources.{first_configuration, procedures_of}
@@ -17,4 +16,4 @@ AllFollow f e = (i : ℕ) (q : Process) → slice_get e.processes i ≡ Some q �
 
 -- The projection of a thin file follows it
 abbrev pub ProjectionsFollow : Type 0
-ProjectionsFollow = (f : File) (t : Thin NameId) (e : Endpoints) → HasShape f t → t.first_process.0 ≢ t.second_process.0 → Projects f e → AllFollow f e
+ProjectionsFollow = (f : File) (t : Thin) (e : Endpoints) → HasShape f t → t.first_process.0 ≢ t.second_process.0 → Projects f e → AllFollow f e

@@ -1,10 +1,9 @@
 pub mod Thin
 pub mod ThinCode
-pub mod Shapes
-pub mod Pieces
-pub mod Reading
 pub mod ThinFile
+pub mod Frames
 pub mod Source
+pub mod Types
 pub mod Following
 pub mod Words
 pub mod Status

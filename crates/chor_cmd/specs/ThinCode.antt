@@ -18,15 +18,15 @@ abbrev pub same : Bool → Bool → Bool
 same true d = d
 same false d = not d
 
-abbrev pub act_if : Bool → Exchange NameId → Act
+abbrev pub act_if : Bool → Exchange → Act
 act_if true m = Out m.number
 act_if false m = In m.variable
 
-abbrev pub act_of : Bool → Exchange NameId → Act
+abbrev pub act_of : Bool → Exchange → Act
 act_of d m = act_if (same d m.forward) m
 
 -- what the first or the second process does
-abbrev pub acts_in : Bool → List (Exchange NameId) → List Act
+abbrev pub acts_in : Bool → List Exchange → List Act
 acts_in d [] = []
 acts_in d (m ∷ ms) = act_of d m ∷ acts_in d ms
 
@@ -41,13 +41,13 @@ IsLine nodes k o id [] = slice_get nodes id.0 ≡ Some End
 IsLine nodes k o id (act ∷ acts) = (next : CodeId) × IsStep nodes k o id next act × IsLine nodes k o next acts
 
 -- the body joins the channel in this process's role, and then does its part of the exchanges
-pub record IsBody (nodes : List CodeNode) (t : Thin NameId) (d : Bool) (id : CodeId) : Type 0 where
+pub record IsBody (nodes : List CodeNode) (t : Thin) (d : Bool) (id : CodeId) : Type 0 where
   pub next : CodeId
   pub joins : slice_get nodes id.0 ≡ Some (Join t.channel (role t d) t.session next)
   pub line : IsLine nodes t.session (role t (not d)) next (acts_in d t.exchanges)
 
 -- the endpoint programs of a thin file: its channel, and a body for each of its two processes
-pub record AreEndpointsOf (e : Endpoints) (t : Thin NameId) : Type 0 where
+pub record AreEndpointsOf (e : Endpoints) (t : Thin) : Type 0 where
   pub channels : e.channels ≡ record { name = t.channel; active = t.first_role ∷ t.second_role ∷ []; serve = [] } ∷ []
   pub body : Bool → CodeId
   pub procedures : e.procedures ≡ []

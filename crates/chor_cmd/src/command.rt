@@ -1,20 +1,29 @@
 //! The call that the program makes.
 
-ghost use Rattle.std.specs.Prelude.{◌≡◌, ◌≢◌, ◌≤◌, ◌^◌, ℕ, List, IfOk, length};
+ghost use Rattle.std.specs.Prelude.{◌≡◌, ◌≢◌, ◌<◌, ◌≤◌, ◌^◌, ℕ, List, IfOk, IfSome, IfNone, length};
 ghost use Rattle.chor_cmd.specs.declared.words.Words.{Words as CommandWords};
 ghost use Rattle.chor_cmd.specs.Words.{IsForm, NamesFile};
-ghost use Rattle.chor_cmd.specs.Shapes.{thin_of};
-ghost use Rattle.chor_cmd.specs.ThinFile.{IsSourceOf, IsRunnable};
-ghost use Rattle.chor_cmd.specs.Endings.{HasEnded, IsOutput, Told, TellsOnly, source_limit};
+ghost use Rattle.chor_cmd.specs.ThinFile.{IsThin};
+ghost use Rattle.chor_host.specs.Functions.{names_of};
+ghost use Rattle.chor_host.specs.Tables.{functions_of};
+ghost use Rattle.chor_tree.specs.declared.protocol.Protocol.{Protocol};
+ghost use Rattle.global_types.specs.Moves.{IsIn};
+ghost use Rattle.local_types.specs.Reading.{IsProper};
+ghost use Rattle.chor_cmd.specs.Source.{IsAccepted, HasFineViews};
+ghost use Rattle.chor_cmd.specs.Endings.{HasEnded, IsOutput, NeedsThin, Told, TellsOnly, source_limit};
 
 use crate::endpoints::{endpoints_of, text_of_endpoints};
-use crate::output::{finish, finish_naming, finish_refusing};
+use crate::output::{finish, finish_denying, finish_naming};
 use crate::run::transcript_of;
-use crate::source::{Source, ThinSource, read};
+use crate::source::read;
 use crate::status::Status;
+use crate::thin::is_thin;
+use crate::types::types_of;
 use crate::words::{Command, Words, form_of};
 use chor_base::{Memory, Word};
+use chor_host::HostTable;
 use chor_io::{Fetched, Gate, Shelf, Sink};
+use chor_tree::File;
 use std::alloc::Global;
 
 // How many bytes a source file has at most.
@@ -25,9 +34,10 @@ const SOURCE_LIMIT: u64 = 1 << 20;
 ///
 /// `run FILE` writes the transcript of a run of the file's choreography, and `project FILE` its
 /// endpoint programs. So far both handle thin files: one protocol, one channel and two processes
-/// that exchange 1 to 255 numbers in one session. For any other file that is made of tokens they
-/// write `not built`, and for a file that isn't, `refused` with the rule that it violates and the
-/// place.
+/// that exchange at most 255 numbers in one session. For any other source they write `not built`.
+/// `types FILE` writes the local types of all roles. For a file that violates a rule of tokens, of
+/// the grammar, of names, of protocols or of views, each command writes `refused` with this rule and
+/// the place. A file may call the host functions of this table.
 ///
 /// The gate is for runs with workers, which aren't there yet.
 pub fn chor<F: Shelf, K: Sink, G: Gate + Sync>(
@@ -36,8 +46,9 @@ pub fn chor<F: Shelf, K: Sink, G: Gate + Sync>(
     shelf: &mut F,
     out: &mut K,
     _gate: &G,
+    hosts: &HostTable,
 ) -> Status
-    ensures ended { HasEnded words.now (F.files shelf.old) (F.faults shelf.old) (F.faults shelf.new) (K.faults out.old) (K.faults out.new) (K.written out.old) (K.written out.new) result }
+    ensures ended { HasEnded (names_of (functions_of hosts.now)) words.now (F.files shelf.old) (F.faults shelf.old) (F.faults shelf.new) (K.faults out.old) (K.faults out.new) (K.written out.old) (K.written out.new) result }
     ensures others { (name other : List ℕ) → NamesFile words.now name → other ≢ name → F.faults shelf.new other ≡ F.faults shelf.old other }
 {
     match form_of(words) {
@@ -46,7 +57,7 @@ pub fn chor<F: Shelf, K: Sink, G: Gate + Sync>(
             b"usage: chor COMMAND ARGUMENTS\n".as_slice(),
             Status::Usage,
         ),
-        Some((command, name)) => answer(alloc, command, name, shelf, out),
+        Some((command, name)) => answer(alloc, command, name, shelf, out, hosts),
     }
 }
 
@@ -57,8 +68,9 @@ fn answer<F: Shelf, K: Sink>(
     name: &Word,
     shelf: &mut F,
     out: &mut K,
+    hosts: &HostTable,
 ) -> Status
-    ensures ended { (words : CommandWords) → IsForm words command name.now → HasEnded words (F.files shelf.old) (F.faults shelf.old) (F.faults shelf.new) (K.faults out.old) (K.faults out.new) (K.written out.old) (K.written out.new) result }
+    ensures ended { (words : CommandWords) → IsForm words command name.now → HasEnded (names_of (functions_of hosts.now)) words (F.files shelf.old) (F.faults shelf.old) (F.faults shelf.new) (K.faults out.old) (K.faults out.new) (K.written out.old) (K.written out.new) result }
     ensures others { (other : List ℕ) → other ≢ name.now → F.faults shelf.new other ≡ F.faults shelf.old other }
 {
     let mut bytes = Vec::new(alloc);
@@ -78,50 +90,69 @@ fn answer<F: Shelf, K: Sink>(
             Status::TooLarge,
         ),
         Fetched::Memory => Status::Memory,
-        Fetched::All => answer_bytes(alloc, command, bytes.as_slice(), out),
+        Fetched::All => answer_bytes(alloc, command, bytes.as_slice(), out, hosts),
     }
 }
 
 // Answers the command for a source with these bytes.
-fn answer_bytes<K: Sink>(alloc: Global, command: Command, bytes: &[u8], out: &mut K) -> Status
-    requires { length bytes.now ≤ 2 ^ 20 }
-    ensures { (words : CommandWords) (files : Told) (before after : List ℕ → ℕ) (name : List ℕ) → IsForm words command name → TellsOnly files name bytes.now → HasEnded words files before after (K.faults out.old) (K.faults out.new) (K.written out.old) (K.written out.new) result }
-{
-    match read(alloc, bytes) {
-        Ok(Source::Thin(source)) => answer_source(alloc, command, &source, out),
-        Ok(Source::Other) => finish(out, b"not built\n".as_slice(), Status::Unbuilt),
-        Ok(Source::Refused(refusal)) => finish_refusing(alloc, out, &refusal),
-        Err(Memory) => Status::Memory,
-    }
-}
-
-// Answers the command for a thin source.
-fn answer_source<K: Sink>(
+fn answer_bytes<K: Sink>(
     alloc: Global,
     command: Command,
-    source: &ThinSource,
+    bytes: &[u8],
     out: &mut K,
+    hosts: &HostTable,
 ) -> Status
-    requires { IsRunnable source.now.file (thin_of source.now.shape) }
-    ensures { (words : CommandWords) (files : Told) (before after : List ℕ → ℕ) (name bytes : List ℕ) → IsForm words command name → TellsOnly files name bytes → length bytes ≤ source_limit → IsSourceOf bytes source.now.file (thin_of source.now.shape) → HasEnded words files before after (K.faults out.old) (K.faults out.new) (K.written out.old) (K.written out.new) result }
+    requires { length bytes.now ≤ 2 ^ 20 }
+    ensures { (words : CommandWords) (files : Told) (before after : List ℕ → ℕ) (name : List ℕ) → IsForm words command name → TellsOnly files name bytes.now → HasEnded (names_of (functions_of hosts.now)) words files before after (K.faults out.old) (K.faults out.new) (K.written out.old) (K.written out.new) result }
 {
-    match text_of(alloc, command, source) {
-        Ok(text) => finish(out, text.as_slice(), Status::Done),
+    match read(alloc, bytes, hosts) {
+        Ok(file) => answer_file(alloc, command, &file, out),
+        Err(denied) => finish_denying(alloc, out, &denied),
+    }
+}
+
+// Answers the command for a file that violates no rule.
+fn answer_file<K: Sink>(alloc: Global, command: Command, file: &File, out: &mut K) -> Status
+    requires body { file.now.body.0 < length file.now.tree.nodes }
+    requires proper { (p : Protocol) → IsIn p file.now.protocols → IsProper p }
+    requires views { HasFineViews file.now }
+    ensures { (hosts : List (List ℕ)) (words : CommandWords) (files : Told) (before after : List ℕ → ℕ) (name bytes : List ℕ) → IsForm words command name → TellsOnly files name bytes → length bytes ≤ source_limit → IsAccepted hosts bytes file.now → HasEnded hosts words files before after (K.faults out.old) (K.faults out.new) (K.written out.old) (K.written out.new) result }
+{
+    match text_of(alloc, command, file) {
+        Ok(Some(text)) => finish(out, text.as_slice(), Status::Done),
+        Ok(None) => finish(out, b"not built\n".as_slice(), Status::Unbuilt),
         Err(Memory) => Status::Memory,
     }
 }
 
-// What the command writes for a thin source.
-fn text_of(alloc: Global, command: Command, source: &ThinSource) -> Result<Vec<u8>, Memory>
-    requires { IsRunnable source.now.file (thin_of source.now.shape) }
-    ensures { IfOk result (λ text. IsOutput command source.now.file (thin_of source.now.shape) text.items) }
+// What the command writes for a file, if it handles it.
+fn text_of(alloc: Global, command: Command, file: &File) -> Result<Option<Vec<u8>>, Memory>
+    requires body { file.now.body.0 < length file.now.tree.nodes }
+    requires proper { (p : Protocol) → IsIn p file.now.protocols → IsProper p }
+    requires views { HasFineViews file.now }
+    ensures some { IfOk result (λ text. IfSome text (λ t. IsOutput command file.now t.items)) }
+    ensures none { IfOk result (λ text. IfNone text (NeedsThin command × (IsThin file.now → ⊥))) }
 {
-    let endpoints = endpoints_of(alloc, source)?;
     match command {
-        Command::Run(_) => transcript_of(alloc, source, &endpoints),
+        Command::Run(_) => {
+            if !is_thin(file) {
+                return Ok(None);
+            }
+            let endpoints = endpoints_of(alloc, file)?;
+            let text = transcript_of(alloc, file, &endpoints)?;
+            Ok(Some(text))
+        }
         Command::Project(_) => {
+            if !is_thin(file) {
+                return Ok(None);
+            }
+            let endpoints = endpoints_of(alloc, file)?;
             let text = text_of_endpoints(alloc, &endpoints)?;
-            Ok(text)
+            Ok(Some(text))
+        }
+        Command::Types(_) => {
+            let text = types_of(alloc, file)?;
+            Ok(Some(text))
         }
     }
 }

@@ -1,28 +1,28 @@
-//! The endpoint programs of a thin source, and their text.
+//! The endpoint programs of a thin file, and their text.
 
 ghost use Rattle.std.specs.Prelude.{◌≡◌, IfOk};
 ghost use Rattle.projection.specs.Projects.{Projects};
 ghost use Rattle.net_core.specs.Plain.{IsPlain};
 ghost use Rattle.endpoint_text.specs.Text.{endpoints_text};
-ghost use Rattle.chor_cmd.specs.Shapes.{thin_of};
+ghost use Rattle.chor_cmd.specs.Thin.{Thin};
 ghost use Rattle.chor_cmd.specs.ThinCode.{AreEndpointsOf};
-ghost use Rattle.chor_cmd.specs.ThinFile.{IsRunnable};
+ghost use Rattle.chor_cmd.specs.ThinFile.{IsRunnable, IsThin};
 
-use crate::source::ThinSource;
 use chor_base::Memory;
+use chor_tree::File;
 use endpoint_code::Endpoints;
 use endpoint_text::print_endpoints;
 use projection::project;
 use std::alloc::Global;
 
-/// The endpoint programs of a thin source, which are its projection.
-pub fn endpoints_of(alloc: Global, source: &ThinSource) -> Result<Endpoints, Memory>
-    requires { IsRunnable source.now.file (thin_of source.now.shape) }
-    ensures projects { IfOk result (Projects source.now.file) }
-    ensures are { IfOk result (λ e. AreEndpointsOf e (thin_of source.now.shape)) }
+/// The endpoint programs of a thin file, which are its projection.
+pub fn endpoints_of(alloc: Global, file: &File) -> Result<Endpoints, Memory>
+    requires { IsThin file.now }
+    ensures projects { IfOk result (Projects file.now) }
+    ensures are { IfOk result (λ e. (t : Thin) → IsRunnable file.now t → AreEndpointsOf e t) }
     ensures plain { IfOk result IsPlain }
 {
-    let endpoints = project(alloc, &source.file)?;
+    let endpoints = project(alloc, file)?;
     Ok(endpoints)
 }
 

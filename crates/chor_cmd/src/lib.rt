@@ -5,15 +5,12 @@ mod command;
 mod endpoints;
 mod laws;
 mod output;
-mod piece;
-mod reader;
 mod run;
-mod shape;
 mod source;
 mod status;
-mod thin_file;
+mod thin;
+mod types;
 mod words;
-mod written;
 
 pub use command::chor;
 pub use laws::{no_form, thin_projections_follow, what_a_file_gets};

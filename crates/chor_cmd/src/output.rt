@@ -3,17 +3,19 @@
 ghost use Rattle.std.specs.Prelude.{◌≡◌, ℕ, List, IfOk};
 ghost use Rattle.chor_cmd.specs.declared.words.Words.{Words as CommandWords};
 ghost use Rattle.chor_cmd.specs.Endings.{Ends, HasEnded, Told, line_naming, refused_line};
+ghost use Rattle.chor_base.specs.declared.rule.Refusal.{Refusal as RefusalIs};
+ghost use Rattle.chor_base.specs.declared.rule.Denied.TheVariants as denials;
 ghost use Rattle.chor_cmd.specs.Words.{NamesFile};
 
 use crate::status::Status;
-use chor_base::{Memory, Refusal, Word, put_bytes, put_number};
+use chor_base::{Denied, Memory, Refusal, Word, put_bytes, put_number};
 use chor_io::{Put, Sink};
 use std::alloc::Global;
 
 /// Writes the text with which a call ends, and answers the status.
 #[tactic(auto, using(crate::proofs::Outputs::wrote_all, crate::proofs::Outputs::wrote_some))]
 pub fn finish<K: Sink>(out: &mut K, text: &[u8], status: Status) -> Status
-    ensures { (words : CommandWords) (files : Told) (before after : List ℕ → ℕ) → Ends words files before after status text.now → HasEnded words files before after (K.faults out.old) (K.faults out.new) (K.written out.old) (K.written out.new) result }
+    ensures { (hosts : List (List ℕ)) (words : CommandWords) (files : Told) (before after : List ℕ → ℕ) → Ends hosts words files before after status text.now → HasEnded hosts words files before after (K.faults out.old) (K.faults out.new) (K.written out.old) (K.written out.new) result }
 {
     match out.put(text) {
         Put::All => status,
@@ -29,7 +31,7 @@ pub fn finish_naming<K: Sink>(
     name: &Word,
     status: Status,
 ) -> Status
-    ensures { (words : CommandWords) (files : Told) (before after : List ℕ → ℕ) → NamesFile words name.now → Ends words files before after status (line_naming what.now name.now) → HasEnded words files before after (K.faults out.old) (K.faults out.new) (K.written out.old) (K.written out.new) result }
+    ensures { (hosts : List (List ℕ)) (words : CommandWords) (files : Told) (before after : List ℕ → ℕ) → NamesFile words name.now → Ends hosts words files before after status (line_naming what.now name.now) → HasEnded hosts words files before after (K.faults out.old) (K.faults out.new) (K.written out.old) (K.written out.new) result }
 {
     match naming_line(alloc, what, name) {
         Ok(line) => finish(out, line.as_slice(), status),
@@ -46,13 +48,23 @@ fn naming_line(alloc: Global, what: &[u8], name: &Word) -> Result<Vec<u8>, Memor
     Ok(line)
 }
 
-/// Writes the line of a refusal, and answers the status.
-pub fn finish_refusing<K: Sink>(alloc: Global, out: &mut K, refusal: &Refusal) -> Status
-    ensures { (words : CommandWords) (files : Told) (before after : List ℕ → ℕ) (name : List ℕ) → NamesFile words name → Ends words files before after Status.Refused (refused_line refusal.now.rule refusal.now.place) → HasEnded words files before after (K.faults out.old) (K.faults out.new) (K.written out.old) (K.written out.new) result }
+// Writes the line of a refusal, and answers the status.
+fn finish_refusing<K: Sink>(alloc: Global, out: &mut K, refusal: &Refusal) -> Status
+    ensures { (hosts : List (List ℕ)) (words : CommandWords) (files : Told) (before after : List ℕ → ℕ) (name : List ℕ) → NamesFile words name → Ends hosts words files before after Status.Refused (refused_line refusal.now.rule refusal.now.place) → HasEnded hosts words files before after (K.faults out.old) (K.faults out.new) (K.written out.old) (K.written out.new) result }
 {
     match refused_line(alloc, refusal) {
         Ok(line) => finish(out, line.as_slice(), Status::Refused),
         Err(Memory) => Status::Memory,
+    }
+}
+
+/// Writes the line of a refusal, or nothing where there was no memory, and answers the status.
+pub fn finish_denying<K: Sink>(alloc: Global, out: &mut K, denied: &Denied) -> Status
+    ensures { (hosts : List (List ℕ)) (words : CommandWords) (files : Told) (before after : List ℕ → ℕ) (name : List ℕ) → NamesFile words name → ((r : RefusalIs) → denied.now ≡ denials.Refused r → Ends hosts words files before after Status.Refused (refused_line r.rule r.place)) → HasEnded hosts words files before after (K.faults out.old) (K.faults out.new) (K.written out.old) (K.written out.new) result }
+{
+    match denied {
+        Denied::Refused(refusal) => finish_refusing(alloc, out, refusal),
+        Denied::Memory => Status::Memory,
     }
 }
 

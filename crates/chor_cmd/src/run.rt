@@ -1,17 +1,16 @@
-//! Running a thin source.
+//! Running a thin file.
 
 ghost use Rattle.std.specs.Prelude.{◌≡◌, IfOk, length};
-ghost use Rattle.chor_cmd.specs.Shapes.{thin_of};
-ghost use Rattle.chor_cmd.specs.ThinFile.{IsRunnable, plain};
+ghost use Rattle.chor_cmd.specs.Thin.{Thin};
+ghost use Rattle.chor_cmd.specs.ThinFile.{IsRunnable, IsThin, plain};
 ghost use Rattle.chor_cmd.specs.ThinCode.{AreEndpointsOf};
 ghost use Rattle.net_core.specs.Plain.{IsPlain};
 ghost use Rattle.chor_cmd.specs.Endings.{RunsShape, events_of, end_line};
 ghost use Rattle.transcript.specs.Text.{transcript};
 ghost use Rattle.transcript.specs.Books.{words};
 
-use crate::source::ThinSource;
 use chor_base::{Entry, List, Memory, NameId};
-use chor_tree::Named;
+use chor_tree::{File, Named};
 use endpoint_code::Endpoints;
 use net_core::{Network, Picked};
 use std::alloc::Global;
@@ -20,19 +19,14 @@ use transcript::{Book, print_events};
 // How many events a run has at most where nothing else is asked.
 const STEPS: u64 = 100_000;
 
-/// The transcript of the scheduled run of a source's endpoint programs. Its last line says how many
+/// The transcript of the scheduled run of a thin file's endpoint programs. Its last line says how many
 /// events it has.
-pub fn transcript_of(
-    alloc: Global,
-    source: &ThinSource,
-    endpoints: &Endpoints,
-) -> Result<Vec<u8>, Memory>
-    requires runnable { IsRunnable source.now.file (thin_of source.now.shape) }
-    requires endpoints { AreEndpointsOf endpoints.now (thin_of source.now.shape) }
+pub fn transcript_of(alloc: Global, file: &File, endpoints: &Endpoints) -> Result<Vec<u8>, Memory>
+    requires thin { IsThin file.now }
+    requires endpoints { (t : Thin) → IsRunnable file.now t → AreEndpointsOf endpoints.now t }
     requires plain { IsPlain endpoints.now }
-    ensures { IfOk result (λ text. RunsShape source.now.file (thin_of source.now.shape) text.items) }
+    ensures { IfOk result (λ text. (t : Thin) → IsRunnable file.now t → RunsShape file.now t text.items) }
 {
-    let file = &source.file;
     let mut network = Network::new(alloc, endpoints)?;
     match network.run_picked(0, STEPS) {
         Picked::Ended => {}

@@ -1,85 +1,64 @@
 //! Reading a source.
 
-ghost use Rattle.std.specs.Prelude.{◌≤◌, ◌<◌, ◌^◌, ◌↔◌, All, IfOk, IfSome, IfNone, IsTrue, length};
-ghost use Rattle.chor_cmd.specs.Shapes.{thin_of};
-ghost use Rattle.chor_cmd.specs.ThinFile.{AreNoSource, AreSourceOf, IsRunnable};
-ghost use Rattle.chor_cmd.specs.Source.{ReadsAs};
+ghost use Rattle.std.specs.Prelude.{◌≡◌, ◌≤◌, ◌<◌, ◌^◌, IfOk, IfErr, OnOk, length};
+ghost use Rattle.chor_host.specs.Functions.{names_of};
+ghost use Rattle.chor_host.specs.Tables.{functions_of};
+ghost use Rattle.chor_tree.specs.declared.protocol.Protocol.{Protocol};
+ghost use Rattle.global_types.specs.Moves.{IsIn};
+ghost use Rattle.local_types.specs.Reading.{IsProper};
+ghost use Rattle.chor_cmd.specs.Source.{IsFileOf, IsAccepted, IsFaultless, IsBroken, IsDenialOf, IsDenialOfTokens};
 
-use crate::reader::shape_of;
-use crate::shape::Shape;
-use crate::thin_file::file;
-use chor_base::{Denied, Memory, Names, Refusal, Texts};
-use chor_lexer::{Tokens, tokens};
+use chor_base::{Denied, Names, Texts};
+use chor_host::HostTable;
+use chor_lexer::tokens;
+use chor_parser::parse;
 use chor_tree::File;
+use global_types::check_protocols;
+use local_types::check_views;
+use name_resolution::resolve;
 use std::alloc::Global;
 
-/// A thin source: what it says, and its file.
-#[derive(Drop)]
-pub struct ThinSource {
-    pub shape: Shape,
-    pub file: File,
-}
-
-/// What the bytes of a source are.
-#[derive(Drop)]
-pub enum Source {
-    Thin(ThinSource),
-    /// They are made of tokens, but aren't thin.
-    Other,
-    /// They aren't made of tokens.
-    Refused(Refusal),
-}
-
-/// What these bytes are.
-#[tactic(auto, using(crate::proofs::Sources::no_ascii, crate::proofs::Sources::are_tokens))]
-pub fn read(alloc: Global, bytes: &[u8]) -> Result<Source, Memory>
+/// The file that these bytes are, which violates no rule, where it may call these host functions.
+/// The bytes are refused where they aren't made of tokens, where the tokens are no source within the
+/// limits, and where a name, a protocol or a role's view has a fault, in this order.
+#[tactic(auto, using(crate::proofs::Checked::accepted, crate::proofs::Checked::unread_so, crate::proofs::Checked::broken_so))]
+pub fn read(alloc: Global, bytes: &[u8], hosts: &HostTable) -> Result<File, Denied>
     requires { length bytes.now ≤ 2 ^ 20 }
-    ensures { IfOk result (ReadsAs bytes.now) }
+    ensures file { IfOk result (IsAccepted (names_of (functions_of hosts.now)) bytes.now) }
+    ensures denied { IfErr result (IsDenialOf (names_of (functions_of hosts.now)) bytes.now) }
+    ensures body { IfOk result (λ file. file.body.0 < length file.tree.nodes) }
+    ensures proper { IfOk result (λ file. (p : Protocol) → IsIn p file.protocols → IsProper p) }
+{
+    let file = parsed(alloc, bytes)?;
+    check(alloc, &file, hosts)?;
+    Ok(file)
+}
+
+// The file that these bytes are.
+#[tactic(auto, using(crate::proofs::Files::denied_so, crate::proofs::Proper::are_proper))]
+fn parsed(alloc: Global, bytes: &[u8]) -> Result<File, Denied>
+    requires { length bytes.now ≤ 2 ^ 20 }
+    ensures file { IfOk result (IsFileOf bytes.now) }
+    ensures denied { IfErr result (IsDenialOfTokens bytes.now) }
+    ensures body { IfOk result (λ file. file.body.0 < length file.tree.nodes) }
+    ensures proper { IfOk result (λ file. (p : Protocol) → IsIn p file.protocols → IsProper p) }
 {
     let mut names = Names::new(alloc);
     let mut texts = Texts::new(alloc);
-    match tokens(alloc, bytes, &mut names, &mut texts) {
-        Err(Denied::Memory) => Err(Memory),
-        Err(Denied::Refused(refusal)) => Ok(Source::Refused(refusal)),
-        Ok(list) => {
-            if !is_ascii(bytes) {
-                return Ok(Source::Other);
-            }
-            match thin_source(alloc, &list, names, texts)? {
-                None => Ok(Source::Other),
-                Some(source) => Ok(Source::Thin(source)),
-            }
-        }
-    }
+    let list = tokens(alloc, bytes, &mut names, &mut texts)?;
+    let file = parse(alloc, &list, names, texts)?;
+    Ok(file)
 }
 
-// Whether all bytes are ASCII.
-fn is_ascii(bytes: &[u8]) -> bool
-    ensures { IsTrue result ↔ All (λ b. b < 128) bytes.now }
+// The rules of names, protocols and views.
+#[tactic(auto, using(crate::proofs::Checked::names_broken, crate::proofs::Checked::protocols_broken, crate::proofs::Checked::views_broken))]
+fn check(alloc: Global, file: &File, hosts: &HostTable) -> Result<(), Denied>
+    requires { (p : Protocol) → IsIn p file.now.protocols → IsProper p }
+    ensures faultless { OnOk result (IsFaultless (names_of (functions_of hosts.now)) file.now) }
+    ensures broken { IfErr result (IsBroken (names_of (functions_of hosts.now)) file.now) }
 {
-    bytes.iter().all(|byte| *byte < 128)
-}
-
-// The thin source with these tokens, if they are those of one.
-#[tactic(auto, using(crate::proofs::Sources::unread, crate::proofs::Sources::read_so, crate::proofs::Sources::runnable))]
-fn thin_source(
-    alloc: Global,
-    list: &Tokens,
-    names: Names,
-    texts: Texts,
-) -> Result<Option<ThinSource>, Memory>
-    ensures none { IfOk result (λ source. IfNone source (AreNoSource names texts list.now.items)) }
-    ensures source { IfOk result (λ source. IfSome source (λ s. AreSourceOf names texts list.now.items s.file (thin_of s.shape))) }
-    ensures runnable { IfOk result (λ source. IfSome source (λ s. IsRunnable s.file (thin_of s.shape))) }
-{
-    // No name stands twice in the table.
-    let _known = names.len();
-    let tokens = list.items.as_slice();
-    match shape_of(alloc, tokens, &names)? {
-        None => Ok(None),
-        Some(shape) => {
-            let file = file(alloc, &shape, tokens, names, texts)?;
-            Ok(Some(ThinSource { shape, file }))
-        }
-    }
+    resolve(alloc, file, hosts)?;
+    check_protocols(file)?;
+    check_views(alloc, file)?;
+    Ok(())
 }

@@ -3,6 +3,7 @@
 
 use crate::{Status, Words, chor};
 use chor_base::{List, Word};
+use chor_host::HostTable;
 use chor_io::{MemoryShelf, MemorySink, OpenGate};
 use std::alloc::Global;
 use std::test::Fail;
@@ -31,7 +32,8 @@ fn answers(
     let files = vec![in alloc; (word(alloc, b"a")?, word(alloc, file)?)]?;
     let mut shelf = MemoryShelf::new(alloc, List::from_vec(files), List::new(alloc));
     let mut out = MemorySink::new(alloc, room, List::new(alloc))?;
-    let ended = chor(alloc, words, &mut shelf, &mut out, &OpenGate);
+    let hosts = HostTable::new(alloc);
+    let ended = chor(alloc, words, &mut shelf, &mut out, &OpenGate, &hosts);
     Ok(ended == status && out.bytes() == text)
 }
 
@@ -47,7 +49,13 @@ fn projects(alloc: Global, file: &[u8], text: &[u8]) -> Result<bool, Fail> {
     answers(alloc, &words, file, 20_000, Status::Done, text)
 }
 
-// Whether both commands write this line for a file and end with this status.
+// Whether the local types of a file are this text.
+fn has_types(alloc: Global, file: &[u8], text: &[u8]) -> Result<bool, Fail> {
+    let words = words(alloc, b"types", b"a")?;
+    answers(alloc, &words, file, 20_000, Status::Done, text)
+}
+
+// Whether `run` and `project` write this line for a file and end with this status.
 fn end(alloc: Global, file: &[u8], status: Status, line: &[u8]) -> Result<bool, Fail> {
     let run = words(alloc, b"run", b"a")?;
     let project = words(alloc, b"project", b"a")?;
@@ -55,9 +63,11 @@ fn end(alloc: Global, file: &[u8], status: Status, line: &[u8]) -> Result<bool, 
     Ok(runs && answers(alloc, &project, file, 100, status, line)?)
 }
 
-// Whether both commands refuse a file with this line.
+// Whether each command refuses a file with this line.
 fn refuse(alloc: Global, file: &[u8], line: &[u8]) -> Result<bool, Fail> {
-    end(alloc, file, Status::Refused, line)
+    let types = words(alloc, b"types", b"a")?;
+    let both = end(alloc, file, Status::Refused, line)?;
+    Ok(both && answers(alloc, &types, file, 100, Status::Refused, line)?)
 }
 
 fn hello(alloc: Global) -> Result<Vec<u8>, Fail> {
@@ -176,15 +186,17 @@ fn at_most_255_messages(rt: HostRuntime) -> Result<(), Fail> {
     let files = vec![in alloc; (word(alloc, b"a")?, Word::from_vec(source))]?;
     let mut shelf = MemoryShelf::new(alloc, List::from_vec(files), List::new(alloc));
     let mut out = MemorySink::new(alloc, 20_000, List::new(alloc))?;
-    let ended = chor(alloc, &words, &mut shelf, &mut out, &OpenGate);
+    let hosts = HostTable::new(alloc);
+    let ended = chor(alloc, &words, &mut shelf, &mut out, &OpenGate, &hosts);
     assert!(rt; ended == Status::Done);
     assert!(rt;
         out.bytes()
             .starts_with(b"1 start a #0 A=p B=q\n2 send p #0 A>B 1\n")
     );
     assert!(rt; out.bytes().ends_with(b"511 recv q #0 A>B 255\nend 511\n"));
+    // The 257th state stands after 256 states of 25 bytes and the digits of two numbers each.
     let more = many(alloc, 256)?;
-    assert!(rt; end(alloc, more.as_slice(), Status::Unbuilt, b"not built\n")?);
+    assert!(rt; refuse(alloc, more.as_slice(), b"refused P3 1:7739\n")?);
     Ok(())
 }
 
@@ -256,15 +268,136 @@ fn what_is_no_token_is_refused(rt: HostRuntime) -> Result<(), Fail> {
 }
 
 #[test]
-fn what_is_tokens_is_not_refused(rt: HostRuntime) -> Result<(), Fail> {
+fn what_is_no_source_is_refused(rt: HostRuntime) -> Result<(), Fail> {
     let alloc = rt.alloc();
-    let mut noted = b"// \xc3\xa9\n".to_vec(alloc)?;
-    noted.extend_from_slice(hello(alloc)?.as_slice())?;
+    assert!(rt; refuse(alloc, b"", b"refused P1 1:1\n")?);
+    assert!(rt; refuse(alloc, b"main () { }", b"refused P1 1:11\n")?);
+    assert!(rt; refuse(alloc, b"main () {\n  end }\n  x", b"refused P1 3:3\n")?);
+    assert!(rt; refuse(alloc, b"} then 3 \"a\"", b"refused P1 1:1\n")?);
+    assert!(rt; refuse(alloc, b"} $", b"refused L1 1:3\n")?);
+    Ok(())
+}
+
+#[test]
+fn layout_and_order_do_not_matter(rt: HostRuntime) -> Result<(), Fail> {
+    let alloc = rt.alloc();
+    let source =
+        b"// \xc3\xa9\nservice a : P (A, B); // its protocol comes later\nprotocol P (A, B) {\n\ts = A -> B : int then t;\n\tt = end;\n}\nmain (p, q) {\n\tstart a(k): p[A], q[B];\n\tp[A].((3)) -> q[B].x : k;\n\tend\n}\n";
+    let text = b"1 start a #0 A=p B=q\n2 send p #0 A>B 3\n3 recv q #0 A>B 3\nend 3\n";
+    assert!(rt; runs(alloc, source, text)?);
+    Ok(())
+}
+
+// A file with these protocols, these lines before the end of main, and the rest as in hello.
+fn with(alloc: Global, protocols: &[u8], lines: &[u8]) -> Result<Vec<u8>, Fail> {
+    let mut source = protocols.to_vec(alloc)?;
+    source.extend_from_slice(b" service a : P (A, B); main (p, q) { start a(k): p[A], q[B]; ")?;
+    source.extend_from_slice(lines)?;
+    source.extend_from_slice(b" end }")?;
+    Ok(source)
+}
+
+#[test]
+fn what_is_not_thin_is_not_built(rt: HostRuntime) -> Result<(), Fail> {
+    let alloc = rt.alloc();
     let line = b"not built\n";
-    assert!(rt; end(alloc, b"", Status::Unbuilt, line)?);
+    let one = b"protocol P (A, B) { s = A -> B : int then t; t = end; }";
+    let sends = b"p[A].3 -> q[B].x : k;";
+    let thin = with(alloc, one, sends)?;
+    let reversed = with(alloc, one, b"q[B].3 -> p[A].x : k;")?;
+    let computed = with(alloc, one, b"p[A].1 + 2 -> q[B].x : k;")?;
+    let silent = with(alloc, one, b"")?;
+    let mut both = one.to_vec(alloc)?;
+    both.extend_from_slice(b" protocol Q (A, B) { s = A -> B : int then t; t = end; }")?;
+    let second = with(alloc, both.as_slice(), sends)?;
+    let text = with(
+        alloc,
+        b"protocol P (A, B) { s = A -> B : text then t; t = end; }",
+        sends,
+    )?;
+    let run = words(alloc, b"run", b"a")?;
+    let ran = b"1 start a #0 A=p B=q\n2 send p #0 A>B 3\n3 recv q #0 A>B 3\nend 3\n";
+    assert!(rt; answers(alloc, &run, thin.as_slice(), 100, Status::Done, ran)?);
     assert!(rt; end(alloc, b"main () { end }", Status::Unbuilt, line)?);
-    assert!(rt; end(alloc, b"} then 3 \"a\"", Status::Unbuilt, line)?);
-    assert!(rt; end(alloc, noted.as_slice(), Status::Unbuilt, line)?);
+    assert!(rt; end(alloc, reversed.as_slice(), Status::Unbuilt, line)?);
+    assert!(rt; end(alloc, computed.as_slice(), Status::Unbuilt, line)?);
+    assert!(rt; end(alloc, silent.as_slice(), Status::Unbuilt, line)?);
+    assert!(rt; end(alloc, second.as_slice(), Status::Unbuilt, line)?);
+    assert!(rt; end(alloc, text.as_slice(), Status::Unbuilt, line)?);
+    Ok(())
+}
+
+#[test]
+fn faults_of_names_protocols_and_views_are_refused(rt: HostRuntime) -> Result<(), Fail> {
+    let alloc = rt.alloc();
+    let one = b"protocol P (A, B) { s = A -> B : int then t; t = end; }";
+    let elsewhere = with(alloc, one, b"p[A].3 -> q[B].x : h;")?;
+    let silent = with(alloc, b"protocol P (A, B) { t = end; }", b"")?;
+    let unknown = b"protocol V (A, B) { s = A -> B : int then w; } main () { end }";
+    let clash =
+        b"protocol V (A, B, C) { s = A -> B { l then t, r then u }; t = B -> C : int then e; u = B -> A : int then e; e = end; } main () { end }";
+    let left =
+        b"protocol V (A, B, C) { s = A -> B { more then s, done then t }; t = A -> C : int then e; e = end; } main () { end }";
+    assert!(rt; refuse(alloc, b"main (p) { q show 1; end }", b"refused N1 1:12\n")?);
+    assert!(rt; refuse(alloc, elsewhere.as_slice(), b"refused N1 1:136\n")?);
+    assert!(rt; refuse(alloc, b"main (p, p) { end }", b"refused N2 1:10\n")?);
+    assert!(rt;
+        refuse(
+            alloc,
+            b"main (p) { p.x := host gap(3, 10); end }",
+            b"refused N1 1:24\n"
+        )?
+    );
+    assert!(rt; refuse(alloc, unknown, b"refused G1 1:43\n")?);
+    assert!(rt; refuse(alloc, silent.as_slice(), b"refused G3 1:13\n")?);
+    assert!(rt; refuse(alloc, clash, b"refused V1 1:19\n")?);
+    assert!(rt; refuse(alloc, left, b"refused V2 1:19\n")?);
+    Ok(())
+}
+
+#[test]
+fn classes_come_one_after_another(rt: HostRuntime) -> Result<(), Fail> {
+    let alloc = rt.alloc();
+    // The view of C has a fault, then a state isn't there, then a process isn't declared.
+    let left =
+        b"protocol V (A, B, C) { s = A -> B { more then s, done then t }; t = A -> C : int then e; e = end; } main () { end }";
+    let unknown =
+        b"protocol V (A, B, C) { s = A -> B { more then s, done then t }; t = A -> C : int then f; e = end; } main () { end }";
+    let undeclared =
+        b"protocol V (A, B, C) { s = A -> B { more then s, done then t }; t = A -> C : int then f; e = end; } main () { q show 1; end }";
+    assert!(rt; refuse(alloc, left, b"refused V2 1:19\n")?);
+    assert!(rt; refuse(alloc, unknown, b"refused G1 1:87\n")?);
+    assert!(rt; refuse(alloc, undeclared, b"refused N1 1:111\n")?);
+    Ok(())
+}
+
+#[test]
+fn local_types_are_written(rt: HostRuntime) -> Result<(), Fail> {
+    let alloc = rt.alloc();
+    let branches =
+        b"protocol C (R, P) { s = R -> P { ok then t, ko then t }; t = end; } service c : C (R, P); main (r, p) { start c(h): r[R], p[P]; if r.true { r[R] -> p[P] : h.ok; end } else { r[R] -> p[P] : h.ko; end } }";
+    let told =
+        b"local C@R\n0: pick P ko 1 ok 1\n1: end\nlocal C@P\n0: branch R ko 1 ok 1\n1: end\n";
+    let two =
+        b"protocol P (A, B) { s = A -> B : int then t; t = end; } protocol Q (B) { s = B -> C : text then t; t = end; } main () { end }";
+    let source = hello(alloc)?;
+    let sent = b"local P@A\n0: send B int 1\n1: end\nlocal P@B\n0: recv A int 1\n1: end\n";
+    assert!(rt; has_types(alloc, branches, told)?);
+    assert!(rt; has_types(alloc, source.as_slice(), sent)?);
+    assert!(rt; has_types(alloc, b"main () { end }", b"")?);
+    assert!(rt; refuse(alloc, two, b"refused N1 1:83\n")?);
+    Ok(())
+}
+
+// A purchase as users write it: a conditional, delegation, and services.
+fn purchase() -> &'static [u8] {
+    b"protocol Buy (Buyer, Seller) { ask = Buyer -> Seller : text then quote; quote = Seller -> Buyer : int then answer; answer = Buyer -> Seller { accept then pay, reject then done }; pay = Buyer -> Seller : int then receipt; receipt = Seller -> Buyer : text then done; done = end; } protocol Settle (Shop, Bank) { hand = Shop -> Bank : Buy.pay@Seller then paid; paid = Bank -> Shop : int then done; done = end; } protocol Ship (Shop, Depot) { order = Shop -> Depot : text then done; done = end; } service buy : Buy (Buyer, Seller); service settle : Settle (Shop | Bank); service ship : Ship (Shop | Depot); main (b, s) { start buy(k): b[Buyer], s[Seller]; b[Buyer].\"book\" -> s[Seller].item : k; s[Seller].20 -> b[Buyer].price : k; if b.price <= 25 { b[Buyer] -> s[Seller] : k.accept; start settle(m): s[Shop] new n[Bank]; s[Shop] -> n[Bank] : m(k[Seller]); b[Buyer].price -> n[Seller].sum : k; n[Seller].\"paid\" -> b[Buyer].note : k; n[Bank].sum -> s[Shop].got : m; start ship(h): s[Shop] new d[Depot]; s[Shop].item -> d[Depot].parcel : h; end } else { b[Buyer] -> s[Seller] : k.reject; end } }"
+}
+
+#[test]
+fn a_purchase_is_not_built(rt: HostRuntime) -> Result<(), Fail> {
+    let alloc = rt.alloc();
+    assert!(rt; end(alloc, purchase(), Status::Unbuilt, b"not built\n")?);
     Ok(())
 }
 

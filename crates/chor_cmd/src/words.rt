@@ -18,6 +18,8 @@ pub enum Command {
     Run(u32),
     /// `project FILE`: writes the endpoint programs.
     Project(u32),
+    /// `types FILE`: writes the local types of all roles.
+    Types(u32),
 }
 
 // Whether a word names a file: it isn't empty, is UTF-8, and doesn't begin with `-`.
@@ -39,6 +41,8 @@ fn command_of(word: &[u8]) -> Option<Command>
         Some(Command::Run(1))
     } else if word == b"project".as_slice() {
         Some(Command::Project(1))
+    } else if word == b"types".as_slice() {
+        Some(Command::Types(1))
     } else {
         None
     }

@@ -1,17 +1,24 @@
 use Rattle.std.proofs.Common.{sym, subst}
 use Rattle.chor_cmd.specs.declared.words.Command.{Command}
-use Rattle.chor_cmd.specs.Shapes.{thin_of}
+use Rattle.chor_cmd.specs.ThinFile.{IsThin}
 use Rattle.chor_cmd.specs.Endings.{IsProjectionText, IsOutput}
 use Rattle.chor_cmd.proofs.command.text_of.Goals as goal
 
-pub returns : goal.returns
-returns c =
-    let file = c.args.source.now.file in
-    let thin = thin_of c.args.source.now.shape in
+pub returns-in_ok-text-in-Run-clause-some : goal.returns-in_ok-text-in-Run-clause-some
+returns-in_ok-text-in-Run-clause-some c =
+    let file = c.args.file.now in
+    let text = c.in_ok-text-in-Run.text.items in
+    let thin : IsThin file = c.is_thin.ensures.0 (search) in
+    subst (λ (command : Command). IsOutput command file text) (sym c.in-Run.is) (thin.0, thin.1, c.in_ok-text-in-Run.ensures thin.0 thin.1)
+
+pub returns-in_ok-text-in-Project-clause-some : goal.returns-in_ok-text-in-Project-clause-some
+returns-in_ok-text-in-Project-clause-some c =
+    let file = c.args.file.now in
     let text = c.in_ok-text-in-Project.text.items in
+    let thin : IsThin file = c.is_thin-in-Project.ensures.0 (search) in
     let projected : IsProjectionText file text = record {
-      endpoints = c.in_ok-endpoints.endpoints;
-      projects = c.in_ok-endpoints.ensures.projects;
+      endpoints = c.in_ok-endpoints-in-Project.endpoints;
+      projects = c.in_ok-endpoints-in-Project.ensures.projects;
       text_is = c.in_ok-text-in-Project.ensures;
     } in
-    subst (λ (command : Command). IsOutput command file thin text) (sym c.in-Project.is) projected
+    subst (λ (command : Command). IsOutput command file text) (sym c.in-Project.is) (thin, projected)
