@@ -4,7 +4,7 @@ use Rattle.chor_tree.specs.declared.file.File.{File}
 use Rattle.chor_tree.specs.declared.file.Named.{Named}
 use Rattle.chor_tree.specs.declared.protocol.Protocol.{Protocol}
 use Rattle.local_types.specs.declared.local_type.LocalState.{LocalState}
-use Rattle.local_types.specs.Reading.{IsTypeOf}
+use Rattle.local_types.specs.Reading.{IsTypeOf, IsBreadthFirst, HasAscendingLabels}
 use Rattle.local_types.specs.Text.{local_text}
 
 -- the text is made of one text for each of these, in their order
@@ -12,10 +12,12 @@ abbrev pub AreTexts : {A : Type 0} → (A → List ℕ → Type 0) → List A �
 AreTexts Each [] text = text ≡ []
 AreTexts Each (x ∷ xs) text = (one : List ℕ) × (rest : List ℕ) × Each x one × AreTexts Each xs rest × (text ≡ one ++ rest)
 
--- the text of a type that stands for the role's view
+-- the text of a type that stands for the role's view, its states numbered breadth first, their labels in ascending order
 pub record IsTypeText (names : List (List ℕ)) (p : Protocol) (role : Named) (text : List ℕ) : Type 0 where
   pub states : List LocalState
   pub stands : IsTypeOf p.states role.name states
+  pub numbered : IsBreadthFirst states
+  pub ascend : HasAscendingLabels names states
   pub text_is : text ≡ local_text names p.name.name role.name states
 
 -- the texts of a protocol's roles, one after another

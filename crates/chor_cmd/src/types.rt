@@ -4,7 +4,7 @@ ghost use Rattle.std.specs.Prelude.{IfOk, IsSome};
 ghost use Rattle.chor_tree.specs.declared.protocol.Protocol.{Protocol as ProtocolIs};
 ghost use Rattle.global_types.specs.Moves.{IsIn};
 ghost use Rattle.global_types.specs.Views.{HasNoViewFault};
-ghost use Rattle.local_types.specs.Reading.{IsProper, IsTypeOf, HasFineRoles, role_place};
+ghost use Rattle.local_types.specs.Reading.{IsProper, IsTypeOf, IsBreadthFirst, HasAscendingLabels, HasFineRoles, role_place};
 ghost use Rattle.chor_cmd.specs.Source.{HasFineViews};
 ghost use Rattle.chor_cmd.specs.Types.{AreRoleTexts, IsTypesText};
 
@@ -52,7 +52,9 @@ fn type_of(
     requires proper { IsProper protocol.now }
     requires role { IsSome (role_place protocol.now.roles role) }
     requires fine { HasNoViewFault protocol.now.states role }
-    ensures { IfOk result (λ t. IsTypeOf protocol.now.states role t.states) }
+    ensures stands { IfOk result (λ t. IsTypeOf protocol.now.states role t.states) }
+    ensures numbered { IfOk result (λ t. IsBreadthFirst t.states) }
+    ensures ascend { IfOk result (λ t. HasAscendingLabels names.now t.states) }
 {
     match local(alloc, protocol, role, names) {
         Ok(found) => Ok(found),

@@ -18,5 +18,5 @@ type_of-requires-clause-fine c =
 pub loop-role-preserved : goal.loop-role-preserved
 loop-role-preserved c =
     texts_more (IsTypeText c.args.names.now c.args.protocol.now) c.args.protocol.now.roles c.as_slice-role-items.result.now c.loop-role.role-index _ c.loop-role.text.items c.print_local.new.out.items _ c.as_slice-role-items.ensures c.loop-role-test.true c.loop-role.invariant
-    (record { states = c.in_ok-local.local.states; stands = c.in_ok-local.ensures; text_is = refl })
+    (record { states = c.in_ok-local.local.states; stands = c.in_ok-local.ensures.stands; numbered = c.in_ok-local.ensures.numbered; ascend = c.in_ok-local.ensures.ascend; text_is = refl })
     c.in_ok-print_local.ensures.ok
