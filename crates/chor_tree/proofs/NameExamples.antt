@@ -7,14 +7,12 @@ use Rattle.chor_base.specs.declared.rule.Place.{Place}
 use Rattle.chor_tree.specs.declared.file.Named.{Named}
 use Rattle.chor_tree.specs.declared.file.Service.{Service}
 use Rattle.chor_tree.specs.declared.file.File.{File}
-use Rattle.chor_tree.specs.declared.protocol.State.{State}
 use Rattle.chor_tree.specs.declared.protocol.ProtoStep.TheVariants.{End as Last}
 use Rattle.chor_tree.specs.declared.protocol.Protocol.{Protocol}
 use Rattle.chor_tree.specs.declared.tree.NodeId.{NodeId}
 use Rattle.chor_tree.specs.declared.tree.Part.{Part}
-use Rattle.chor_tree.specs.declared.tree.Form.{Form}
-use Rattle.chor_tree.specs.declared.tree.Form.TheVariants.{Start, Host, Show, Call}
-use Rattle.chor_tree.specs.Names.{NameFault, Scope, scope_of_main, declaration_faults, node_faults}
+use Rattle.chor_tree.specs.declared.tree.Form.TheVariants.{Start, Host, Show}
+use Rattle.chor_tree.specs.Names.{declaration_faults, node_faults}
 
 name : ℕ → NameId
 name n = record { 0 = n }

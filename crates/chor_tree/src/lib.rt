@@ -1,12 +1,16 @@
 //! Source files as they are read: protocols, services, procedures and the nodes of choreographies.
 #![tactic(auto)]
 
+mod comparison;
 mod file;
+mod laws;
 mod protocol;
 #[cfg(test)]
 mod tests;
 mod tree;
 
+pub use comparison::same;
 pub use file::{File, Named, Proc, ProcParam, Service, SessionParam};
+pub use laws::same_is_an_equivalence;
 pub use protocol::{Payload, ProtoArm, ProtoStep, Protocol, State};
 pub use tree::{Form, Node, NodeId, Part, Tree};

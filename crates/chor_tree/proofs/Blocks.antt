@@ -1,0 +1,186 @@
+-- The block at a node is made of the blocks at those that follow it.
+use Rattle.std.proofs.Common.{◌≡◌, ℕ, zero, suc, ◌+◌, ◌<◌, ◌≤◌, Bool, true, false, List, [], ◌∷◌, ◌++◌, length, map, refl, sym, ap, ◌∙◌, subst, Some, arith}
+use Rattle.std.specs.Prelude.{slice_get, slice_index_or, All, ◌&&◌}
+use Rattle.std.proofs.lemmas.List.{length-append, get_or_past}
+use Rattle.std.proofs.lemmas.List.Elements.{All-head, All-tail}
+use Rattle.std.proofs.Math.ListN.{get_or-append}
+use Rattle.std.proofs.Math.Seq.{get_or-append_seam}
+use Rattle.chor_base.specs.declared.names.NameId.{NameId}
+use Rattle.chor_base.specs.declared.rule.Place.{Place}
+use Rattle.chor_tree.specs.declared.tree.Form.{Form}
+use Rattle.chor_tree.specs.declared.tree.Form.TheVariants.{Start, Value, Label, Give, Set, Host, Show, If, Call, End}
+use Rattle.chor_tree.specs.declared.tree.Node.{Node}
+use Rattle.chor_tree.specs.declared.tree.NodeId.{NodeId}
+use Rattle.chor_tree.specs.Children.{children_of, IsClosed}
+use Rattle.chor_tree.specs.Source.{Block, Then, Either, Calls, Ends, nowhere, block_in, block_of, grown, blocks_of}
+use Rattle.chor_tree.specs.Same.{Same, all_same, same_named, same_term, same_statement, same_block}
+use Rattle.chor_tree.specs.Forms.{head_of}
+
+-- what is known stays
+grown_old : (ns : List Node) (bs : List Block) (j : ℕ) → j < length bs → slice_index_or (grown bs ns) j (Ends nowhere) ≡ slice_index_or bs j (Ends nowhere)
+grown_old [] bs j lt = refl
+grown_old (n ∷ ns) bs j lt =
+    let b = block_of bs n.place n.form in
+    grown_old ns (bs ++ b ∷ []) j (omega (arith, length-append bs (b ∷ []))) ∙ get_or-append bs (b ∷ []) (Ends nowhere) j lt
+
+pub grown_length : (ns : List Node) (bs : List Block) → length (grown bs ns) ≡ length bs + length ns
+grown_length [] bs = omega arith
+grown_length (n ∷ ns) bs = omega (arith, grown_length ns (bs ++ block_of bs n.place n.form ∷ []), length-append bs (block_of bs n.place n.form ∷ []))
+
+-- all of these children come before i
+abbrev Before : ℕ → List NodeId → Type 0
+Before i cs = All (λ c. c.0 < i) cs
+
+module _ (bs us : List Block) (i : ℕ) (h : (j : ℕ) → j < i → slice_index_or us j (Ends nowhere) ≡ slice_index_or bs j (Ends nowhere)) where
+  at_head : (c : NodeId) (cs : List NodeId) → Before i (c ∷ cs) → block_in us c ≡ block_in bs c
+  at_head c cs a = h c.0 (All-head (λ d. d.0 < i) c cs a)
+
+  -- a form's block depends on the blocks of those before it alone
+  form_same : (p : Place) (f : Form) → Before i (children_of f) → block_of us p f ≡ block_of bs p f
+  form_same p (Start c k active serve next) a = let e = at_head next [] a in cc
+  form_same p (Value from e to x k next) a = let g = at_head next [] a in cc
+  form_same p (Label from to k l next) a = let e = at_head next [] a in cc
+  form_same p (Give from to k given next) a = let e = at_head next [] a in cc
+  form_same p (Set q x e next) a = let g = at_head next [] a in cc
+  form_same p (Host q x f l r next) a = let e = at_head next [] a in cc
+  form_same p (Show q e next) a = let g = at_head next [] a in cc
+  form_same p (If q e first second) a = let f = at_head first (second ∷ []) a in let g = at_head second [] (All-tail (λ d. d.0 < i) first (second ∷ []) a) in cc
+  form_same p (Call f ps ss) a = refl
+  form_same p End a = refl
+
+grown_at : (ns : List Node) (bs : List Block) (i : ℕ) (n : Node) → slice_get ns i ≡ Some n → Before (length bs + i) (children_of n.form)
+    → slice_index_or (grown bs ns) (length bs + i) (Ends nowhere) ≡ block_of (grown bs ns) n.place n.form
+grown_at [] bs i n h a = absurd cc
+grown_at (m ∷ ns) bs zero n h a =
+    let e : m ≡ n = cc in
+    let z : length bs + 0 ≡ length bs = omega arith in
+    let b = block_of bs m.place m.form in
+    let bs' = bs ++ b ∷ [] in
+    let lt : length bs < length bs' = omega (arith, length-append bs (b ∷ [])) in
+    let here = ap (λ j. slice_index_or (grown bs' ns) j (Ends nowhere)) z ∙ grown_old ns bs' (length bs) lt ∙ get_or-append_seam bs b [] (Ends nowhere) in
+    let below = form_same bs (grown bs' ns) (length bs) (λ j l. grown_old ns bs' j (omega arith) ∙ get_or-append bs (b ∷ []) (Ends nowhere) j l) n.place n.form (subst (λ (j : ℕ). Before j (children_of n.form)) z a) in
+    here ∙ ap (λ (o : Node). block_of bs o.place o.form) e ∙ sym below
+grown_at (m ∷ ns) bs (suc i) n h a =
+    let b = block_of bs m.place m.form in
+    let bs' = bs ++ b ∷ [] in
+    let z : length bs + suc i ≡ length bs' + i = omega (arith, length-append bs (b ∷ [])) in
+    ap (λ j. slice_index_or (grown bs' ns) j (Ends nowhere)) z ∙ grown_at ns bs' i n h (subst (λ (j : ℕ). Before j (children_of n.form)) z a)
+
+pub block_at : (nodes : List Node) (id : NodeId) (n : Node) → IsClosed nodes → slice_get nodes id.0 ≡ Some n → block_in (blocks_of nodes) id ≡ block_of (blocks_of nodes) n.place n.form
+block_at nodes id n closed h =
+    let z : length {A = Block} [] + id.0 ≡ id.0 = omega arith in
+    ap (λ j. slice_index_or (blocks_of nodes) j (Ends nowhere)) (sym z) ∙ grown_at nodes [] id.0 n h (subst (λ (j : ℕ). Before j (children_of n.form)) (sym z) (closed id.0 n h))
+
+-- no block where no node is
+pub block_past : (nodes : List Node) (id : NodeId) → length nodes ≤ id.0 → block_in (blocks_of nodes) id ≡ Ends nowhere
+block_past nodes id h = get_or_past (blocks_of nodes) id.0 (Ends nowhere) (omega (arith, grown_length nodes [], h))
+
+-- ---- a block, and what follows its first statement
+
+abbrev pub tails_of : Block → List Block
+tails_of (Then p s next) = next ∷ []
+tails_of (Either p q e first second) = first ∷ second ∷ []
+tails_of (Calls p g ps ks) = []
+tails_of (Ends p) = []
+
+-- the block in which nothing follows it
+abbrev alone : Block → Block
+alone (Then p s next) = Then nowhere s (Ends nowhere)
+alone (Either p q e first second) = Either nowhere q e (Ends nowhere) (Ends nowhere)
+alone (Calls p g ps ks) = Calls nowhere g ps ks
+alone (Ends p) = Ends nowhere
+
+pub tails_same : (bs : List Block) (p : Place) (f : Form) → tails_of (block_of bs p f) ≡ map (block_in bs) (children_of f)
+tails_same bs p (Start c k active serve next) = refl
+tails_same bs p (Value from e to x k next) = refl
+tails_same bs p (Label from to k l next) = refl
+tails_same bs p (Give from to k given next) = refl
+tails_same bs p (Set q x e next) = refl
+tails_same bs p (Host q x f l r next) = refl
+tails_same bs p (Show q e next) = refl
+tails_same bs p (If q e first second) = refl
+tails_same bs p (Call f ps ss) = refl
+tails_same bs p End = refl
+
+alone_same : (bs : List Block) (p : Place) (f : Form) → alone (block_of bs p f) ≡ head_of f
+alone_same bs p (Start c k active serve next) = refl
+alone_same bs p (Value from e to x k next) = refl
+alone_same bs p (Label from to k l next) = refl
+alone_same bs p (Give from to k given next) = refl
+alone_same bs p (Set q x e next) = refl
+alone_same bs p (Host q x f l r next) = refl
+alone_same bs p (Show q e next) = refl
+alone_same bs p (If q e first second) = refl
+alone_same bs p (Call f ps ss) = refl
+alone_same bs p End = refl
+
+-- ---- two blocks are the same where their first statements are, and what follows these
+
+with_one : (a b : Bool) → (a && b) ≡ ((a && true) && (b && true))
+with_one true true = refl
+with_one true false = refl
+with_one false b = refl
+
+with_two : (x e a b : Bool) → (((x && e) && a) && b) ≡ ((((x && e) && true) && true) && (a && (b && true)))
+with_two true true true true = refl
+with_two true true true false = refl
+with_two true true false b = refl
+with_two true false a b = refl
+with_two false e a b = refl
+
+with_none : (a : Bool) → a ≡ (a && true)
+with_none true = refl
+with_none false = refl
+
+module _ (n : Same NameId) (t : Same ℕ) where
+  blocks_same : (b c : Block) → same_block n t b c ≡ (same_block n t (alone b) (alone c) && all_same (same_block n t) (tails_of b) (tails_of c))
+  blocks_same (Then p s b) (Then q r c) = with_one (same_statement n t s r) (same_block n t b c)
+  blocks_same (Then p s b) (Either q y f c d) = refl
+  blocks_same (Then p s b) (Calls q h rs ls) = refl
+  blocks_same (Then p s b) (Ends q) = refl
+  blocks_same (Either p x e a b) (Then q r c) = refl
+  blocks_same (Either p x e a b) (Either q y f c d) = with_two (same_named n x y) (same_term n t e f) (same_block n t a c) (same_block n t b d)
+  blocks_same (Either p x e a b) (Calls q h rs ls) = refl
+  blocks_same (Either p x e a b) (Ends q) = refl
+  blocks_same (Calls p g ps ks) (Then q r c) = refl
+  blocks_same (Calls p g ps ks) (Either q y f c d) = refl
+  blocks_same (Calls p g ps ks) (Calls q h rs ls) = with_none (same_block n t (Calls p g ps ks) (Calls q h rs ls))
+  blocks_same (Calls p g ps ks) (Ends q) = refl
+  blocks_same (Ends p) (Then q r c) = refl
+  blocks_same (Ends p) (Either q y f c d) = refl
+  blocks_same (Ends p) (Calls q h rs ls) = refl
+  blocks_same (Ends p) (Ends q) = refl
+
+  -- the blocks of two nodes are the same where the nodes are, and the blocks of those that follow them
+  pub forms_same : (bs cs : List Block) (p q : Place) (f g : Form)
+      → same_block n t (block_of bs p f) (block_of cs q g)
+      ≡ (same_block n t (head_of f) (head_of g) && all_same (same_block n t) (map (block_in bs) (children_of f)) (map (block_in cs) (children_of g)))
+  forms_same bs cs p q f g =
+      blocks_same (block_of bs p f) (block_of cs q g)
+      ∙ (λ i. same_block n t (alone_same bs p f i) (alone_same cs q g i) && all_same (same_block n t) (tails_same bs p f i) (tails_same cs q g i))
+
+  -- where one node follows each of two that are the same
+  pub one_follows : (bs cs : List Block) (p q : Place) (f g : Form) (b c : Block) (next other : NodeId)
+      → b ≡ block_of bs p f → c ≡ block_of cs q g → same_block n t (head_of f) (head_of g) ≡ true → children_of f ≡ next ∷ [] → children_of g ≡ other ∷ []
+      → same_block n t (block_in bs next) (block_in cs other) ≡ same_block n t b c
+  one_follows bs cs p q f g b c next other e h same k l =
+      sym ((λ i. same_block n t (e i) (h i)) ∙ forms_same bs cs p q f g
+      ∙ (λ i. same i && all_same (same_block n t) (map (block_in bs) (k i)) (map (block_in cs) (l i))) ∙ only (same_block n t (block_in bs next) (block_in cs other)))
+    where
+      only : (a : Bool) → (true && (a && true)) ≡ a
+      only true = refl
+      only false = refl
+
+  -- where two follow each, and the blocks of the first ones are the same
+  pub two_follow : (bs cs : List Block) (p q : Place) (f g : Form) (b c : Block) (first second other more : NodeId)
+      → b ≡ block_of bs p f → c ≡ block_of cs q g → same_block n t (head_of f) (head_of g) ≡ true
+      → children_of f ≡ first ∷ second ∷ [] → children_of g ≡ other ∷ more ∷ [] → same_block n t (block_in bs first) (block_in cs other) ≡ true
+      → same_block n t (block_in bs second) (block_in cs more) ≡ same_block n t b c
+  two_follow bs cs p q f g b c first second other more e h same k l m =
+      sym ((λ i. same_block n t (e i) (h i)) ∙ forms_same bs cs p q f g
+      ∙ (λ i. same i && all_same (same_block n t) (map (block_in bs) (k i)) (map (block_in cs) (l i)))
+      ∙ (λ i. true && (m i && (same_block n t (block_in bs second) (block_in cs more) && true))) ∙ only (same_block n t (block_in bs second) (block_in cs more)))
+    where
+      only : (a : Bool) → (true && (true && (a && true))) ≡ a
+      only true = refl
+      only false = refl

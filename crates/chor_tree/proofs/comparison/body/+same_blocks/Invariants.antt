@@ -1,0 +1,17 @@
+use Rattle.std.proofs.Common.{◌≡◌, ◌<◌, ◌+◌, length}
+use Rattle.chor_tree.specs.Source.{block_in, blocks_of}
+use Rattle.chor_tree.specs.Same.{same_block}
+use Rattle.chor_tree.specs.Both.{words_of, texts_of}
+use Rattle.chor_tree.proofs.comparison.body.+same_blocks.Given as goal
+
+abbrev pub decreases-same_blocks : goal.decreases-same_blocks
+decreases-same_blocks l = l.id.0
+
+abbrev pub invariant-body : goal.invariant-body
+invariant-body l =
+    (l.left.0 < length l.both.left.now.tree.nodes) × (l.right.0 < length l.both.right.now.tree.nodes) × (l.left.0 < l.fn.id.0 + 1)
+    × (same_block (words_of l.both) (texts_of l.both) (block_in (blocks_of l.both.left.now.tree.nodes) l.left) (block_in (blocks_of l.both.right.now.tree.nodes) l.right)
+    ≡ same_block (words_of l.both) (texts_of l.both) (block_in (blocks_of l.both.left.now.tree.nodes) l.fn.id) (block_in (blocks_of l.both.right.now.tree.nodes) l.fn.other))
+
+abbrev pub decreases-body : goal.decreases-body
+decreases-body l = l.left.0
