@@ -5,7 +5,7 @@ use Rattle.std.proofs.Common.{Result, IfOk}
 use Rattle.chor_lexer.specs.declared.token.Token.{Token}
 use Rattle.chor_base.specs.declared.rule.Place.{Place}
 use Rattle.chor_parser.specs.declared.block.Line.{Line}
-use Rattle.chor_parser.specs.Source.{Block, Then}
+use Rattle.chor_tree.specs.Source.{Block, Then}
 use Rattle.chor_parser.specs.Grammar.{WordIs, StandsAt}
 use Rattle.chor_parser.specs.Reading.{statement_of, with_lines}
 

@@ -10,7 +10,7 @@ use Rattle.token_grammar.proofs.Sequels.{then_part, leads_on}
 use Rattle.token_grammar.proofs.Choices.{same_part, choice_part, choice_begins, first_leads, second_leads}
 use Rattle.token_grammar.proofs.Starts.{then_begins, same_begins, begins_apart}
 use Rattle.token_grammar.proofs.Repetitions.{times_part}
-use Rattle.chor_parser.specs.Source.{Block, Procedure, Items}
+use Rattle.chor_tree.specs.Source.{Block, Procedure, Items}
 use Rattle.chor_parser.specs.Grammar as g
 use Rattle.chor_parser.specs.Grammar.{WordIs, MarkIs, ProcedureIs, ItemsAre}
 use Rattle.chor_parser.specs.Limits.{KeepsProcedure, KeepsItems}

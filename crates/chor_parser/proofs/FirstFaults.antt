@@ -14,7 +14,7 @@ use Rattle.chor_lexer.specs.Tokens.{IsKnown, is_ended}
 use Rattle.token_grammar.specs.Symbols.{Allowed, anywhere, nowhere, only_at, but_at, Nothing, more_words, AreWhole, Completes, Only, Reads, Reason, wrong, excess, Stops, Halts, RefusesFirst}
 use Rattle.token_grammar.proofs.Wholes.{whole_first, whole_after}
 use Rattle.token_grammar.proofs.Sequels.{again}
-use Rattle.chor_parser.specs.Source.{Items, Source}
+use Rattle.chor_tree.specs.Source.{Items, Source}
 use Rattle.chor_parser.specs.Grammar.{FileIs, a_file, EndIs}
 use Rattle.chor_parser.specs.Limits.{Keeps}
 use Rattle.chor_parser.specs.Faults.{IsViable, IsFaultAt, unexpected, excess as exceeds, IsFirstFault, IsRefusal, IsWithin}

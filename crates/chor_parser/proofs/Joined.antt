@@ -15,7 +15,7 @@ use Rattle.token_grammar.proofs.Sequels.{past, reads_past, leads_on, leads_same}
 use Rattle.token_grammar.proofs.Choices.{same_leads}
 use Rattle.token_grammar.proofs.Repetitions.{times_done, times_step, times_now}
 use Rattle.chor_parser.specs.declared.source.Declared.{Declared}
-use Rattle.chor_parser.specs.Source.{Block, Procedure, Items, procedure_of}
+use Rattle.chor_tree.specs.Source.{Block, Procedure, Items, procedure_of}
 use Rattle.chor_parser.specs.Grammar.{WordIs}
 use Rattle.chor_parser.specs.Parts.{ProtocolPart, ServicePart}
 use Rattle.chor_parser.specs.Faults.{IsWithin}

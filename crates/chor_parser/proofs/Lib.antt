@@ -6,6 +6,9 @@ pub mod Readers
 pub mod Shorter
 pub mod Coming
 pub mod Tables
+pub mod Growth
+pub mod KnownTexts
+pub mod KeptHeads
 pub mod Ends
 pub mod Joined
 pub mod Statements
@@ -14,4 +17,7 @@ pub mod Nested
 pub mod Blocks
 pub mod Files
 pub mod Free
+pub mod KeptBlocks
+pub mod KeptFiles
 pub mod FirstFaults
+pub mod Ways

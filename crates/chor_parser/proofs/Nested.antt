@@ -20,7 +20,7 @@ use Rattle.chor_parser.proofs.Shorter.{mark_shorter, statement_shorter}
 use Rattle.token_grammar.proofs.Choices.{same_part, same_leads}
 use Rattle.token_grammar.proofs.Starts.{same_begins, same_opens, nothing_apart, begins_apart, within_part, within_begins, within_leads, full_halts, wrong_halts, allows_added}
 use Rattle.token_grammar.proofs.Sound.{Sound, sound_of, sound_after, sound_first, sound_second, sound_within, sound_at, sound_alike, sound_part}
-use Rattle.chor_parser.specs.Source.{Statement, Block, Then, Calls, Ends}
+use Rattle.chor_tree.specs.Source.{Statement, Block, Then, Calls, Ends}
 use Rattle.chor_parser.specs.Grammar.{MarkIs, WordIs, NameIs, BlockIs, LinesAre, TailIs, a_block, a_line, a_tail, an_end, a_call, a_conditional}
 use Rattle.chor_parser.specs.Limits.{KeepsBlock, KeepsLines, KeepsTail}
 use Rattle.chor_parser.specs.Parts.{MarkPart, WordPart, AMark, AWord, Or}
@@ -28,13 +28,7 @@ use Rattle.chor_parser.specs.Statements.{StatementPart, StatementFirst, Statemen
 use Rattle.chor_parser.specs.Blocks.{BlockPart, LinesPart, TailPart, TailFirst, BlockTail, PassedMore, BlockSteps, LineAt, LinePart, LastPart, LinesSteps, PassedPart, CallTail, IfTail, LaterAt, TailAt, TailSteps}
 use Rattle.chor_parser.proofs.Terminals.{mark_part, mark_begins, mark_stable, mark_head, no_mark_head, word_part, word_begins, word_stable, word_reads, word_head, no_word_head, name_part, end_keyword, call_keyword, if_keyword, else_keyword, name_not_word, words_differ, mark_not_word, marks_differ, nothing_distinct, or_stable, or_distinct, distinct_or}
 use Rattle.chor_parser.proofs.PassedNames.{passed_part, close_apart}
-use Rattle.chor_parser.proofs.Statements.{name_then, mark_then, word_then, past_mark, past_word, at_one, word_opens, mark_opens, statement_part, statement_begins, statement_opens, statement_first_stable, no_operator}
-
-seq : {A B : Type 0} {R : Part A} {S : A → Part B} {Q : Allowed} {names : List (List ℕ)} {ts rest : List Token} {y : B} (x : A) (mid : List Token) → R Q names ts x mid → S x Q names mid y rest → After R S Q names ts y rest
-seq x mid h k = record { said = x; mid = mid; first = h; second = k }
-
-say : {A B : Type 0} {S : Part B} {f : B → A} {Q : Allowed} {names : List (List ℕ)} {ts rest : List Token} (y : B) → S Q names ts y rest → As S f Q names ts (f y) rest
-say y h = record { value = y; is = h; same = refl }
+use Rattle.chor_parser.proofs.Statements.{name_then, mark_then, word_then, past_mark, past_word, at_one, word_opens, mark_opens, statement_part, statement_begins, statement_opens, statement_first_stable, no_operator, seq, say}
 
 -- ---- what they are step by step
 

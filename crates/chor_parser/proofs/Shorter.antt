@@ -15,7 +15,7 @@ use Rattle.chor_tree.specs.declared.protocol.ProtoArm.{ProtoArm}
 use Rattle.chor_tree.specs.declared.protocol.Payload.{Payload}
 use Rattle.chor_tree.specs.declared.tree.Part.{Part}
 use Rattle.chor_base.specs.declared.value.Sort.{Sort}
-use Rattle.chor_parser.specs.Source.{Statement, Block, Procedure}
+use Rattle.chor_tree.specs.Source.{Statement, Block, Procedure}
 use Rattle.chor_parser.specs.Grammar as g
 use Rattle.chor_parser.specs.Grammar.{MarkIs, WordIs, NameIs, ListIs, MoreAre, NamesAre, PartIs, SortIs, PayloadIs, ArmIs, StepIs, StateIs, MoreStatesAre, StatesAre, ProtocolIs, ServedAre, ServiceIs, VariableIs, VariablesAre, ProcParamIs, HolderIs, SessionParamIs, SessionsAre, ParamsAre, NewPartsAre, StatementIs, PassedSessionsAre, PassedAre, BlockIs, LinesAre, TailIs, ProcedureIs}
 

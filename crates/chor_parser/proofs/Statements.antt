@@ -21,7 +21,7 @@ use Rattle.token_grammar.proofs.Values.{as_alike, as_part, as_begins, after_part
 use Rattle.token_grammar.proofs.Sequels.{leads_on}
 use Rattle.token_grammar.proofs.Choices.{same_part, same_reads, same_leads, option_part, option_leads, without_reads, more_further, halts_further, reads_further}
 use Rattle.token_grammar.proofs.Starts.{same_begins, same_opens, nothing_apart, begins_apart, option_apart, same_apart}
-use Rattle.chor_parser.specs.Source.{Statement, Starts, Sets}
+use Rattle.chor_tree.specs.Source.{Statement, Starts, Sets}
 use Rattle.chor_parser.specs.Grammar.{MarkIs, WordIs, NameIs, PartIs, NewPartsAre, no_new, some_new, StatementIs, a_part, a_start, a_value, a_label, a_delegation, a_set, a_host_call, a_show}
 use Rattle.chor_parser.specs.Limits.{KeepsStatement}
 use Rattle.chor_parser.specs.Parts.{MarkPart, WordPart, NamePart, PartPart, OrComma, AMark, AWord, Or, IsKeyword}
@@ -247,10 +247,10 @@ stepwise_part = either_part (word_then start_keyword started) (name_then named) 
 
 -- ---- a statement is what its first tokens lead to
 
-seq : {A B : Type 0} {R : Part A} {S : A → Part B} {Q : Allowed} {names : List (List ℕ)} {ts rest : List Token} {y : B} (x : A) (mid : List Token) → R Q names ts x mid → S x Q names mid y rest → After R S Q names ts y rest
+pub seq : {A B : Type 0} {R : Part A} {S : A → Part B} {Q : Allowed} {names : List (List ℕ)} {ts rest : List Token} {y : B} (x : A) (mid : List Token) → R Q names ts x mid → S x Q names mid y rest → After R S Q names ts y rest
 seq x mid h k = record { said = x; mid = mid; first = h; second = k }
 
-say : {A B : Type 0} {S : Part B} {f : B → A} {Q : Allowed} {names : List (List ℕ)} {ts rest : List Token} (y : B) → S Q names ts y rest → As S f Q names ts (f y) rest
+pub say : {A B : Type 0} {S : Part B} {f : B → A} {Q : Allowed} {names : List (List ℕ)} {ts rest : List Token} (y : B) → S Q names ts y rest → As S f Q names ts (f y) rest
 say y h = record { value = y; is = h; same = refl }
 
 steps : (Q : Allowed) (names : List (List ℕ)) (ts : List Token) (s : Statement) (rest : List Token) → (d : StatementIs names ts s rest) → KeepsStatement Q d → Stepwise Q names ts s rest

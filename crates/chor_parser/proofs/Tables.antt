@@ -10,7 +10,7 @@ use Rattle.chor_tree.specs.declared.tree.NodeId.{NodeId}
 use Rattle.chor_parser.specs.declared.block.Line.{Line}
 use Rattle.chor_parser.specs.declared.statement.Statement.{Statement as Read}
 use Rattle.chor_parser.specs.declared.statement.Statement.TheVariants as read
-use Rattle.chor_parser.specs.Source.{Block, Then, Ends, Procedure, nowhere, block_in, block_of, grown, blocks_of, procedure_of}
+use Rattle.chor_tree.specs.Source.{Block, Then, Ends, Procedure, nowhere, block_in, block_of, grown, blocks_of, procedure_of}
 use Rattle.chor_parser.specs.Reading.{statement_of, form_of, with_lines, Grows, AreThere}
 use Rattle.chor_parser.proofs.Coming.{with_last}
 

@@ -8,7 +8,7 @@ use Rattle.chor_tree.specs.declared.file.Named.{Named}
 use Rattle.token_grammar.specs.Symbols.{Allowed, Part, Further, Nothing, As, Within}
 use Rattle.token_grammar.specs.Expressions.{ExprPart}
 use Rattle.token_grammar.specs.Values.{After, Either, At}
-use Rattle.chor_parser.specs.Source.{Block, Then, Either as Branch, Calls, Ends}
+use Rattle.chor_tree.specs.Source.{Block, Then, Either as Branch, Calls, Ends}
 use Rattle.chor_parser.specs.Grammar.{NameIs, PassedSessionsAre, PassedAre, BlockIs, LinesAre, TailIs}
 use Rattle.chor_parser.specs.Limits.{KeepsBlock, KeepsLines, KeepsTail}
 use Rattle.chor_parser.specs.Parts.{MarkPart, WordPart, NamePart, AnyListPart, AMark, AWord, AName, Or, OrComma}

@@ -6,7 +6,7 @@ use Rattle.chor_base.specs.declared.rule.Rule.TheVariants.{P1}
 use Rattle.chor_base.specs.declared.rule.Denied.{Denied}
 use Rattle.chor_base.specs.declared.rule.Denied.TheVariants.{Refused, Memory}
 use Rattle.chor_lexer.specs.declared.token.Token.{Token}
-use Rattle.chor_parser.specs.Source.{Source}
+use Rattle.chor_tree.specs.Source.{Source}
 use Rattle.chor_parser.specs.Grammar.{FileIs}
 use Rattle.chor_parser.specs.Limits.{Keeps, KeepsAll}
 

@@ -5,7 +5,7 @@ use Rattle.chor_tree.specs.declared.file.Named.{Named}
 use Rattle.chor_tree.specs.declared.file.Service.{Service}
 use Rattle.chor_tree.specs.declared.protocol.Protocol.{Protocol}
 use Rattle.token_grammar.specs.Symbols.{Part, Further, Then, Choice, left, right, OneOf}
-use Rattle.chor_parser.specs.Source.{Block, Procedure, Items}
+use Rattle.chor_tree.specs.Source.{Block, Procedure, Items}
 use Rattle.chor_parser.specs.Grammar.{ProcedureIs, ItemsAre}
 use Rattle.chor_parser.specs.Limits.{KeepsProcedure, KeepsItems}
 use Rattle.chor_parser.specs.Parts.{MarkPart, WordPart, AWord, Or, AnyNamesPart, ProtocolPart, ServicePart}

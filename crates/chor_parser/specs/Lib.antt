@@ -1,9 +1,12 @@
-pub mod Source
 pub mod Grammar
 pub mod Limits
+pub mod Kept
 pub mod Parts
 pub mod Statements
 pub mod Blocks
 pub mod Files
 pub mod Faults
 pub mod Reading
+pub mod Known
+pub mod Growing
+pub mod Paths

@@ -1,12 +1,13 @@
 -- The limits of a source (this project's own), judged on how its tokens derive it. `Q` says by which rule, and at which place, a
 -- limit may be exceeded: where it allows none, all limits are kept.
-use Rattle.std.specs.Prelude.{◌≡◌, ◌-◌, ◌<◌, ℕ, List, length, Some, slice_get}
+use Rattle.std.specs.Prelude.{◌-◌, ℕ, List, length}
 use Rattle.chor_base.specs.declared.rule.Place.{Place}
 use Rattle.chor_base.specs.declared.rule.Rule.{Rule}
 use Rattle.chor_base.specs.declared.rule.Rule.TheVariants.{P2, P3}
 use Rattle.chor_base.specs.declared.value.Sort.{Sort}
 use Rattle.chor_lexer.specs.declared.token.Token.{Token}
 use Rattle.token_grammar.specs.Symbols.{Room}
+use Rattle.token_grammar.specs.Expressions.{KeepsLength}
 use Rattle.chor_tree.specs.declared.file.Named.{Named}
 use Rattle.chor_tree.specs.declared.file.Service.{Service}
 use Rattle.chor_tree.specs.declared.file.ProcParam.{ProcParam}
@@ -14,12 +15,8 @@ use Rattle.chor_tree.specs.declared.file.SessionParam.{SessionParam}
 use Rattle.chor_tree.specs.declared.protocol.Protocol.{Protocol}
 use Rattle.chor_tree.specs.declared.protocol.State.{State}
 use Rattle.chor_tree.specs.declared.protocol.ProtoStep.{ProtoStep}
-use Rattle.chor_parser.specs.Source.{Statement, Block, Procedure, Items, Source}
+use Rattle.chor_tree.specs.Source.{Statement, Block, Procedure, Items, Source}
 use Rattle.chor_parser.specs.Grammar.{MoreAre, no_more, one_more, ListIs, a_list, NamesAre, AnyNamesAre, no_names, some_names, StepIs, end_step, value_step, choice_step, StateIs, a_state, MoreStatesAre, no_state, one_state, StatesAre, some_states, ProtocolIs, a_protocol, ServedAre, none_served, some_served, ServiceIs, a_service, VariablesAre, no_variables, some_variables, ProcParamIs, a_param, SessionsAre, no_sessions, some_sessions, ParamsAre, no_params, some_params, StatementIs, a_start, a_value, a_label, a_delegation, a_set, a_host_call, a_show, BlockIs, a_block, LinesAre, a_line, a_tail, TailIs, an_end, a_call, a_conditional, ProcedureIs, a_procedure, ItemsAre, no_item, protocol_first, service_first, procedure_first, FileIs, a_file}
-
--- an expression has at most 255 tokens, those of ts before the rest, or the 256th stands where P2 may be violated
-abbrev pub KeepsLength : (Rule → Place → Type 0) → List Token → List Token → Type 0
-KeepsLength Q ts rest = (t : Token) → 255 < length ts - length rest → slice_get ts 255 ≡ Some t → Q P2 t.place
 
 -- ---- lists of which each item keeps its own limits, as K says
 

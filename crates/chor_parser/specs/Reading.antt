@@ -17,7 +17,7 @@ use Rattle.chor_parser.specs.declared.block.Line.{Line}
 use Rattle.chor_parser.specs.declared.source.Declared.{Declared}
 use Rattle.chor_parser.specs.declared.statement.Statement.{Statement as Read}
 use Rattle.chor_parser.specs.declared.statement.Statement.TheVariants as read
-use Rattle.chor_parser.specs.Source.{Statement, Starts, Sends, Selects, Gives, Sets, Asks, Shows, Block, Then, Items, procedure_of}
+use Rattle.chor_tree.specs.Source.{Statement, Starts, Sends, Selects, Gives, Sets, Asks, Shows, Block, Then, Items, procedure_of}
 use Rattle.chor_parser.specs.Grammar.{MarkIs, WordIs, NameIs}
 use Rattle.chor_parser.specs.Files.{Item, AnItemPart, with_item}
 

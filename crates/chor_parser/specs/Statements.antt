@@ -7,7 +7,7 @@ use Rattle.chor_tree.specs.declared.tree.Part.{Part as Role}
 use Rattle.token_grammar.specs.Symbols.{Allowed, Part, Further, Nothing, As}
 use Rattle.token_grammar.specs.Expressions.{Operator, ExprPart}
 use Rattle.token_grammar.specs.Values.{After, Either}
-use Rattle.chor_parser.specs.Source.{Statement, Starts, Sends, Selects, Gives, Sets, Asks, Shows}
+use Rattle.chor_tree.specs.Source.{Statement, Starts, Sends, Selects, Gives, Sets, Asks, Shows}
 use Rattle.chor_parser.specs.Grammar.{PartIs, NewPartsAre, StatementIs}
 use Rattle.chor_parser.specs.Limits.{KeepsStatement}
 use Rattle.chor_parser.specs.Parts.{MarkPart, WordPart, NamePart, PartPart, AnyListPart, AWord, AName, Or, OrComma}

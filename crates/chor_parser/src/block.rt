@@ -1,14 +1,16 @@
 //! Blocks of statements, in a table of nodes.
 
-ghost use Rattle.std.specs.Prelude.{◌≡◌, ◌-◌, ◌<◌, ◌≤◌, ◌++◌, ◌∷◌, [], length, IfOk, IfErr, IfSome, IfNone, OnOk};
+ghost use Rattle.std.specs.Prelude.{◌≡◌, ◌-◌, ◌<◌, ◌≤◌, ◌++◌, ◌∷◌, [], List, length, IfOk, IfErr, IfSome, IfNone, OnOk};
 ghost use Rattle.chor_base.specs.declared.rule.Rule.TheVariants.{P3};
 ghost use Rattle.token_grammar.specs.Symbols.{Nothing, Head, Reads, Halts, RefusesFirst, Leads};
-ghost use Rattle.chor_parser.specs.Source.{block_in, blocks_of};
+ghost use Rattle.chor_tree.specs.declared.tree.Node.{Node};
+ghost use Rattle.chor_tree.specs.Source.{block_in, blocks_of};
 ghost use Rattle.chor_parser.specs.Grammar.{MarkIs, StandsAt};
 ghost use Rattle.chor_parser.specs.Parts.{OrComma};
 ghost use Rattle.chor_parser.specs.Statements.{StatementFirst};
 ghost use Rattle.chor_parser.specs.Blocks.{BlockPart, LinesPart, LastPart, CallTail, IfTail, AllNamesPart, PassedSessionsPart, PassedSessionsMore, PassedPart, PassedMore};
 ghost use Rattle.chor_parser.specs.Reading.{names_of, tokens_from, with_lines, Grows};
+ghost use Rattle.chor_parser.specs.Growing.{Adds};
 
 use crate::expression::read_expression;
 use crate::input::Input;
@@ -51,6 +53,7 @@ pub fn read_body(
     ensures halts { IfErr result (Halts (BlockPart 64 1024) Nothing (names_of input.now) (tokens_from input.now at)) }
     ensures there { IfOk result (λ x. x.0.0 < length tree.new.nodes) }
     ensures grows { OnOk result (Grows tree.old.nodes tree.new.nodes) }
+    ensures adds { IfOk result (λ x. Adds tree.old.nodes tree.new.nodes (x.0 ∷ [])) }
 {
     let room = Room {
         blocks: OPEN_BLOCKS,
@@ -73,6 +76,7 @@ fn read_block(
     ensures halts { IfErr result (Halts (BlockPart room.blocks room.statements) Nothing (names_of input.now) (tokens_from input.now at)) }
     ensures there { IfOk result (λ x. x.0.0 < length tree.new.nodes) }
     ensures grows { OnOk result (Grows tree.old.nodes tree.new.nodes) }
+    ensures adds { IfOk result (λ x. Adds tree.old.nodes tree.new.nodes (x.0 ∷ [])) }
 {
     let at = open_block(input, at, room)?;
     let inside = Room {
@@ -162,6 +166,7 @@ fn push_lines(tree: &mut Tree, mut lines: Vec<Line>, tail: NodeId) -> Result<Nod
     ensures block { IfOk result (λ id. block_in (blocks_of tree.new.nodes) id ≡ with_lines lines.items (block_in (blocks_of tree.old.nodes) tail)) }
     ensures there { IfOk result (λ id. id.0 < length tree.new.nodes) }
     ensures grows { OnOk result (Grows tree.old.nodes tree.new.nodes) }
+    ensures adds { IfOk result (λ id. (first : List Node) → Adds first tree.old.nodes (tail ∷ []) → Adds first tree.new.nodes (id ∷ [])) }
 {
     let mut next = tail;
     while let Some(line) = lines.pop() {
@@ -187,6 +192,7 @@ fn read_tail(
     ensures halts { IfErr result (Halts (LastPart room.blocks room.statements) Nothing (names_of input.now) (tokens_from input.now at)) }
     ensures there { IfOk result (λ x. x.0.0 < length tree.new.nodes) }
     ensures grows { OnOk result (Grows tree.old.nodes tree.new.nodes) }
+    ensures adds { IfOk result (λ x. Adds tree.old.nodes tree.new.nodes (x.0 ∷ [])) }
 {
     let place = input.place_of(at);
     if let Some(after) = input.after_word(at, b"end") {
@@ -226,6 +232,7 @@ fn read_call(
     ensures halts { IfErr result (Halts (CallTail place) Nothing (names_of input.now) (tokens_from input.now at)) }
     ensures there { IfOk result (λ x. x.0.0 < length tree.new.nodes) }
     ensures grows { OnOk result (Grows tree.old.nodes tree.new.nodes) }
+    ensures adds { IfOk result (λ x. Adds tree.old.nodes tree.new.nodes (x.0 ∷ [])) }
 {
     let (name, at) = input.take_name(at)?;
     let at = input.take_mark(at, Mark::OpenParen)?;
@@ -313,6 +320,7 @@ fn read_if(
     ensures halts { IfErr result (Halts (IfTail room.blocks room.statements place) Nothing (names_of input.now) (tokens_from input.now at)) }
     ensures there { IfOk result (λ x. x.0.0 < length tree.new.nodes) }
     ensures grows { OnOk result (Grows tree.old.nodes tree.new.nodes) }
+    ensures adds { IfOk result (λ x. Adds tree.old.nodes tree.new.nodes (x.0 ∷ [])) }
 {
     let (process, at) = input.take_name(at)?;
     let at = input.take_mark(at, Mark::Dot)?;

@@ -14,6 +14,6 @@ mod statement;
 #[cfg(test)]
 mod tests;
 
-pub use laws::{never_refused, one_source};
+pub use laws::{never_refused, one_source, one_way};
 pub use name_resolution::resolve;
 pub use source::parse;

@@ -1,13 +1,16 @@
 //! Whole sources.
 
-ghost use Rattle.std.specs.Prelude.{◌≡◌, ◌<◌, codes, length, IfOk, IfErr, OnOk, OnErr, IfSome, IfNone};
+ghost use Rattle.std.specs.Prelude.{◌≡◌, ◌<◌, ◌∷◌, [], codes, length, IfOk, IfErr, OnOk, OnErr, IfSome, IfNone};
 ghost use Rattle.std.specs.List.{AllByRecursion};
 ghost use Rattle.chor_lexer.specs.Tokens.{IsKnown};
 ghost use Rattle.token_grammar.specs.Symbols.{Nothing, Head, Reads, Halts};
-ghost use Rattle.chor_parser.specs.Source.{block_in, blocks_of, procedure_of, source_of};
+ghost use Rattle.chor_tree.specs.Source.{block_in, blocks_of, procedure_of, source_of};
+ghost use Rattle.chor_parser.specs.Kept.{IsKept};
 ghost use Rattle.chor_parser.specs.Faults.{IsWithin, IsRefusal};
 ghost use Rattle.chor_parser.specs.Files.{ProcedurePart, AnItemPart, ItemFirst, ItemsPart, MainPart, main_of};
 ghost use Rattle.chor_parser.specs.Reading.{names_of, tokens_from, items_of, Grows, AreThere, AfterWord, ItemGoes};
+ghost use Rattle.chor_parser.specs.Known.{IsTextKnown};
+ghost use Rattle.chor_parser.specs.Growing.{Adds, AddsBodies, begins_of};
 
 use crate::block::read_body;
 use crate::input::Input;
@@ -20,19 +23,23 @@ use chor_lexer::{Mark, Tokens};
 use chor_tree::{File, Named, NodeId, Proc, Protocol, Service, Tree};
 use std::alloc::Global;
 
-/// The file that the tokens are, with the tables of names and texts that are given.
+/// The file that the tokens are, with the tables of names and texts that are given. Its numbers of
+/// names and texts are in them, it has an item in each list for which the grammar asks one, and a
+/// node begins one body or follows one other node, and no more.
 ///
 /// It is refused by P1 at the first token that no file has there after those before it, by P2 where
 /// blocks stand too deep or an expression is too long, and by P3 at the first item that is one too
 /// many in its list or on its path.
 pub fn parse(alloc: Global, tokens: &Tokens, names: Names, texts: Texts) -> Result<File, Denied>
     requires known { AllByRecursion (IsKnown names) tokens.now.items }
+    requires texts { AllByRecursion (IsTextKnown texts) tokens.now.items }
     ensures found { IfOk result (λ file. IsWithin names tokens.now.items (source_of file)) }
     ensures denied { IfErr result (IsRefusal names tokens.now.items) }
     ensures names { IfOk result (λ file. file.names ≡ names) }
     ensures texts { IfOk result (λ file. file.texts ≡ texts) }
     ensures body { IfOk result (λ file. file.body.0 < length file.tree.nodes) }
     ensures bodies { IfOk result (λ file. AreThere file.tree.nodes file.procs) }
+    ensures kept { IfOk result IsKept }
 {
     let input = Input {
         tokens,
@@ -75,6 +82,7 @@ fn read_items(alloc: Global, input: &Input) -> Result<(Declared, usize), Denied>
     ensures reads { IfOk result (λ x. Reads ItemsPart ItemFirst (names_of input.now) (tokens_from input.now 0) (items_of x.0) (tokens_from input.now x.1)) }
     ensures halts { IfErr result (Halts ItemsPart ItemFirst (names_of input.now) (tokens_from input.now 0)) }
     ensures there { IfOk result (λ x. AreThere x.0.tree.nodes x.0.procs) }
+    ensures adds { IfOk result (λ x. Adds [] x.0.tree.nodes (begins_of x.0.procs)) }
 {
     let protocols = List::new(alloc);
     let services = List::new(alloc);
@@ -110,6 +118,7 @@ fn read_item(
     ensures begun { OnErr result (Head ItemFirst (names_of input.now) (tokens_from input.now at)) }
     ensures halts { IfErr result (Halts AnItemPart Nothing (names_of input.now) (tokens_from input.now at)) }
     ensures there { OnOk result (AreThere items.new.tree.nodes items.new.procs) }
+    ensures adds { OnOk result (AddsBodies items.old items.new) }
 {
     if let Some(at) = input.after_word(at, b"protocol") {
         let after_protocol = add_protocol(alloc, input, at, items)?;
@@ -137,6 +146,7 @@ fn add_protocol(
     ensures goes { IfOk result (λ next. AfterWord (names_of input.now) (codes "protocol") (tokens_from input.now at) (λ t0. ItemGoes (names_of input.now) t0 items.old items.new (tokens_from input.now next))) }
     ensures halts { IfErr result (λ d. AfterWord (names_of input.now) (codes "protocol") (tokens_from input.now at) (λ t0. Halts AnItemPart Nothing (names_of input.now) t0 d)) }
     ensures there { OnOk result (AreThere items.new.tree.nodes items.new.procs) }
+    ensures adds { OnOk result (AddsBodies items.old items.new) }
 {
     let (protocol, at) = read_protocol(alloc, input, at)?;
     items.protocols.push(protocol)?;
@@ -154,6 +164,7 @@ fn add_service(
     ensures goes { IfOk result (λ next. AfterWord (names_of input.now) (codes "service") (tokens_from input.now at) (λ t0. ItemGoes (names_of input.now) t0 items.old items.new (tokens_from input.now next))) }
     ensures halts { IfErr result (λ d. AfterWord (names_of input.now) (codes "service") (tokens_from input.now at) (λ t0. Halts AnItemPart Nothing (names_of input.now) t0 d)) }
     ensures there { OnOk result (AreThere items.new.tree.nodes items.new.procs) }
+    ensures adds { OnOk result (AddsBodies items.old items.new) }
 {
     let (service, at) = read_service(alloc, input, at)?;
     items.services.push(service)?;
@@ -171,6 +182,7 @@ fn add_procedure(
     ensures goes { IfOk result (λ next. AfterWord (names_of input.now) (codes "proc") (tokens_from input.now at) (λ t0. ItemGoes (names_of input.now) t0 items.old items.new (tokens_from input.now next))) }
     ensures halts { IfErr result (λ d. AfterWord (names_of input.now) (codes "proc") (tokens_from input.now at) (λ t0. Halts AnItemPart Nothing (names_of input.now) t0 d)) }
     ensures there { OnOk result (AreThere items.new.tree.nodes items.new.procs) }
+    ensures adds { OnOk result (AddsBodies items.old items.new) }
 {
     let (procedure, at) = read_procedure(alloc, input, at, &mut items.tree)?;
     items.procs.push(procedure)?;
@@ -188,6 +200,7 @@ fn read_procedure(
     ensures halts { IfErr result (λ d. AfterWord (names_of input.now) (codes "proc") (tokens_from input.now at) (λ t0. Halts ProcedurePart Nothing (names_of input.now) t0 d)) }
     ensures there { IfOk result (λ x. x.0.body.0 < length tree.new.nodes) }
     ensures grows { OnOk result (Grows tree.old.nodes tree.new.nodes) }
+    ensures adds { IfOk result (λ x. Adds tree.old.nodes tree.new.nodes (x.0.body ∷ [])) }
 {
     let (name, at) = input.take_name(at)?;
     let at = input.take_mark(at, Mark::OpenParen)?;
@@ -221,6 +234,7 @@ fn read_main(
     ensures halts { IfErr result (Halts MainPart Nothing (names_of input.now) (tokens_from input.now at)) }
     ensures there { IfOk result (λ x. x.0.body.0 < length tree.new.nodes) }
     ensures grows { OnOk result (Grows tree.old.nodes tree.new.nodes) }
+    ensures adds { IfOk result (λ x. Adds tree.old.nodes tree.new.nodes (x.0.body ∷ [])) }
 {
     let at = input.take_word(at, b"main")?;
     let at = input.take_mark(at, Mark::OpenParen)?;

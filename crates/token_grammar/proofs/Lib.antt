@@ -8,4 +8,3 @@ pub mod Derived
 pub mod Expressions
 pub mod Values
 pub mod Sound
-pub mod Known

@@ -11,6 +11,7 @@ use Rattle.chor_parser.proofs.Shorter.{name_shorter, mark_shorter, word_shorter,
 use Rattle.chor_parser.proofs.Statements.{passes, no_memory, mark_then, word_then, past_name, past_mark, past_word, past_expr, expr_halts, at_one}
 use Rattle.chor_parser.proofs.Nested.{block_part, brace_apart, into_block, lines_halt, past_lines, no_statement_comes, no_tail, end_first, call_first, if_first, too_long_path, reads_end, to_call, to_if, past_branch}
 use Rattle.chor_parser.proofs.Blocks.{end_block, conditional_block, said_block}
+use Rattle.chor_parser.proofs.Growth.{adds_none, adds_on, adds_node}
 use Rattle.chor_parser.proofs.block.+blocks.Goals as goal
 
 pub read_block-returns-in_err-at-clause-halts : goal.read_block-returns-in_err-at-clause-halts
@@ -105,3 +106,18 @@ read_if-returns-clause-there t c = last_there _ _ _ _ c.in_ok-branch.ensures.ok.
 
 pub read_if-returns-clause-grows : goal.read_if-returns-clause-grows
 read_if-returns-clause-grows t c = grows_on _ _ _ c.in_ok-first.ensures.grows (grows_on _ _ _ c.in_ok-second.ensures.grows (grows_by _ _ _ c.in_ok-branch.ensures.ok.1))
+
+pub read_block-returns-clause-adds : goal.read_block-returns-clause-adds
+read_block-returns-clause-adds t c = c.in_ok-first.ensures.adds _ c.in_ok-tail.ensures.adds
+
+pub read_tail-returns-in-Some-clause-adds : goal.read_tail-returns-in-Some-clause-adds
+read_tail-returns-in-Some-clause-adds t c = adds_node _ (adds_none _) c.in_ok-end.ensures.ok.1 c.in_ok-end.ensures.ok.0
+
+pub read_tail-returns-in-Some-after_word-clause-adds : goal.read_tail-returns-in-Some-after_word-clause-adds
+read_tail-returns-in-Some-after_word-clause-adds t c = c.in_ok-call.ensures.adds
+
+pub read_tail-returns-clause-adds : goal.read_tail-returns-clause-adds
+read_tail-returns-clause-adds t c = c.in_ok-branch.ensures.adds
+
+pub read_if-returns-clause-adds : goal.read_if-returns-clause-adds
+read_if-returns-clause-adds t c = adds_node _ (adds_on c.in_ok-first.ensures.adds c.in_ok-second.ensures.adds) c.in_ok-branch.ensures.ok.1 c.in_ok-branch.ensures.ok.0

@@ -9,6 +9,7 @@ use Rattle.chor_parser.proofs.Statements.{passes, no_memory, mark_then, past_nam
 use Rattle.chor_parser.proofs.Nested.{past_passed, passed_halts}
 use Rattle.chor_parser.proofs.Blocks.{call_block, said_block}
 use Rattle.chor_parser.proofs.Tables.{last_there, grows_by}
+use Rattle.chor_parser.proofs.Growth.{adds_none, adds_node}
 use Rattle.chor_parser.proofs.block.read_call.Goals as goal
 
 pub returns-in_err-name-clause-halts : goal.returns-in_err-name-clause-halts
@@ -34,3 +35,6 @@ returns-clause-there c = last_there _ _ _ _ c.in_ok-call.ensures.ok.1 c.in_ok-ca
 
 pub returns-clause-grows : goal.returns-clause-grows
 returns-clause-grows c = grows_by _ _ _ c.in_ok-call.ensures.ok.1
+
+pub returns-clause-adds : goal.returns-clause-adds
+returns-clause-adds c = adds_node _ (adds_none _) c.in_ok-call.ensures.ok.1 c.in_ok-call.ensures.ok.0

@@ -4,6 +4,7 @@ use Rattle.chor_parser.proofs.Terminals.{holds_if, fails_if}
 use Rattle.chor_parser.proofs.Files.{items_part, items_end, main_part}
 use Rattle.chor_parser.proofs.Joined.{file_within}
 use Rattle.chor_parser.proofs.FirstFaults.{refusal_is, unended, whole}
+use Rattle.chor_parser.proofs.KeptFiles.{nodes_are, file_kept}
 use Rattle.chor_parser.proofs.source.parse.Goals as goal
 
 pub returns-in_err-items-clause-denied : goal.returns-in_err-items-clause-denied
@@ -21,3 +22,6 @@ returns-then-not-is_end-clause-denied c = unended _ (whole c.args.tokens.now.end
 
 pub returns-clause-found : goal.returns-clause-found
 returns-clause-found c = file_within _ _ _ c.in_ok-items.items _ _ _ (then_reads items_part items_end c.in_ok-items.ensures.reads c.in_ok-main.ensures.reads) c.in_ok-items.ensures.there c.in_ok-main.ensures.grows c.args.tokens.now.ended (holds_if c.is_end.ensures c.if-not-is_end.false)
+
+pub returns-clause-kept : goal.returns-clause-kept
+returns-clause-kept c = file_kept _ _ (file_within _ _ _ c.in_ok-items.items _ _ _ (then_reads items_part items_end c.in_ok-items.ensures.reads c.in_ok-main.ensures.reads) c.in_ok-items.ensures.there c.in_ok-main.ensures.grows c.args.tokens.now.ended (holds_if c.is_end.ensures c.if-not-is_end.false)) c.requires.texts (nodes_are _ c.in_ok-items.ensures.adds c.in_ok-main.ensures.adds)
