@@ -9,7 +9,7 @@ use Rattle.chor_lexer.specs.Tokens.{AreSpelled, AreTokensOf, with_name, with_tex
 use Rattle.chor_lexer.proofs.Cuts.{one_reading}
 use Rattle.chor_lexer.proofs.ReadBack.{HasKind, HaveKinds}
 use Rattle.chor_tree.specs.declared.file.File.{File}
-use Rattle.chor_parser.specs.Source.{source_of}
+use Rattle.chor_tree.specs.Source.{source_of}
 use Rattle.chor_print.specs.Text.{canonical_text}
 use Rattle.canonical_laws.specs.ReadsBack.{DeriveSame, IsReadFrom, IsReadAgain}
 use Rattle.canonical_laws.proofs.Known.{file_sound}
@@ -53,7 +53,7 @@ read_again bytes written ts f names texts r h =
     let own = text_has_symbols bytes written f r in
     let same : h.lexemes ≡ own.0 = one_reading (canonical_text f) h.lexemes own.0 h.tokens own.1 in
     let symbols = ap (map (λ (l : Lexeme). l.symbol)) same ∙ own.2 in
-    let kinds = subst (HaveKinds f.names f.texts) (sym symbols) (source_there (source_of f) r.derived (file_sound (source_of f) r.derived (known r.tokens))).all in
+    let kinds = subst (HaveKinds f.names f.texts) (sym symbols) (source_there (source_of f) r.derived.is r.derived.keeps (file_sound (source_of f) r.derived.is (known r.tokens))).all in
     let n : names ≡ f.names = h.names_are ∙ names_kept f.names f.texts h.lexemes kinds in
     let t : texts ≡ f.texts = h.texts_are ∙ texts_kept f.names f.texts h.lexemes kinds in
     let spelled : AreSpelled f.names f.texts ts h.lexemes =

@@ -1,3 +1,4 @@
+pub mod Lengths
 pub mod Tokens
 pub mod Derived
 pub mod Pieces
@@ -12,3 +13,11 @@ pub mod Tables
 pub mod Numbered
 pub mod WrittenFiles
 pub mod Again
+pub mod SameText
+pub mod Alike
+pub mod AlikePieces
+pub mod AlikeTerms
+pub mod AlikeBlocks
+pub mod Renumbered
+pub mod Placeless
+pub mod Anew

@@ -12,6 +12,7 @@ use Rattle.chor_lexer.specs.Spelling.{IsSource, expr_symbols}
 use Rattle.chor_lexer.proofs.Each.{each_append}
 use Rattle.chor_lexer.proofs.ReadBack.{HasKind, HaveKinds, expr_kinds}
 use Rattle.chor_lexer.proofs.Spelling.{name_of}
+use Rattle.token_grammar.specs.Symbols.{nowhere}
 use Rattle.chor_tree.specs.declared.file.Named.{Named}
 use Rattle.chor_tree.specs.declared.file.Service.{Service}
 use Rattle.chor_tree.specs.declared.file.ProcParam.{ProcParam}
@@ -22,8 +23,11 @@ use Rattle.chor_tree.specs.declared.protocol.ProtoStep.{ProtoStep}
 use Rattle.chor_tree.specs.declared.protocol.ProtoArm.{ProtoArm}
 use Rattle.chor_tree.specs.declared.protocol.Payload.{Payload}
 use Rattle.chor_tree.specs.declared.tree.Part.{Part}
-use Rattle.chor_parser.specs.Source.{Statement, Block, Procedure, Source}
+use Rattle.chor_tree.specs.Source.{Statement, Block, Procedure, Source}
 use Rattle.chor_parser.specs.Grammar.{WordIs, NameIs, MoreAre, no_more, one_more, ListIs, a_list, AnyNamesAre, no_names, some_names, PartIs, a_part, SortIs, int, bool, text, PayloadIs, plain, endpoint, ArmIs, an_arm, StepIs, end_step, value_step, choice_step, StateIs, a_state, MoreStatesAre, no_state, one_state, StatesAre, some_states, ProtocolIs, a_protocol, ServedAre, none_served, some_served, ServiceIs, a_service, VariableIs, a_variable, VariablesAre, no_variables, some_variables, ProcParamIs, a_param, HolderIs, a_holder, SessionParamIs, a_session, SessionsAre, no_sessions, some_sessions, ParamsAre, no_params, some_params, NewPartsAre, no_new, some_new, StatementIs, a_start, a_value, a_label, a_delegation, a_set, a_host_call, a_show, PassedSessionsAre, no_session_passed, sessions_passed, PassedAre, nothing_passed, processes_passed, BlockIs, a_block, LinesAre, a_line, a_tail, TailIs, an_end, a_call, a_conditional, ProcedureIs, a_procedure, FileIs, a_file}
+use Rattle.chor_parser.specs.Limits.{KeepsAll}
+use Rattle.chor_parser.specs.Parts.{ProtocolPart, ServicePart}
+use Rattle.chor_parser.specs.Files.{ProcedurePart}
 use Rattle.canonical_laws.specs.Terms.{AllInStatement, AllInBlock, AllTerms}
 use Rattle.canonical_laws.specs.Symbols.{name_symbols, each, after_commas, listed, listed_after, part_symbols, sort_symbols, payload_symbols, arm_symbols, step_symbols, state_symbols, protocol_symbols, service_symbols, variable_symbols, variables_symbols, process_param_symbols, holder_symbols, session_param_symbols, statement_symbols, lines_symbols, block_symbols, procedure_symbols, source_symbols}
 use Rattle.canonical_laws.proofs.Derived.{Derived, gathered}
@@ -188,16 +192,16 @@ module _ {names texts : List (List ℕ)} where
   procedure_there x (a_procedure {ps = ps} {ss = ss} {b = b} d1 d2 d3 d4 d5 d6) ok k =
       word_there d1 (name_there d2 (mark_there (params_there ps ss d4 (mark_there (block_there b d6 ok k)))))
 
-  procedures_there : (qs : List Procedure) → AllByRecursion (Derived (ProcedureIs names)) qs → AllByRecursion (λ p. AllInBlock (IsSource names texts) p.body) qs
+  procedures_there : (qs : List Procedure) → AllByRecursion (Derived (ProcedurePart nowhere names)) qs → AllByRecursion (λ p. AllInBlock (IsSource names texts) p.body) qs
       → {more : List Symbol} → Kinds names texts more → Kinds names texts (each (procedure_symbols names texts) qs more)
   procedures_there [] d ok k = k
-  procedures_there (q ∷ qs) d ok k = procedure_there q d.0.is ok.0 (procedures_there qs d.1 ok.1 k)
+  procedures_there (q ∷ qs) d ok k = procedure_there q d.0.is.0 ok.0 (procedures_there qs d.1 ok.1 k)
 
-  pub source_there : (s : Source) {us : List Token} → FileIs names us s → AllTerms (IsSource names texts) s → Kinds names texts (source_symbols names texts s)
-  source_there x (a_file {is = is} {ps = ps} {b = b} d1 d2 d3 d4 d5 d6 d7) ok =
-      let g = gathered is d1 in
+  pub source_there : (s : Source) {us : List Token} (d : FileIs names us s) → KeepsAll d → AllTerms (IsSource names texts) s → Kinds names texts (source_symbols names texts s)
+  source_there x (a_file {is = is} {ps = ps} {b = b} d1 d2 d3 d4 d5 d6 d7) keeps ok =
+      let g = gathered is d1 keeps.0 in
       let end : Kinds names texts (last ∷ []) = record { all = ((kind.Last, tt), tt) } in
-      each_there {P = Derived (ProtocolIs names)} (λ p h more l. protocol_there p h.is l) is.protocols g.protocols
-      (each_there {P = Derived (ServiceIs names)} (λ p h more l. service_there p h.is l) is.services g.services
+      each_there {P = Derived (ProtocolPart nowhere names)} (λ p h more l. protocol_there p h.is.0 l) is.protocols g.protocols
+      (each_there {P = Derived (ServicePart nowhere names)} (λ p h more l. service_there p h.is.0 l) is.services g.services
       (procedures_there is.procedures g.procedures ok.0
       (word_there d2 (mark_there (any_names_there ps d4 (mark_there (block_there b d6 ok.1 end)))))))

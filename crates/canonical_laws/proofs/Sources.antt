@@ -8,8 +8,8 @@ use Rattle.chor_tree.specs.declared.tree.NodeId.{NodeId}
 use Rattle.chor_tree.specs.declared.tree.Node.{Node}
 use Rattle.chor_tree.specs.declared.tree.Form.{Form}
 use Rattle.chor_tree.specs.declared.tree.Form.TheVariants as form
-use Rattle.chor_parser.specs.Source.{Statement, Starts, Sends, Selects, Gives, Sets, Asks, Shows, Block, Then, Either, Calls, Ends, nowhere, block_in, block_of}
-use Rattle.chor_parser.specs.Source as source
+use Rattle.chor_tree.specs.Source.{Statement, Starts, Sends, Selects, Gives, Sets, Asks, Shows, Block, Then, Either, Calls, Ends, nowhere, block_in, block_of}
+use Rattle.chor_tree.specs.Source as source
 use Rattle.chor_print.specs.Statements.{start_text, value_text, label_text, give_text, set_text, host_text, show_text, if_text, call_text}
 use Rattle.chor_print.specs.Lines.{indented, stated, lines_in, lines_of_form, grown, block_lines}
 

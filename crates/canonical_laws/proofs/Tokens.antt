@@ -1,9 +1,11 @@
 -- Tokens that spell symbols, one by one.
-use Rattle.std.proofs.Common.{◌≡◌, ℕ, List, [], ◌∷◌, ◌++◌, Some, refl, sym, ap, ◌∙◌, subst}
+use Rattle.std.proofs.Common.{◌≡◌, ◌≤◌, ◌<◌, ◌+◌, ◌-◌, ℕ, suc, List, [], ◌∷◌, ◌++◌, length, get_or, Some, refl, sym, ap, ◌∙◌, subst, arith}
 use Rattle.std.specs.Prelude.{slice_get}
-use Rattle.std.proofs.lemmas.List.{append-nil}
+use Rattle.std.proofs.lemmas.List.{append-nil, length-append}
+use Rattle.std.proofs.lemmas.Option.{slice_get-get_or}
 use Rattle.chor_base.specs.declared.names.NameId.{NameId}
 use Rattle.chor_base.specs.declared.rule.Place.{Place}
+use Rattle.chor_base.specs.declared.rule.Rule.{Rule}
 use Rattle.chor_base.specs.Expr.{Term}
 use Rattle.chor_base.specs.Words.{AllDistinct}
 use Rattle.chor_base.specs.Writing.{name_in}
@@ -17,9 +19,12 @@ use Rattle.chor_lexer.specs.Grammar.{ExprIs, IsExpr}
 use Rattle.chor_lexer.specs.Spelling.{IsSource, expr_symbols, SpellAll}
 use Rattle.chor_lexer.proofs.Derivations.{expr_cut}
 use Rattle.chor_lexer.proofs.Spelling.{name_of, symbols_read_back}
+use Rattle.token_grammar.specs.Symbols.{nowhere, AllowsFirst, Room}
+use Rattle.token_grammar.specs.Expressions.{KeepsLength, ExprPart}
 use Rattle.chor_tree.specs.declared.file.Named.{Named}
 use Rattle.chor_parser.specs.Grammar.{MarkIs, WordIs, NameIs, StandsAt, EndIs}
 use Rattle.canonical_laws.specs.Places.{bare_name}
+use Rattle.canonical_laws.proofs.Lengths.{expr_length}
 
 -- the tokens spell these symbols
 pub record Spelled (names texts : List (List ℕ)) (ts : List Token) (ss : List Symbol) : Type 0 where
@@ -98,6 +103,16 @@ pub record Stands (ts : List Token) : Type 0 where
 pub stands : {names texts : List (List ℕ)} {ts : List Token} {s : Symbol} {more : List Symbol} → Spelled names texts ts (s ∷ more) → Stands ts
 stands h = let f = first h in record { at = f.token.place; is = record { token = f.token; rest = f.rest; parts = f.parts; place = refl } }
 
+pub mark_begins : {m : Mark} {us vs : List Token} → MarkIs m us vs → Stands us
+mark_begins {vs = vs} d = record { at = d.token.place; is = record { token = d.token; rest = vs; parts = d.parts; place = refl } }
+
+pub name_begins : {names : List (List ℕ)} {n : Named} {us vs : List Token} → NameIs names us n vs → Stands us
+name_begins {vs = vs} d = record { at = d.token.place; is = record { token = d.token; rest = vs; parts = d.parts; place = refl } }
+
+-- where none of the tokens may be one too many, none of others may
+pub room_kept : (rule : Rule) (n : ℕ) {us : List Token} (ts : List Token) → Stands us → Room nowhere rule n us → Room nowhere rule n ts
+room_kept rule n ts s room e = absurd (subst (AllowsFirst nowhere rule) s.is.parts (room e))
+
 -- ---- names and expressions
 
 pub name_reads : {names texts : List (List ℕ)} → AllDistinct names → {us vs : List Token} (n : Named) → NameIs names us n vs → {ts : List Token} {more : List Symbol}
@@ -131,12 +146,32 @@ split names texts (t ∷ ts) (s ∷ ss) more h =
     let r = split names texts ts ss more h.1 in
     record { front = t ∷ r.front; rest = r.rest; parts = ap (λ (l : List Token). t ∷ l) r.parts; here = (h.0, r.here); others = r.others }
 
-pub term_reads : {names texts : List (List ℕ)} → AllDistinct names → AllDistinct texts → (e : Term) → IsSource names texts e → {ts : List Token} {more : List Symbol}
-    → Spelled names texts ts (expr_symbols names texts e ++ more) → Passes names texts (λ us vs. ExprIs names us e vs) ts more
-term_reads {names} {texts} dn dt e ok {ts} {more} h =
+spelled_length : (names texts : List (List ℕ)) (ts : List Token) (ss : List Symbol) → SpellAll names texts ts ss → length ts ≡ length ss
+spelled_length names texts [] [] h = refl
+spelled_length names texts [] (s ∷ ss) h = absurd h
+spelled_length names texts (t ∷ ts) [] h = absurd h
+spelled_length names texts (t ∷ ts) (s ∷ ss) h = ap suc (spelled_length names texts ts ss h.1)
+
+-- an expression that is no longer keeps the limit too
+length_kept : (us vs ts rest : List Token) → length ts - length rest ≤ length us - length vs → KeepsLength nowhere us vs → KeepsLength nowhere ts rest
+length_kept us vs ts rest h keeps t long there =
+    let inside : 255 < length us = omega (arith, h, long) in
+    keeps (get_or us 255 t) (omega (arith, h, long)) (slice_get-get_or us 255 t inside)
+
+pub term_reads : {names texts : List (List ℕ)} → AllDistinct names → AllDistinct texts → (e : Term) → IsSource names texts e
+    → {us vs : List Token} → ExprIs names us e vs → KeepsLength nowhere us vs → {ts : List Token} {more : List Symbol}
+    → Spelled names texts ts (expr_symbols names texts e ++ more) → Passes names texts (λ us vs. ExprPart nowhere names us e vs) ts more
+term_reads {names} {texts} dn dt e ok {us} {vs} d keeps {ts} {more} h =
     let s = split names texts ts (expr_symbols names texts e) more h.all in
     let is : IsExpr names s.front e = symbols_read_back names texts e s.front dn dt ok s.here in
     let c = expr_cut names s.front e [] is in
     let whole : s.front ≡ c.written = c.parts ∙ append-nil c.written in
     let moved : ExprIs names (s.front ++ s.rest) e s.rest = subst (λ (w : List Token). ExprIs names (w ++ s.rest) e s.rest) (sym whole) (c.moves s.rest) in
-    record { rest = s.rest; is = subst (λ (w : List Token). ExprIs names w e s.rest) (sym s.parts) moved; others = s.others }
+    let front : length s.front ≡ length (expr_symbols names texts e) = spelled_length names texts s.front (expr_symbols names texts e) s.here in
+    let all : length ts ≡ length s.front + length s.rest = ap (λ (l : List Token). length l) s.parts ∙ length-append s.front s.rest in
+    let short : length ts - length s.rest ≤ length us - length vs = omega (arith, front, all, expr_length names texts us e vs d) in
+    record {
+      rest = s.rest;
+      is = record { is = subst (λ (w : List Token). ExprIs names w e s.rest) (sym s.parts) moved; keeps = length_kept us vs ts s.rest short keeps };
+      others = s.others;
+    }

@@ -10,12 +10,17 @@ use Rattle.chor_lexer.specs.Spelling.{IsSource, SpellAll}
 use Rattle.chor_lexer.specs.Tokens.{IsTokens, AreSpelled}
 use Rattle.chor_lexer.proofs.Cuts.{one_reading}
 use Rattle.chor_lexer.proofs.ReadBack.{HaveKinds, numbered}
+use Rattle.token_grammar.specs.Symbols.{nowhere}
 use Rattle.chor_tree.specs.declared.file.File.{File}
 use Rattle.chor_tree.specs.declared.file.Proc.{Proc}
 use Rattle.chor_tree.specs.declared.tree.NodeId.{NodeId}
-use Rattle.chor_parser.specs.Source.{Procedure, Items, Source, Block, procedure_of, source_of, block_in}
-use Rattle.chor_parser.specs.Source as source
-use Rattle.chor_parser.specs.Grammar.{NameIs, AnyNamesAre, ParamsAre, BlockIs, ProtocolIs, ServiceIs, ProcedureIs, a_procedure, FileIs, a_file}
+use Rattle.chor_tree.specs.Source.{Procedure, Items, Source, Block, procedure_of, source_of, block_in}
+use Rattle.chor_tree.specs.Source as source
+use Rattle.chor_parser.specs.Grammar.{NameIs, AnyNamesAre, ParamsAre, BlockIs, ProcedureIs, a_procedure, FileIs, a_file}
+use Rattle.chor_parser.specs.Limits.{KeepsAll}
+use Rattle.chor_parser.specs.Faults.{IsWithin}
+use Rattle.chor_parser.specs.Parts.{ProtocolPart, ServicePart}
+use Rattle.chor_parser.specs.Files.{ProcedurePart}
 use Rattle.chor_print.specs.Lines.{block_lines}
 use Rattle.chor_print.specs.Text.{canonical_text}
 use Rattle.chor_print.specs.Parts.{body_text, proc_text, main_text}
@@ -42,8 +47,8 @@ record OfProcedure (names : List (List ℕ)) (q : Procedure) : Type 0 where
   params : ParamsAre names from q.params q.sessions to
   body : Derived (BlockIs names) q.body
 
-of_procedure : {names : List (List ℕ)} (q : Procedure) → Derived (ProcedureIs names) q → OfProcedure names q
-of_procedure q d = go q d.is
+of_procedure : {names : List (List ℕ)} (q : Procedure) → Derived (ProcedurePart nowhere names) q → OfProcedure names q
+of_procedure q d = go q d.is.0
   where
     go : {names : List (List ℕ)} (p : Procedure) {us vs : List Token} → ProcedureIs names us p vs → OfProcedure names p
     go p (a_procedure d1 d2 d3 d4 d5 d6) = record { name = record { from = _; to = _; is = d2 }; from = _; to = _; params = d4; body = record { from = _; to = _; is = d6 } }
@@ -55,8 +60,8 @@ record OfFile (names : List (List ℕ)) (s : Source) : Type 0 where
   processes : AnyNamesAre names from s.processes to
   body : Derived (BlockIs names) s.body
 
-of_file : {names : List (List ℕ)} (s : Source) {us : List Token} → FileIs names us s → OfFile names s
-of_file s (a_file {is = is} d1 d2 d3 d4 d5 d6 d7) = record { items = gathered is d1; from = _; to = _; processes = d4; body = record { from = _; to = _; is = d6 } }
+of_file : {names : List (List ℕ)} (s : Source) {us : List Token} (d : FileIs names us s) → KeepsAll d → OfFile names s
+of_file s (a_file {is = is} d1 d2 d3 d4 d5 d6 d7) keeps = record { items = gathered is d1 keeps.0; from = _; to = _; processes = d4; body = record { from = _; to = _; is = d6 } }
 
 -- ---- the text
 
@@ -72,7 +77,7 @@ module _ (f : File) (words : AreWords f.names) where
       let here = free_free (block_cut f words b d.is ok 1) (line_cut 0 (bound_of close_brace)) in
       subst (λ (ls : List (List ℕ)). Free (body_text ls) (λ more. lines_symbols f.names f.texts b (mark CloseBrace ∷ more))) (sym (block_lines_are f id)) here
 
-  proc_cut : (p : Proc) → Derived (ProcedureIs f.names) (procedure_of f.tree.nodes p) → AllInBlock (IsSource f.names f.texts) (block_in (source.blocks_of f.tree.nodes) p.body)
+  proc_cut : (p : Proc) → Derived (ProcedurePart nowhere f.names) (procedure_of f.tree.nodes p) → AllInBlock (IsSource f.names f.texts) (block_in (source.blocks_of f.tree.nodes) p.body)
       → Free (proc_text f p) (procedure_symbols f.names f.texts (procedure_of f.tree.nodes p))
   proc_cut p d ok =
       let o = of_procedure (procedure_of f.tree.nodes p) d in
@@ -80,7 +85,7 @@ module _ (f : File) (words : AreWords f.names) where
       let head = bound_free (params_cut f.names words (bound_free begin (free_free space open_paren) refl) p.params p.sessions o.params) end_head refl in
       free_free (line_cut 0 (bound_of head)) (body_cut p.body o.body ok)
 
-  procs_cut : (ps : List Proc) → AllByRecursion (Derived (ProcedureIs f.names)) (map (procedure_of f.tree.nodes) ps)
+  procs_cut : (ps : List Proc) → AllByRecursion (Derived (ProcedurePart nowhere f.names)) (map (procedure_of f.tree.nodes) ps)
       → AllByRecursion (λ q. AllInBlock (IsSource f.names f.texts) q.body) (map (procedure_of f.tree.nodes) ps)
       → Free (flat_map (proc_text f) ps) (each (procedure_symbols f.names f.texts) (map (procedure_of f.tree.nodes) ps))
   procs_cut [] d ok = free_none
@@ -93,11 +98,11 @@ module _ (f : File) (words : AreWords f.names) where
       let head = bound_free (free_bound begin (any_names_cut f.names words f.processes o.processes)) end_head refl in
       free_free (line_cut 0 (bound_of head)) (body_cut f.body o.body ok)
 
-  whole_text : {us : List Token} → FileIs f.names us (source_of f) → AllTerms (IsSource f.names f.texts) (source_of f) → Whole (canonical_text f) (source_symbols f.names f.texts (source_of f))
+  whole_text : {us : List Token} → IsWithin f.names us (source_of f) → AllTerms (IsSource f.names f.texts) (source_of f) → Whole (canonical_text f) (source_symbols f.names f.texts (source_of f))
   whole_text d ok =
-      let o = of_file (source_of f) d in
-      let protocols = each_cut {P = Derived (ProtocolIs f.names)} (λ p h. protocol_cut f.names words p h.is) f.protocols o.items.protocols in
-      let services = each_cut {P = Derived (ServiceIs f.names)} (λ s h. service_cut f.names words s h.is) f.services o.items.services in
+      let o = of_file (source_of f) d.is d.keeps in
+      let protocols = each_cut {P = Derived (ProtocolPart nowhere f.names)} (λ p h. protocol_cut f.names words p h.is.0) f.protocols o.items.protocols in
+      let services = each_cut {P = Derived (ServicePart nowhere f.names)} (λ s h. service_cut f.names words s h.is.0) f.services o.items.services in
       let all = free_free (free_free (free_free protocols services) (procs_cut f.procs o.items.procedures ok.0)) (main_cut o ok.1) in
       let text = all.cuts [] (last ∷ []) whole_none in
       subst (λ (t : List ℕ). Whole t (source_symbols f.names f.texts (source_of f))) (append-nil _ ∙ sym (canonical f)) text
@@ -109,12 +114,12 @@ symbols_of ls l = map-append (λ (x : Lexeme). x.symbol) ls (l ∷ [])
 
 pub text_has_symbols : (bytes : List ℕ) (written : List Token) (f : File) → IsReadFrom bytes written f → HasSymbols (canonical_text f) (source_symbols f.names f.texts (source_of f))
 text_has_symbols bytes written f r =
-    let w = whole_text f (are_words r.tokens) r.derived (file_sound (source_of f) r.derived (known r.tokens)) in
+    let w = whole_text f (are_words r.tokens) r.derived (file_sound (source_of f) r.derived.is (known r.tokens)) in
     let c = w.cut start in
     let end : Lexeme = record { symbol = last; place = c.next } in
     (c.lexemes ++ end ∷ [], record { utf8 = w.utf8; front = c.lexemes; next = c.next; cut = c.cut; whole = refl }, symbols_of c.lexemes end ∙ c.are)
 
-spelled_symbols : (names texts : List (List ℕ)) (ts : List Token) (ls : List Lexeme) → AreSpelled names texts ts ls → SpellAll names texts ts (map (λ (l : Lexeme). l.symbol) ls)
+pub spelled_symbols : (names texts : List (List ℕ)) (ts : List Token) (ls : List Lexeme) → AreSpelled names texts ts ls → SpellAll names texts ts (map (λ (l : Lexeme). l.symbol) ls)
 spelled_symbols names texts [] [] h = tt
 spelled_symbols names texts [] (l ∷ ls) h = absurd h
 spelled_symbols names texts (t ∷ ts) [] h = absurd h
@@ -125,12 +130,12 @@ text_reads_back bytes written ts f ls r tokens spelled =
     let own = text_has_symbols bytes written f r in
     let same : ls ≡ own.0 = one_reading (canonical_text f) ls own.0 tokens own.1 in
     let symbols = ap (map (λ (l : Lexeme). l.symbol)) same ∙ own.2 in
-    symbols_read_back f.names f.texts written ts (source_of f) (distinct_names r.tokens) (distinct_texts r.tokens) r.derived (file_sound (source_of f) r.derived (known r.tokens))
+    symbols_read_back f.names f.texts written ts (source_of f) (distinct_names r.tokens) (distinct_texts r.tokens) r.derived (file_sound (source_of f) r.derived.is (known r.tokens))
     (subst (SpellAll f.names f.texts ts) symbols (spelled_symbols f.names f.texts ts ls spelled))
 
 pub reads_back : (bytes : List ℕ) (written : List Token) (f : File) → IsReadFrom bytes written f → ReadsBack f
 reads_back bytes written f r =
     let own = text_has_symbols bytes written f r in
-    let kinds = source_there (source_of f) r.derived (file_sound (source_of f) r.derived (known r.tokens)) in
+    let kinds = source_there (source_of f) r.derived.is r.derived.keeps (file_sound (source_of f) r.derived.is (known r.tokens)) in
     let found = numbered f.names f.texts own.0 (subst (HaveKinds f.names f.texts) (sym own.2) kinds.all) in
     record { lexemes = own.0; tokens = found.0; has = own.1; spelled = found.1; same = text_reads_back bytes written found.0 f own.0 r own.1 found.1 }

@@ -4,23 +4,23 @@ use Rattle.chor_lexer.specs.declared.token.Token.{Token}
 use Rattle.chor_lexer.specs.Lexeme.{Symbol, Lexeme}
 use Rattle.chor_lexer.specs.Tokens.{IsTokens, AreSpelled, AreTokensOf}
 use Rattle.chor_tree.specs.declared.file.File.{File}
-use Rattle.chor_parser.specs.Source.{Source, source_of}
-use Rattle.chor_parser.specs.Grammar.{FileIs}
+use Rattle.chor_tree.specs.Source.{Source, source_of}
+use Rattle.chor_parser.specs.Faults.{IsWithin}
 use Rattle.chor_print.specs.Text.{canonical_text}
 use Rattle.canonical_laws.specs.Places.{IsSame}
 
--- the tokens derive a source that is this one but for places
+-- the tokens derive, within the limits, a source that is this one but for places
 abbrev pub DeriveSame : List (List ℕ) → List Token → Source → Type 0
-DeriveSame names ts s = (t : Source) × FileIs names ts t × IsSame t s
+DeriveSame names ts s = (t : Source) × IsWithin names ts t × IsSame t s
 
 -- the bytes have tokens, which say these symbols
 abbrev pub HasSymbols : List ℕ → List Symbol → Type 0
 HasSymbols bytes ss = (ls : List Lexeme) × IsTokens bytes ls × (map (λ l. l.symbol) ls ≡ ss)
 
--- these are the tokens of the bytes, with which both tables were filled, and they derive the file
+-- these are the tokens of the bytes, with which both tables were filled, and they derive the file within the limits
 pub record IsReadFrom (bytes : List ℕ) (ts : List Token) (f : File) : Type 0 where
   pub tokens : AreTokensOf bytes [] [] f.names f.texts ts
-  pub derived : FileIs f.names ts (source_of f)
+  pub derived : IsWithin f.names ts (source_of f)
 
 -- the canonical text has tokens, which have numbers in the file's tables, and they derive the file's source but for places
 pub record ReadsBack (f : File) : Type 0 where

@@ -1,7 +1,7 @@
 -- The expressions of a source.
 use Rattle.std.specs.List.{AllByRecursion}
 use Rattle.chor_base.specs.Expr.{Term}
-use Rattle.chor_parser.specs.Source.{Statement, Starts, Sends, Selects, Gives, Sets, Asks, Shows, Block, Then, Either, Calls, Ends, Source}
+use Rattle.chor_tree.specs.Source.{Statement, Starts, Sends, Selects, Gives, Sets, Asks, Shows, Block, Then, Either, Calls, Ends, Source}
 
 -- P holds of the expressions of a statement
 abbrev pub AllInStatement : (Term → Type 0) → Statement → Type 0

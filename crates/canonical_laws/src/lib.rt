@@ -5,4 +5,7 @@ mod laws;
 #[cfg(test)]
 mod tests;
 
-pub use laws::{symbols_read_back, text_has_symbols, text_reads_back};
+pub use laws::{
+    numbers_are_free, symbols_read_back, text_has_symbols, text_is_settled, text_reads_anew,
+    text_reads_back,
+};

@@ -4,28 +4,41 @@ use chor_base::{Names, Texts};
 use chor_lexer::tokens;
 use chor_parser::parse;
 use chor_print::print;
+use chor_tree::{File, same};
 use std::alloc::Global;
 use std::test::Fail;
 
-// A source that is read and printed again. A source that is too long for a test gives no text.
-fn printed(alloc: Global, source: &[u8]) -> Result<Vec<u8>, Fail> {
+// The file that a source is, with tables of its own. Other sources are much shorter than this test
+// takes them.
+fn read(alloc: Global, source: &[u8]) -> Result<File, Fail> {
     let mut names = Names::new(alloc);
     let mut texts = Texts::new(alloc);
+    let front = &source[..source.len().min(100_000)];
+    let tokens = tokens(alloc, front, &mut names, &mut texts)?;
+    Ok(parse(alloc, &tokens, names, texts)?)
+}
+
+// A source that is read and printed again.
+fn printed(alloc: Global, source: &[u8]) -> Result<Vec<u8>, Fail> {
+    let file = read(alloc, source)?;
     let mut out = Vec::new(alloc);
-    if source.len() > 100_000 {
-        return Ok(out);
-    }
-    let tokens = tokens(alloc, source, &mut names, &mut texts)?;
-    let file = parse(alloc, &tokens, names, texts)?;
     print(alloc, &file, &mut out)?;
     Ok(out)
 }
 
-// Whether a source is printed as this text, and the text as itself.
+// Whether two sources say the same.
+fn say_the_same(alloc: Global, source: &[u8], other: &[u8]) -> Result<bool, Fail> {
+    let file = read(alloc, source)?;
+    let other_file = read(alloc, other)?;
+    Ok(same(&file, &other_file))
+}
+
+// Whether a source is printed as this text, which says the same and is printed as itself.
 fn is_printed_as(alloc: Global, source: &[u8], text: &[u8]) -> Result<bool, Fail> {
     let first = printed(alloc, source)?;
     let second = printed(alloc, text)?;
-    Ok(first.as_slice() == text && second.as_slice() == text)
+    let is_same = say_the_same(alloc, source, text)?;
+    Ok(first.as_slice() == text && second.as_slice() == text && is_same)
 }
 
 #[test]
@@ -120,5 +133,37 @@ fn parentheses(rt: HostRuntime) -> Result<(), Fail> {
             b"main (p) {\n  p show 1 - 2 - (3 - x);\n  p show -(1 + 2);\n  p show !(a && b);\n  p show (1 < 2) == true;\n  p show a && (b && c) || (d || e);\n  end\n}\n".as_slice()
         )?
     );
+    Ok(())
+}
+
+#[test]
+fn order_within_a_kind_makes_a_difference(rt: HostRuntime) -> Result<(), Fail> {
+    let alloc = rt.alloc();
+    let source = b"proc F(){end}proc G(){end}service a:P(A);main(p){end}".as_slice();
+    let kinds_mixed = b"service a:P(A);proc F(){end}proc G(){end}main(p){end}".as_slice();
+    let exchanged = b"proc G(){end}proc F(){end}service a:P(A);main(p){end}".as_slice();
+    assert!(rt; say_the_same(alloc, source, kinds_mixed)?);
+    assert!(rt; !say_the_same(alloc, source, exchanged)?);
+    Ok(())
+}
+
+#[test]
+fn words_texts_and_numbers_make_a_difference(rt: HostRuntime) -> Result<(), Fail> {
+    let alloc = rt.alloc();
+    let source = b"main(p){p show \"x\";p.x:=1+2;call F(p)}".as_slice();
+    let spaced = b"main (p) { p show \"x\"; p.x := (1 + 02); call F (p) }".as_slice();
+    let other_word = b"main(p){p show \"x\";p.y:=1+2;call F(p)}".as_slice();
+    let other_text = b"main(p){p show \"y\";p.x:=1+2;call F(p)}".as_slice();
+    let other_number = b"main(p){p show \"x\";p.x:=1+3;call F(p)}".as_slice();
+    let other_operator = b"main(p){p show \"x\";p.x:=1-2;call F(p)}".as_slice();
+    let one_statement_less = b"main(p){p show \"x\";call F(p)}".as_slice();
+    let one_argument_more = b"main(p){p show \"x\";p.x:=1+2;call F(p,p)}".as_slice();
+    assert!(rt; say_the_same(alloc, source, spaced)?);
+    assert!(rt; !say_the_same(alloc, source, other_word)?);
+    assert!(rt; !say_the_same(alloc, source, other_text)?);
+    assert!(rt; !say_the_same(alloc, source, other_number)?);
+    assert!(rt; !say_the_same(alloc, source, other_operator)?);
+    assert!(rt; !say_the_same(alloc, source, one_statement_less)?);
+    assert!(rt; !say_the_same(alloc, source, one_argument_more)?);
     Ok(())
 }

@@ -1,0 +1,9 @@
+use Rattle.canonical_laws.proofs.Anew.{is_settled}
+use Rattle.canonical_laws.proofs.SameText.{same_text}
+use Rattle.canonical_laws.proofs.laws.text_is_settled.Goals as goal
+
+pub returns-clause-same : goal.returns-clause-same
+returns-clause-same c = same_text
+
+pub returns-clause-settled : goal.returns-clause-settled
+returns-clause-settled c bytes written us f g read = is_settled bytes written f read us g
