@@ -9,8 +9,8 @@ use Rattle.chor_tree.specs.declared.tree.Node.{Node as TreeNode}
 use Rattle.chor_tree.specs.declared.tree.NodeId.{NodeId}
 use Rattle.chor_tree.specs.declared.tree.Form.{Form}
 use Rattle.chor_tree.specs.declared.tree.Form.TheVariants.{Start, Value, Label, Give, Set, Host, Show, If, Call, End}
-use Rattle.chor_parser.specs.Source.{Statement, Starts, Sends, Selects, Gives, Sets, Asks, Shows, Block, nowhere, block_in, block_of, blocks_of, source_of}
-use Rattle.chor_parser.specs.Source as source
+use Rattle.chor_tree.specs.Source.{Statement, Starts, Sends, Selects, Gives, Sets, Asks, Shows, Block, nowhere, block_in, block_of, blocks_of, source_of}
+use Rattle.chor_tree.specs.Source as source
 use Rattle.chor_semantics.specs.Choreography.{OfValue, OfLabel, OfPart, Node, Communicates, Alone, Choreography, Then, Either, Calls, Ends}
 use Rattle.chor_semantics.specs.Choreography as node
 use Rattle.chor_semantics.specs.Sources.{name_ref, parts_of, served_of, tree_in, form_tree, grown, trees_of}

@@ -10,7 +10,7 @@ use Rattle.chor_lexer.specs.Refusal.{Refuses}
 use Rattle.chor_lexer.specs.Tokens.{AreTokensOf}
 use Rattle.chor_lexer.proofs.Cuts.{not_both}
 use Rattle.chor_lexer.proofs.Faults.{one_refusal}
-use Rattle.chor_parser.specs.Source.{source_of}
+use Rattle.chor_tree.specs.Source.{source_of}
 use Rattle.chor_parser.specs.Faults.{IsFirstFault, IsRefusal, IsWithin}
 use Rattle.chor_cmd.specs.ThinFile.{IsThin}
 use Rattle.chor_cmd.specs.Source.{IsFileOf, IsNoSource, tokens, grammar, IsDenialOfTokens}

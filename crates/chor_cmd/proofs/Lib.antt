@@ -18,5 +18,6 @@ pub mod Checked
 pub mod Whole
 pub mod SameBodies
 pub mod SameFaults
+pub mod SameTexts
 pub mod Settled
 pub mod Followed

@@ -6,7 +6,7 @@ use Rattle.token_grammar.specs.Symbols.{AllowsFirst}
 use Rattle.chor_tree.specs.declared.file.File.{File}
 use Rattle.chor_tree.specs.declared.protocol.Protocol.{Protocol}
 use Rattle.chor_tree.specs.declared.protocol.State.{State}
-use Rattle.chor_parser.specs.Source.{Items, source_of}
+use Rattle.chor_tree.specs.Source.{Items, source_of}
 use Rattle.chor_parser.specs.Grammar.{StateIs, a_state, MoreStatesAre, no_state, one_state, StatesAre, some_states, ProtocolIs, a_protocol, ItemsAre, no_item, protocol_first, service_first, procedure_first, FileIs, a_file}
 use Rattle.chor_parser.specs.Limits.{KeepsMoreStates, KeepsStates, KeepsProtocol, KeepsItems, KeepsAll}
 use Rattle.chor_parser.specs.Faults.{IsWithin}

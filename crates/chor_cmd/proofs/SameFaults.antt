@@ -1,101 +1,115 @@
 -- Files of the same bytes violate the same rules.
-use Rattle.std.proofs.Common.{◌≡◌, ℕ, List, [], ◌∷◌, ◌++◌, map, refl, sym, ap, ◌∙◌, subst, None}
+use Rattle.std.proofs.Common.{◌≡◌, ℕ, List, [], ◌++◌, map, refl, sym, ap, ◌∙◌, subst, None}
 use Rattle.std.specs.Prelude.{Contains, flat_map}
+use Rattle.std.proofs.lemmas.List.Folds.{flat_map-map}
+use Rattle.std.proofs.lemmas.Simd.{map-map}
+use Rattle.chor_base.specs.declared.names.NameId.{NameId}
 use Rattle.chor_base.specs.declared.rule.Place.{Place}
 use Rattle.chor_base.specs.declared.rule.Rule.{Rule}
+use Rattle.chor_base.specs.declared.rule.Rule.TheVariants.{N2}
 use Rattle.chor_base.specs.declared.rule.Denied.TheVariants.{Refused}
 use Rattle.chor_tree.specs.declared.file.File.{File}
+use Rattle.chor_tree.specs.declared.file.Proc.{Proc}
+use Rattle.chor_tree.specs.declared.file.Service.{Service}
+use Rattle.chor_tree.specs.declared.file.SessionParam.{SessionParam}
 use Rattle.chor_tree.specs.declared.protocol.Payload.{Payload}
 use Rattle.chor_tree.specs.declared.protocol.Payload.TheVariants.{Plain, Endpoint}
 use Rattle.chor_tree.specs.declared.protocol.Protocol.{Protocol}
 use Rattle.chor_tree.specs.declared.protocol.ProtoStep.{ProtoStep}
 use Rattle.chor_tree.specs.declared.protocol.ProtoStep.TheVariants.{End, Value, Choice}
-use Rattle.chor_tree.specs.Names.{NameFault, names_in, unknown, repeated, payload_faults, step_faults, protocol_faults, channel_faults, procedure_faults, declaration_faults, scope_of_main, scope_of_procedure, IsNameFault, in_a_declaration, in_main, in_a_procedure}
+use Rattle.chor_tree.specs.Names.{NameFault, names_in, is_among, fault_if, first_named, protocols_of, protocol_of, unknown, unknown_role, wrong_roles, repeated, payload_faults, step_faults, protocol_faults, channel_faults, session_faults, procedure_faults, declaration_faults, scope_of_main, scope_of_procedure, IsBodyFault, IsNameFault, in_a_declaration, in_main, in_a_procedure}
 use Rattle.global_types.specs.Faults as types
 use Rattle.global_types.specs.Faults.{fault, faults_of, IsFirst}
 use Rattle.local_types.specs.Reading.{IsFirstRefusal}
-use Rattle.chor_parser.specs.Source.{Procedure, Source, procedure_of, source_of}
+use Rattle.chor_tree.specs.Source.{Procedure, Source, procedure_of, source_of}
 use Rattle.chor_cmd.specs.Source.{IsFileOf, HasFineNames, Breaks, names, protocols, views}
 use Rattle.chor_cmd.proofs.Files.{one_file}
 use Rattle.chor_cmd.proofs.OneReading.{one_list}
-use Rattle.chor_cmd.proofs.SameBodies.{contains_map, contains_of_map, map_twice, head_of, heads_of, bare, heads_are, IsFaultIn, of_block, of_body}
+use Rattle.chor_cmd.proofs.SameBodies.{contains_map, contains_of_map, head_of, bare, by_heads, channels_same, carried}
 
-flat_map_after : {A B C : Type 0} (h : B → List C) (v : A → B) (xs : List A) → flat_map h (map v xs) ≡ flat_map (λ x. h (v x)) xs
-flat_map_after h v [] = refl
-flat_map_after h v (x ∷ xs) = ap (λ l. h (v x) ++ l) (flat_map_after h v xs)
+-- ---- the faults outside of bodies, of two files with the same source
 
--- ---- the faults outside of bodies
+module _ (f g : File) (same : source_of f ≡ source_of g) where
+  declared_same : f.protocols ≡ g.protocols
+  declared_same = ap (λ (s : Source). s.items.protocols) same
 
-module _ (f : File) where
-  abbrev heads : File
-  heads = heads_of f.names (source_of f)
+  protocols_same : protocols_of f ≡ protocols_of g
+  protocols_same = ap (map (λ p. p.name.name)) declared_same
 
-  payload_same : (p : Payload) → payload_faults heads p ≡ payload_faults f p
+  named_same : (x : NameId) → protocol_of f x ≡ protocol_of g x
+  named_same x = ap (λ ps. first_named (λ p. p.name) ps x) declared_same
+
+  payload_same : (p : Payload) → payload_faults f p ≡ payload_faults g p
   payload_same (Plain s) = refl
-  payload_same (Endpoint p s r) = refl
+  payload_same (Endpoint p s r) = λ i. unknown (protocols_same i) p ++ unknown_role (named_same p.name i) r
 
-  step_same : (p : Protocol) (s : ProtoStep) → step_faults heads p s ≡ step_faults f p s
+  step_same : (p : Protocol) (s : ProtoStep) → step_faults f p s ≡ step_faults g p s
   step_same p End = refl
   step_same p (Value a b c next) = λ i. unknown (names_in p.roles) a ++ unknown (names_in p.roles) b ++ payload_same c i
   step_same p (Choice a b arms) = refl
 
-  protocol_same : (p : Protocol) → protocol_faults heads p ≡ protocol_faults f p
+  protocol_same : (p : Protocol) → protocol_faults f p ≡ protocol_faults g p
   protocol_same p = λ i. repeated [] p.roles ++ repeated [] (map (λ s. s.name) p.states) ++ flat_map (λ s. step_same p s.step i) p.states
 
-  heads_names : map (λ p. p.name) heads.procs ≡ map (λ p. p.name) f.procs
-  heads_names = ap (map (λ p. p.name)) (heads_are f.tree.nodes f.procs) ∙ map_twice (λ p. p.name) bare f.procs
+  channel_same : (s : Service) → channel_faults f s ≡ channel_faults g s
+  channel_same s = λ i. unknown (protocols_same i) s.protocol ++ wrong_roles (named_same s.protocol.name i) s
 
-  procedures_same : flat_map (procedure_faults heads) heads.procs ≡ flat_map (procedure_faults f) f.procs
-  procedures_same = ap (flat_map (procedure_faults heads)) (heads_are f.tree.nodes f.procs) ∙ flat_map_after (procedure_faults heads) bare f.procs
+  session_same : (params : List NameId) (k : SessionParam) → session_faults f params k ≡ session_faults g params k
+  session_same params k =
+      λ i. fault_if (is_among (channels_same f g same i) k.name.name) N2 k.name ++ unknown (protocols_same i) k.protocol
+      ++ flat_map (λ h. unknown_role (named_same k.protocol.name i) h.0 ++ unknown params h.1) k.holders
+      ++ repeated [] (map (λ h. h.0) k.holders)
 
-  declarations_same : declaration_faults heads ≡ declaration_faults f
+  procedure_same : (p : Proc) → procedure_faults f p ≡ procedure_faults g p
+  procedure_same p =
+      λ i. repeated [] (map (λ q. q.name) p.params ++ map (λ k. k.name) p.sessions)
+      ++ flat_map (λ q. repeated [] (map (λ v. v.0) q.vars)) p.params
+      ++ flat_map (λ k. session_same (map (λ q. q.name.name) p.params) k i) p.sessions
+
+  procedures_same : flat_map (procedure_faults f) f.procs ≡ flat_map (procedure_faults g) g.procs
+  procedures_same = (λ i. flat_map (λ p. procedure_same p i) f.procs) ∙ by_heads f g same (flat_map (procedure_faults g)) (flat_map-map (procedure_faults g) bare)
+
+  names_same : map (λ p. p.name) f.procs ≡ map (λ p. p.name) g.procs
+  names_same = by_heads f g same (map (λ p. p.name)) (map-map (λ p. p.name) bare)
+
+  declarations_same : declaration_faults f ≡ declaration_faults g
   declarations_same =
-      λ i. repeated [] (map (λ p. p.name) f.protocols) ++ flat_map (λ p. protocol_same p i) f.protocols
-      ++ repeated [] (map (λ s. s.name) f.services) ++ flat_map (channel_faults f) f.services
-      ++ repeated [] (heads_names i) ++ procedures_same i
-      ++ repeated [] f.processes
+      λ i. repeated [] (map (λ p. p.name) (declared_same i)) ++ flat_map (λ p. protocol_same p i) (declared_same i)
+      ++ repeated [] (map (λ s. s.name) (same i).items.services) ++ flat_map (λ s. channel_same s i) (same i).items.services
+      ++ repeated [] (names_same i) ++ procedures_same i
+      ++ repeated [] (same i).processes
 
-  types_same : faults_of heads ≡ faults_of f
-  types_same =
-      ap (λ l. flat_map (types.protocol_faults f.protocols) f.protocols ++ l)
-      (ap (flat_map (types.procedure_faults f.protocols)) (heads_are f.tree.nodes f.procs) ∙ flat_map_after (types.procedure_faults f.protocols) bare f.procs)
+  sessions_same : flat_map (types.procedure_faults f.protocols) f.procs ≡ flat_map (types.procedure_faults g.protocols) g.procs
+  sessions_same =
+      ap (λ ps. flat_map (types.procedure_faults ps) f.procs) declared_same
+      ∙ by_heads f g same (flat_map (types.procedure_faults g.protocols)) (flat_map-map (types.procedure_faults g.protocols) bare)
 
--- ---- a fault of the names is told by the names and the source
+  types_same : faults_of f ≡ faults_of g
+  types_same = λ i. flat_map (types.protocol_faults (declared_same i)) (declared_same i) ++ sessions_same i
 
-data IsFaultOf (ns : List (List ℕ)) (s : Source) (hosts : List (List ℕ)) (x : NameFault) : Type 0 where
-  in_heads : Contains (declaration_faults (heads_of ns s)) x → IsFaultOf ns s hosts x
-  in_body : IsFaultIn (heads_of ns s) hosts x (scope_of_main (heads_of ns s)) s.body → IsFaultOf ns s hosts x
-  in_procedure : {p : Procedure} → Contains s.items.procedures p → IsFaultIn (heads_of ns s) hosts x (scope_of_procedure (head_of p)) p.body → IsFaultOf ns s hosts x
+-- ---- the rules that they violate, where they have the same names besides
 
-module _ (hosts : List (List ℕ)) (x : NameFault) where
-  told : (f : File) → IsNameFault f hosts x → IsFaultOf f.names (source_of f) hosts x
-  told f (in_a_declaration m) = in_heads (subst (λ xs. Contains xs x) (sym (declarations_same f)) m)
-  told f (in_main b) = in_body (of_block f hosts x (scope_of_main f) f.body b)
-  told f (in_a_procedure {p = p} m b) = in_procedure {p = procedure_of f.tree.nodes p} (contains_map (procedure_of f.tree.nodes) f.procs p m) (of_block f hosts x (scope_of_procedure p) p.body b)
-
-  found : (f : File) → IsFaultOf f.names (source_of f) hosts x → IsNameFault f hosts x
-  found f (in_heads m) = in_a_declaration (subst (λ xs. Contains xs x) (declarations_same f) m)
-  found f (in_body b) = in_main (of_body f hosts x (scope_of_main f) (source_of f).body f.body b refl)
-  found f (in_procedure {p = q} m b) =
-      let c = contains_of_map (procedure_of f.tree.nodes) f.procs q m in
-      in_a_procedure c.1 (of_body f hosts x (scope_of_procedure c.0) q.body c.0.body (subst (λ s. IsFaultIn (heads_of f.names (source_of f)) hosts x s q.body) (ap (λ (p : Procedure). scope_of_procedure (head_of p)) (sym c.2)) b) (ap (λ (p : Procedure). p.body) c.2))
-
--- files with the same names and the same source
 module _ (hosts : List (List ℕ)) (f g : File) (same_names : f.names ≡ g.names) (same : source_of f ≡ source_of g) where
   name_fault : (x : NameFault) → IsNameFault f hosts x → IsNameFault g hosts x
-  name_fault x h = found hosts x g (subst (λ s. IsFaultOf g.names s hosts x) same (subst (λ ns. IsFaultOf ns (source_of f) hosts x) same_names (told hosts x f h)))
-
-  same_types : faults_of f ≡ faults_of g
-  same_types = sym (types_same f) ∙ (λ i. faults_of (heads_of (same_names i) (same i))) ∙ types_same g
+  name_fault x (in_a_declaration m) = in_a_declaration (subst (λ xs. Contains xs x) (declarations_same f g same) m)
+  name_fault x (in_main b) =
+      let scope : scope_of_main f ≡ scope_of_main g = ap (λ (s : Source). record { processes = names_in s.processes; sessions = [] }) same in
+      in_main (subst (λ s. IsBodyFault g hosts x s g.body) scope (carried f g same same_names hosts x (scope_of_main f) f.body g.body (ap (λ (s : Source). s.body) same) b))
+  name_fault x (in_a_procedure {p = p} m b) =
+      let mine = procedure_of f.tree.nodes p in
+      let c = contains_of_map (procedure_of g.tree.nodes) g.procs mine (subst (λ (s : Source). Contains s.items.procedures mine) same (contains_map (procedure_of f.tree.nodes) f.procs p m)) in
+      let scope = ap (λ (q : Procedure). scope_of_procedure (head_of q)) (sym c.2) in
+      in_a_procedure c.1 (subst (λ s. IsBodyFault g hosts x s c.0.body) scope
+      (carried f g same same_names hosts x (scope_of_procedure p) p.body c.0.body (ap (λ (q : Procedure). q.body) (sym c.2)) b))
 
   fine_names : ((x : NameFault) → IsNameFault g hosts x → IsNameFault f hosts x) → HasFineNames hosts f → HasFineNames hosts g
   fine_names back fine x h = fine x (back x h)
 
   same_breaks : ((x : NameFault) → IsNameFault g hosts x → IsNameFault f hosts x) → (rule : Rule) (place : Place) → Breaks hosts f rule place → Breaks hosts g rule place
   same_breaks back rule place (names h) = names (record { fault = name_fault (rule, place) h.fault; first = λ y k. h.first y (back y k) })
-  same_breaks back rule place (protocols fine h) = protocols (fine_names back fine) (subst (λ xs. IsFirst xs (fault rule place)) same_types h)
+  same_breaks back rule place (protocols fine h) = protocols (fine_names back fine) (subst (λ xs. IsFirst xs (fault rule place)) (types_same f g same) h)
   same_breaks back rule place (views fine right h) =
-      views (fine_names back fine) (sym same_types ∙ right) (subst (λ ps. IsFirstRefusal ps (Refused (record { rule = rule; place = place; who = None }))) (ap (λ (s : Source). s.items.protocols) same) h)
+      views (fine_names back fine) (sym (types_same f g same) ∙ right) (subst (λ ps. IsFirstRefusal ps (Refused (record { rule = rule; place = place; who = None }))) (declared_same f g same) h)
 
 pub faults_alike : (hosts : List (List ℕ)) (bytes : List ℕ) (f g : File) (rule : Rule) (place : Place) → IsFileOf bytes f → IsFileOf bytes g → Breaks hosts f rule place → Breaks hosts g rule place
 faults_alike hosts bytes f g rule place i j b =

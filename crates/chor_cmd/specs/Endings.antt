@@ -14,15 +14,16 @@ use Rattle.projection.specs.Projects.{Projects}
 use Rattle.endpoint_text.specs.Text.{endpoints_text}
 use Rattle.chor_io.specs.Outside.{Risen, GrowsByFront}
 use Rattle.transcript.specs.Text.{Words as Book, transcript}
+use Rattle.chor_print.specs.Text.{canonical_text}
 use Rattle.chor_cmd.specs.declared.words.Words.{Words}
 use Rattle.chor_cmd.specs.declared.status.Status.{Status}
 use Rattle.chor_cmd.specs.declared.status.Status.TheVariants.{Done, Refused, Usage, ReadFault, WriteFault, Memory, TooLarge, Unbuilt}
 use Rattle.chor_cmd.specs.declared.words.Command.{Command}
-use Rattle.chor_cmd.specs.declared.words.Command.TheVariants.{Run, Project, Types}
+use Rattle.chor_cmd.specs.declared.words.Command.TheVariants.{Run, Project, Types, Fmt}
 use Rattle.chor_cmd.specs.Words.{IsForm, NamesFile, HasNoForm}
 use Rattle.chor_cmd.specs.Thin.{Thin}
 use Rattle.chor_cmd.specs.ThinFile.{plain, IsRunnable, IsThin}
-use Rattle.chor_cmd.specs.Source.{Breaks, IsAccepted, Violates}
+use Rattle.chor_cmd.specs.Source.{Breaks, IsAccepted, IsNoSource, Violates}
 use Rattle.chor_cmd.specs.Types.{IsTypesText}
 
 -- the files by name, where they are told
@@ -76,17 +77,19 @@ abbrev pub IsOutput : Command → File → List ℕ → Type 0
 IsOutput (Run word) f text = (t : Thin) × IsRunnable f t × RunsShape f t text
 IsOutput (Project word) f text = IsThin f × IsProjectionText f text
 IsOutput (Types word) f text = IsTypesText f text
+IsOutput (Fmt word) f text = text ≡ canonical_text f
 
 -- the command handles thin files only, so far
 abbrev pub NeedsThin : Command → Type 0
 NeedsThin (Run word) = Unit {0}
 NeedsThin (Project word) = Unit {0}
 NeedsThin (Types word) = ⊥
+NeedsThin (Fmt word) = ⊥
 
 -- what a command writes for a file with these bytes
 pub record Answers (hosts : List (List ℕ)) (command : Command) (bytes text : List ℕ) : Type 0 where
   pub file : File
-  pub source : IsAccepted hosts bytes file
+  pub source : IsAccepted command hosts bytes file
   pub output : IsOutput command file text
 
 abbrev pub line_naming : List ℕ → List ℕ → List ℕ
@@ -96,9 +99,9 @@ line_naming what name = what ++ name ++ 10 ∷ []
 abbrev pub refused_line : Rule → Place → List ℕ
 refused_line rule place = codes "refused " ++ rule_name rule ++ codes " " ++ decimal place.line ++ codes ":" ++ decimal place.col ++ 10 ∷ []
 
--- the text is the line of a rule that the bytes violate at this place
-abbrev pub IsRefusedAt : List (List ℕ) → List ℕ → Place → List ℕ → Type 0
-IsRefusedAt hosts bytes place text = (rule : Rule) × Violates hosts bytes rule place × (text ≡ refused_line rule place)
+-- the text is the line of a rule of tokens or of the grammar that the bytes violate at this place
+abbrev pub IsRefusedAt : List ℕ → Place → List ℕ → Type 0
+IsRefusedAt bytes place text = (rule : Rule) × IsNoSource bytes rule place × (text ≡ refused_line rule place)
 
 -- the text is the line of a rule that the file breaks
 abbrev pub IsRefusedBy : List (List ℕ) → File → List ℕ → Type 0
@@ -113,9 +116,9 @@ pub data Ends (hosts : List (List ℕ)) (words : Words) (files : Told) (before a
       → Ends hosts words files before after ReadFault (line_naming (codes "read fault ") name)
   too_large : (name : List ℕ) → NamesFile words name → ((bytes : List ℕ) → Tells files name bytes → source_limit < length bytes)
       → Ends hosts words files before after TooLarge (line_naming (codes "too large ") name)
-  refused : (name bytes : List ℕ) (rule : Rule) (place : Place) → NamesFile words name → TellsOnly files name bytes → length bytes ≤ source_limit → Violates hosts bytes rule place
+  refused : (command : Command) (name bytes : List ℕ) (rule : Rule) (place : Place) → IsForm words command name → TellsOnly files name bytes → length bytes ≤ source_limit → Violates command hosts bytes rule place
       → Ends hosts words files before after Refused (refused_line rule place)
-  unbuilt : (command : Command) (name bytes : List ℕ) (f : File) → IsForm words command name → NeedsThin command → TellsOnly files name bytes → length bytes ≤ source_limit → IsAccepted hosts bytes f → (IsThin f → ⊥)
+  unbuilt : (command : Command) (name bytes : List ℕ) (f : File) → IsForm words command name → NeedsThin command → TellsOnly files name bytes → length bytes ≤ source_limit → IsAccepted command hosts bytes f → (IsThin f → ⊥)
       → Ends hosts words files before after Unbuilt (codes "not built\n")
   done : (command : Command) (name bytes text : List ℕ) → IsForm words command name → TellsOnly files name bytes → length bytes ≤ source_limit → Answers hosts command bytes text
       → Ends hosts words files before after Done text

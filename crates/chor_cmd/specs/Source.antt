@@ -13,8 +13,17 @@ use Rattle.chor_tree.specs.Names.{NameFault, IsNameFault, IsFirstNameFault}
 use Rattle.global_types.specs.Moves.{IsIn}
 use Rattle.global_types.specs.Faults.{fault, faults_of, IsFirst}
 use Rattle.local_types.specs.Reading.{HasFineRoles, IsFirstRefusal}
-use Rattle.chor_parser.specs.Source.{source_of}
+use Rattle.chor_tree.specs.Source.{source_of}
 use Rattle.chor_parser.specs.Faults.{IsFirstFault, IsWithin}
+use Rattle.chor_cmd.specs.declared.words.Command.{Command}
+use Rattle.chor_cmd.specs.declared.words.Command.TheVariants.{Run, Project, Types, Fmt}
+
+-- The command applies the rules of names, protocols and views. Each command applies those of tokens and of the grammar
+abbrev pub Judges : Command → Type 0
+Judges (Run word) = Unit {0}
+Judges (Project word) = Unit {0}
+Judges (Types word) = Unit {0}
+Judges (Fmt word) = ⊥
 
 -- The bytes are the text of this file: their tokens are a source within the limits, which is the file's, and its tables are
 -- those that the tokens fill
@@ -54,28 +63,28 @@ abbrev pub IsBroken : List (List ℕ) → File → Denied → Type 0
 IsBroken hosts f (Refused r) = Breaks hosts f r.rule r.place
 IsBroken hosts f Memory = Unit {0}
 
--- ---- the bytes
+-- ---- the bytes, for a command
 
--- The bytes are the text of this file, which violates no rule
-pub record IsAccepted (hosts : List (List ℕ)) (bytes : List ℕ) (f : File) : Type 0 where
+-- The bytes are the text of this file, which violates no rule that the command applies
+pub record IsAccepted (command : Command) (hosts : List (List ℕ)) (bytes : List ℕ) (f : File) : Type 0 where
   pub file : IsFileOf bytes f
-  pub faultless : IsFaultless hosts f
+  pub faultless : Judges command → IsFaultless hosts f
 
 -- The bytes aren't made of tokens, or their tokens are no source within the limits, by this rule, at this place
 pub data IsNoSource (bytes : List ℕ) (rule : Rule) (place : Place) : Type 0 where
   tokens : Refuses bytes rule place → IsNoSource bytes rule place
   grammar : {names texts : List (List ℕ)} {ts : List Token} → AreTokensOf bytes [] [] names texts ts → IsFirstFault names ts rule place → IsNoSource bytes rule place
 
--- The bytes violate this rule at this place, and none of the classes before: they are no source, or the file that they are
--- the text of breaks it
-pub data Violates (hosts : List (List ℕ)) (bytes : List ℕ) (rule : Rule) (place : Place) : Type 0 where
-  unread : IsNoSource bytes rule place → Violates hosts bytes rule place
-  broken : {f : File} → IsFileOf bytes f → Breaks hosts f rule place → Violates hosts bytes rule place
+-- The bytes violate this rule, which the command applies, at this place, and none of the classes before: they are no source,
+-- or the file that they are the text of breaks it
+pub data Violates (command : Command) (hosts : List (List ℕ)) (bytes : List ℕ) (rule : Rule) (place : Place) : Type 0 where
+  unread : IsNoSource bytes rule place → Violates command hosts bytes rule place
+  broken : {f : File} → Judges command → IsFileOf bytes f → Breaks hosts f rule place → Violates command hosts bytes rule place
 
 -- a refusal is right; want of memory tells nothing
-abbrev pub IsDenialOf : List (List ℕ) → List ℕ → Denied → Type 0
-IsDenialOf hosts bytes (Refused r) = Violates hosts bytes r.rule r.place
-IsDenialOf hosts bytes Memory = Unit {0}
+abbrev pub IsDenialOf : Command → List (List ℕ) → List ℕ → Denied → Type 0
+IsDenialOf command hosts bytes (Refused r) = Violates command hosts bytes r.rule r.place
+IsDenialOf command hosts bytes Memory = Unit {0}
 
 abbrev pub IsDenialOfTokens : List ℕ → Denied → Type 0
 IsDenialOfTokens bytes (Refused r) = IsNoSource bytes r.rule r.place

@@ -3,7 +3,7 @@ use Rattle.std.specs.Prelude.{ℕ, ◌≡◌, ◌≢◌, List, [], ◌∷◌, co
 use Rattle.std.specs.Str.{IsUtf8}
 use Rattle.chor_cmd.specs.declared.words.Words.{Words}
 use Rattle.chor_cmd.specs.declared.words.Command.{Command}
-use Rattle.chor_cmd.specs.declared.words.Command.TheVariants.{Run, Project, Types}
+use Rattle.chor_cmd.specs.declared.words.Command.TheVariants.{Run, Project, Types, Fmt}
 
 -- the word doesn't begin as an option does
 abbrev pub BeginsPlain : List ℕ → Type 0
@@ -20,12 +20,14 @@ abbrev pub command_word : Command → List ℕ
 command_word (Run file) = codes "run"
 command_word (Project file) = codes "project"
 command_word (Types file) = codes "types"
+command_word (Fmt file) = codes "fmt"
 
 -- the index of a command's file word
 abbrev pub file_index : Command → ℕ
 file_index (Run file) = file
 file_index (Project file) = file
 file_index (Types file) = file
+file_index (Fmt file) = file
 
 -- the word is that of this command, whose file is the word after it
 abbrev pub IsCommand : List ℕ → Command → Type 0

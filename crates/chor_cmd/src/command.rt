@@ -9,9 +9,10 @@ ghost use Rattle.chor_host.specs.Tables.{functions_of};
 ghost use Rattle.chor_tree.specs.declared.protocol.Protocol.{Protocol};
 ghost use Rattle.global_types.specs.Moves.{IsIn};
 ghost use Rattle.local_types.specs.Reading.{IsProper};
-ghost use Rattle.chor_cmd.specs.Source.{IsAccepted, HasFineViews};
+ghost use Rattle.chor_cmd.specs.Source.{Judges, IsAccepted, HasFineViews};
 ghost use Rattle.chor_cmd.specs.Endings.{HasEnded, IsOutput, NeedsThin, Told, TellsOnly, source_limit};
 
+use crate::canonical::canonical_of;
 use crate::endpoints::{endpoints_of, text_of_endpoints};
 use crate::output::{finish, finish_denying, finish_naming};
 use crate::run::transcript_of;
@@ -36,8 +37,9 @@ const SOURCE_LIMIT: u64 = 1 << 20;
 /// endpoint programs. So far both handle thin files: one protocol, one channel and two processes
 /// that exchange at most 255 numbers in one session. For any other source they write `not built`.
 /// `types FILE` writes the local types of all roles. For a file that violates a rule of tokens, of
-/// the grammar, of names, of protocols or of views, each command writes `refused` with this rule and
-/// the place. A file may call the host functions of this table.
+/// the grammar, of names, of protocols or of views, these commands write `refused` with this rule
+/// and the place. A file may call the host functions of this table. `fmt FILE` writes the canonical
+/// text of the file. It applies the rules of tokens and of the grammar alone.
 ///
 /// The gate is for runs with workers, which aren't there yet.
 pub fn chor<F: Shelf, K: Sink, G: Gate + Sync>(
@@ -105,18 +107,18 @@ fn answer_bytes<K: Sink>(
     requires { length bytes.now ≤ 2 ^ 20 }
     ensures { (words : CommandWords) (files : Told) (before after : List ℕ → ℕ) (name : List ℕ) → IsForm words command name → TellsOnly files name bytes.now → HasEnded (names_of (functions_of hosts.now)) words files before after (K.faults out.old) (K.faults out.new) (K.written out.old) (K.written out.new) result }
 {
-    match read(alloc, bytes, hosts) {
+    match read(alloc, command, bytes, hosts) {
         Ok(file) => answer_file(alloc, command, &file, out),
         Err(denied) => finish_denying(alloc, out, &denied),
     }
 }
 
-// Answers the command for a file that violates no rule.
+// Answers the command for a file that violates no rule that it applies.
 fn answer_file<K: Sink>(alloc: Global, command: Command, file: &File, out: &mut K) -> Status
     requires body { file.now.body.0 < length file.now.tree.nodes }
     requires proper { (p : Protocol) → IsIn p file.now.protocols → IsProper p }
-    requires views { HasFineViews file.now }
-    ensures { (hosts : List (List ℕ)) (words : CommandWords) (files : Told) (before after : List ℕ → ℕ) (name bytes : List ℕ) → IsForm words command name → TellsOnly files name bytes → length bytes ≤ source_limit → IsAccepted hosts bytes file.now → HasEnded hosts words files before after (K.faults out.old) (K.faults out.new) (K.written out.old) (K.written out.new) result }
+    requires views { Judges command → HasFineViews file.now }
+    ensures { (hosts : List (List ℕ)) (words : CommandWords) (files : Told) (before after : List ℕ → ℕ) (name bytes : List ℕ) → IsForm words command name → TellsOnly files name bytes → length bytes ≤ source_limit → IsAccepted command hosts bytes file.now → HasEnded hosts words files before after (K.faults out.old) (K.faults out.new) (K.written out.old) (K.written out.new) result }
 {
     match text_of(alloc, command, file) {
         Ok(Some(text)) => finish(out, text.as_slice(), Status::Done),
@@ -129,7 +131,7 @@ fn answer_file<K: Sink>(alloc: Global, command: Command, file: &File, out: &mut 
 fn text_of(alloc: Global, command: Command, file: &File) -> Result<Option<Vec<u8>>, Memory>
     requires body { file.now.body.0 < length file.now.tree.nodes }
     requires proper { (p : Protocol) → IsIn p file.now.protocols → IsProper p }
-    requires views { HasFineViews file.now }
+    requires views { Judges command → HasFineViews file.now }
     ensures some { IfOk result (λ text. IfSome text (λ t. IsOutput command file.now t.items)) }
     ensures none { IfOk result (λ text. IfNone text (NeedsThin command × (IsThin file.now → ⊥))) }
 {
@@ -152,6 +154,10 @@ fn text_of(alloc: Global, command: Command, file: &File) -> Result<Option<Vec<u8
         }
         Command::Types(_) => {
             let text = types_of(alloc, file)?;
+            Ok(Some(text))
+        }
+        Command::Fmt(_) => {
+            let text = canonical_of(alloc, file)?;
             Ok(Some(text))
         }
     }

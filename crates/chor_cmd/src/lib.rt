@@ -1,6 +1,7 @@
 //! The commands.
 #![tactic(auto)]
 
+mod canonical;
 mod command;
 mod endpoints;
 mod laws;
@@ -13,7 +14,7 @@ mod types;
 mod words;
 
 pub use command::chor;
-pub use laws::{no_form, thin_projections_follow, what_a_file_gets};
+pub use laws::{fmt_is_settled, no_form, thin_projections_follow, what_a_file_gets};
 pub use status::Status;
 pub use words::{Command, Words, read_words};
 

@@ -8,6 +8,7 @@ ghost use Rattle.global_types.specs.Moves.{IsIn};
 ghost use Rattle.local_types.specs.Reading.{IsProper};
 ghost use Rattle.chor_cmd.specs.Source.{IsFileOf, IsAccepted, IsFaultless, IsBroken, IsDenialOf, IsDenialOfTokens};
 
+use crate::words::Command;
 use chor_base::{Denied, Names, Texts};
 use chor_host::HostTable;
 use chor_lexer::tokens;
@@ -18,19 +19,27 @@ use local_types::check_views;
 use name_resolution::resolve;
 use std::alloc::Global;
 
-/// The file that these bytes are, which violates no rule, where it may call these host functions.
-/// The bytes are refused where they aren't made of tokens, where the tokens are no source within the
-/// limits, and where a name, a protocol or a role's view has a fault, in this order.
-#[tactic(auto, using(crate::proofs::Checked::accepted, crate::proofs::Checked::unread_so, crate::proofs::Checked::broken_so))]
-pub fn read(alloc: Global, bytes: &[u8], hosts: &HostTable) -> Result<File, Denied>
+/// The file that these bytes are, which violates no rule that the command applies, where it may call
+/// these host functions. The bytes are refused where they aren't made of tokens, where the tokens are
+/// no source within the limits, and, where the command judges files, where a name, a protocol or a
+/// role's view has a fault, in this order.
+#[tactic(auto, using(crate::proofs::Checked::accepted, crate::proofs::Checked::taken, crate::proofs::Checked::unread_so, crate::proofs::Checked::broken_so))]
+pub fn read(
+    alloc: Global,
+    command: Command,
+    bytes: &[u8],
+    hosts: &HostTable,
+) -> Result<File, Denied>
     requires { length bytes.now ≤ 2 ^ 20 }
-    ensures file { IfOk result (IsAccepted (names_of (functions_of hosts.now)) bytes.now) }
-    ensures denied { IfErr result (IsDenialOf (names_of (functions_of hosts.now)) bytes.now) }
+    ensures file { IfOk result (IsAccepted command (names_of (functions_of hosts.now)) bytes.now) }
+    ensures denied { IfErr result (IsDenialOf command (names_of (functions_of hosts.now)) bytes.now) }
     ensures body { IfOk result (λ file. file.body.0 < length file.tree.nodes) }
     ensures proper { IfOk result (λ file. (p : Protocol) → IsIn p file.protocols → IsProper p) }
 {
     let file = parsed(alloc, bytes)?;
-    check(alloc, &file, hosts)?;
+    if command.judges() {
+        check(alloc, &file, hosts)?;
+    }
     Ok(file)
 }
 

@@ -8,6 +8,10 @@ use chor_io::{MemoryShelf, MemorySink, OpenGate};
 use std::alloc::Global;
 use std::test::Fail;
 
+mod examples;
+mod fmt;
+mod worked;
+
 fn word(alloc: Global, bytes: &[u8]) -> Result<Word, Fail> {
     Ok(Word::from_vec(bytes.to_vec(alloc)?))
 }

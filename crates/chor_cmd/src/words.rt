@@ -1,6 +1,7 @@
 //! The words of the command line.
 
 ghost use Rattle.std.specs.Prelude.{◌≡◌, ◌↔◌, List, ℕ, MatchOption, IsTrue};
+ghost use Rattle.chor_cmd.specs.Source.{Judges};
 ghost use Rattle.chor_cmd.specs.Words.{IsFileWord, IsForm, HasNoForm, IsCommand, IsNoCommand};
 
 use chor_base::{List, Word};
@@ -20,6 +21,22 @@ pub enum Command {
     Project(u32),
     /// `types FILE`: writes the local types of all roles.
     Types(u32),
+    /// `fmt FILE`: writes the canonical text.
+    Fmt(u32),
+}
+
+impl Command {
+    /// Whether the command applies the rules of names, protocols and views.
+    pub fn judges(&self) -> bool
+        ensures { IsTrue result ↔ Judges self.now }
+    {
+        match self {
+            Command::Run(_) => true,
+            Command::Project(_) => true,
+            Command::Types(_) => true,
+            Command::Fmt(_) => false,
+        }
+    }
 }
 
 // Whether a word names a file: it isn't empty, is UTF-8, and doesn't begin with `-`.
@@ -43,6 +60,8 @@ fn command_of(word: &[u8]) -> Option<Command>
         Some(Command::Project(1))
     } else if word == b"types".as_slice() {
         Some(Command::Types(1))
+    } else if word == b"fmt".as_slice() {
+        Some(Command::Fmt(1))
     } else {
         None
     }

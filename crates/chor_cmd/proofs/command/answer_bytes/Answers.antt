@@ -15,4 +15,7 @@ returns-in-Err g c = λ words files before after name form only.
     let hosts = names_of (functions_of c.args.hosts.now) in
     let bytes = c.args.bytes.now in
     c.finish_denying.ensures hosts words files before after name (c.args.command, form)
-    (λ r e. refused name bytes r.rule r.place (c.args.command, form) only c.requires (subst (IsDenialOf hosts bytes) e c.in-Err.ensures.denied))
+    (λ r e. refused c.args.command name bytes r.rule r.place form only c.requires (subst (IsDenialOf c.args.command hosts bytes) e c.in-Err.ensures.denied))
+
+pub answer_file-requires-clause-views : goal.answer_file-requires-clause-views
+answer_file-requires-clause-views g c = λ judges. let h = c.in-Ok.ensures.file.faultless judges in h.views

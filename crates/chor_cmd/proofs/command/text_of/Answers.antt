@@ -1,6 +1,7 @@
 use Rattle.std.proofs.Common.{sym, subst}
 use Rattle.chor_cmd.specs.declared.words.Command.{Command}
 use Rattle.chor_cmd.specs.ThinFile.{IsThin}
+use Rattle.chor_cmd.specs.Source.{Judges}
 use Rattle.chor_cmd.specs.Endings.{IsProjectionText, IsOutput}
 use Rattle.chor_cmd.proofs.command.text_of.Goals as goal
 
@@ -22,3 +23,12 @@ returns-in_ok-text-in-Project-clause-some c =
       text_is = c.in_ok-text-in-Project.ensures;
     } in
     subst (λ (command : Command). IsOutput command file text) (sym c.in-Project.is) (thin, projected)
+
+pub returns-in_ok-text-in-Fmt-clause-some : goal.returns-in_ok-text-in-Fmt-clause-some
+returns-in_ok-text-in-Fmt-clause-some c =
+    let file = c.args.file.now in
+    let text = c.in_ok-text-in-Fmt.text.items in
+    subst (λ (command : Command). IsOutput command file text) (sym c.in-Fmt.is) c.in_ok-text-in-Fmt.ensures
+
+pub types_of-requires-clause-views : goal.types_of-requires-clause-views
+types_of-requires-clause-views c = c.requires.views (subst Judges (sym c.in-Types.is) tt)
