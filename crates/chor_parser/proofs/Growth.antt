@@ -17,7 +17,7 @@ use Rattle.chor_tree.specs.declared.tree.Node.{Node}
 use Rattle.chor_tree.specs.declared.tree.NodeId.{NodeId}
 use Rattle.chor_tree.specs.Children.{children_of}
 use Rattle.chor_tree.specs.Source.{Block, block_in, block_of, blocks_of}
-use Rattle.chor_parser.specs.Kept.{followers_in, times}
+use Rattle.chor_tree.specs.Kept.{followers_in, times}
 use Rattle.chor_parser.specs.declared.source.Declared.{Declared}
 use Rattle.chor_parser.specs.declared.statement.Statement.{Statement as Read}
 use Rattle.chor_parser.specs.declared.statement.Statement.TheVariants as read

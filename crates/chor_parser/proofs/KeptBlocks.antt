@@ -13,7 +13,7 @@ use Rattle.chor_tree.specs.declared.file.SessionParam.{SessionParam}
 use Rattle.chor_tree.specs.declared.protocol.Protocol.{Protocol}
 use Rattle.chor_tree.specs.declared.tree.Part.{Part as Role}
 use Rattle.chor_tree.specs.Source.{Statement, Block, Procedure, Items, Source}
-use Rattle.chor_parser.specs.Kept.{named_there, names_there, protocol_there, service_there, process_param_there, session_param_there, has_items, comes_after_items, protocol_filled, has_name, has_text}
+use Rattle.chor_tree.specs.Kept.{named_there, names_there, protocol_there, service_there, process_param_there, session_param_there, has_items, comes_after_items, protocol_filled, has_name, has_text}
 use Rattle.token_grammar.specs.Symbols.{Part, Further, IsPart, anywhere}
 use Rattle.chor_parser.specs.Grammar as g
 use Rattle.chor_parser.specs.Grammar.{MarkIs, WordIs, NameIs, AnyNamesAre, PartIs, ProtocolIs, ServiceIs, ParamsAre, StatementIs, BlockIs, LinesAre, TailIs, ProcedureIs, ItemsAre, FileIs}

@@ -6,18 +6,25 @@ use Rattle.std.proofs.lemmas.List.Folds.{list_all-map}
 use Rattle.chor_base.specs.declared.names.NameId.{NameId}
 use Rattle.chor_lexer.specs.declared.token.Token.{Token}
 use Rattle.chor_lexer.proofs.Each.{each_append, each_front, each_back}
-use Rattle.chor_tree.specs.declared.file.File.{File}
 use Rattle.chor_tree.specs.declared.file.Proc.{Proc}
 use Rattle.chor_tree.specs.declared.tree.Node.{Node}
 use Rattle.chor_tree.specs.declared.tree.NodeId.{NodeId}
-use Rattle.chor_tree.specs.Source.{Procedure, block_in, blocks_of, procedure_of, source_of}
-use Rattle.chor_parser.specs.Kept.{form_there, form_filled, has_name, has_text, bodies_of, followers_in, times, IsKept}
+use Rattle.chor_tree.specs.Source.{Procedure, Source, block_in, blocks_of, procedure_of}
+use Rattle.chor_tree.specs.Kept.{form_there, form_filled, has_name, has_text, bodies_of, followers_in, times, Contents, IsKept}
 use Rattle.chor_parser.specs.Known.{IsTextKnown}
 use Rattle.chor_parser.specs.Growing.{form_kept, block_kept, begins_of, Adds}
 use Rattle.chor_parser.specs.Faults.{IsWithin}
 use Rattle.chor_parser.proofs.Growth.{adds_on, times_append, times_first}
 use Rattle.chor_parser.proofs.KeptHeads.{two, four, five}
 use Rattle.chor_parser.proofs.KeptBlocks.{head_there, head_filled, SourceKept, source_good}
+
+-- the source that is made of these
+abbrev pub source_in : Contents → Source
+source_in f = record {
+  items = record { protocols = f.protocols; services = f.services; procedures = map (procedure_of f.nodes) f.procs };
+  processes = f.processes;
+  body = block_in (blocks_of f.nodes) f.body;
+}
 
 -- both tests hold of all
 all_both : {A : Type 0} (p q : A → Bool) (xs : List A) → list_all (λ x. p x && q x) xs ≡ true → (list_all p xs ≡ true) × (list_all q xs ≡ true)
@@ -41,41 +48,41 @@ body_first : (id body : NodeId) (ids more : List NodeId) → times id ((body ∷
 body_first id body ids more = omega (arith, times_first id body (ids ++ more), times_append id ids more, times_append id (ids ++ body ∷ []) more, times_append id ids (body ∷ []), times_first id body [])
 
 -- the nodes of all bodies of a file
-pub record NodesAre (f : File) : Type 0 where
-  pub adds : Adds [] f.tree.nodes (begins_of f.procs ++ f.body ∷ [])
+pub record NodesAre (f : Contents) : Type 0 where
+  pub adds : Adds [] f.nodes (begins_of f.procs ++ f.body ∷ [])
 
-pub nodes_are : {mid : List Node} (f : File) → Adds [] mid (begins_of f.procs) → Adds mid f.tree.nodes (f.body ∷ []) → NodesAre f
+pub nodes_are : {mid : List Node} (f : Contents) → Adds [] mid (begins_of f.procs) → Adds mid f.nodes (f.body ∷ []) → NodesAre f
 nodes_are f d e = record { adds = adds_on d e }
 
-nodes_kept : (f : File) → NodesAre f → SourceKept f.names f.texts (source_of f) → list_all (λ (o : Node). form_kept (has_name f.names) (has_text f.texts) o.form) f.tree.nodes ≡ true
+nodes_kept : (f : Contents) → NodesAre f → SourceKept f.names f.texts (source_in f) → list_all (λ (o : Node). form_kept (has_name f.names) (has_text f.texts) o.form) f.nodes ≡ true
 nodes_kept f a s =
     let n = has_name f.names in
     let t = has_text f.texts in
-    let Good : NodeId → Type 0 = λ r. block_kept n t (block_in (blocks_of f.tree.nodes) r) ≡ true in
-    let roots : AllByRecursion Good (begins_of f.procs ++ f.body ∷ []) = each_append Good (begins_of f.procs) (f.body ∷ []) (bodies_kept n t f.tree.nodes f.procs s.items.bodies) (s.body, tt) in
+    let Good : NodeId → Type 0 = λ r. block_kept n t (block_in (blocks_of f.nodes) r) ≡ true in
+    let roots : AllByRecursion Good (begins_of f.procs ++ f.body ∷ []) = each_append Good (begins_of f.procs) (f.body ∷ []) (bodies_kept n t f.nodes f.procs s.items.bodies) (s.body, tt) in
     ap (list_all (λ (o : Node). form_kept n t o.form)) a.adds.parts ∙ a.adds.kept n t roots
 
-body_there : (f : File) → NodesAre f → list_all (λ b. nat_lt b.0 (length f.tree.nodes)) (bodies_of f) ≡ true
+body_there : (f : Contents) → NodesAre f → list_all (λ b. nat_lt b.0 (length f.nodes)) (bodies_of f) ≡ true
 body_there f a =
-    let There : NodeId → Type 0 = λ r. r.0 < length f.tree.nodes in
+    let There : NodeId → Type 0 = λ r. r.0 < length f.nodes in
     let procs = each_front There (begins_of f.procs) (f.body ∷ []) a.adds.there in
     let body = each_back There (begins_of f.procs) (f.body ∷ []) a.adds.there in
-    two (lt-ltb f.body.0 (length f.tree.nodes) body.0) (all_begin f.tree.nodes (begins_of f.procs) procs)
+    two (lt-ltb f.body.0 (length f.nodes) body.0) (all_begin f.nodes (begins_of f.procs) procs)
 
-once_in : (f : File) → NodesAre f → (id : NodeId) → times id (bodies_of f ++ followers_in f.tree.nodes) ≤ 1
+once_in : (f : Contents) → NodesAre f → (id : NodeId) → times id (bodies_of f ++ followers_in f.nodes) ≤ 1
 once_in f a id =
     let e = ap (λ (l : List Node). times id (bodies_of f ++ followers_in l)) a.adds.parts in
     omega (arith, e, body_first id f.body (begins_of f.procs) (followers_in a.adds.added), a.adds.once id)
 
 -- a file that was read from tokens whose texts are known
-pub file_kept : (f : File) (ts : List Token) → IsWithin f.names ts (source_of f) → AllByRecursion (IsTextKnown f.texts) ts → NodesAre f → IsKept f
+pub file_kept : (f : Contents) (ts : List Token) → IsWithin f.names ts (source_in f) → AllByRecursion (IsTextKnown f.texts) ts → NodesAre f → IsKept f
 file_kept f ts within known a =
     let n = has_name f.names in
     let t = has_text f.texts in
     let s = source_good f.names f.texts within.is known in
-    let nodes = all_both (λ (o : Node). form_there n t o.form) (λ (o : Node). form_filled o.form) f.tree.nodes (nodes_kept f a s) in
-    let heads = sym (list_all-map (head_there f.names) (procedure_of f.tree.nodes) f.procs) ∙ s.items.heads in
-    let filled = sym (list_all-map head_filled (procedure_of f.tree.nodes) f.procs) ∙ s.items.heads_filled in
+    let nodes = all_both (λ (o : Node). form_there n t o.form) (λ (o : Node). form_filled o.form) f.nodes (nodes_kept f a s) in
+    let heads = sym (list_all-map (head_there f.names) (procedure_of f.nodes) f.procs) ∙ s.items.heads in
+    let filled = sym (list_all-map head_filled (procedure_of f.nodes) f.procs) ∙ s.items.heads_filled in
     record {
       numbered = five s.items.protocols s.items.services heads s.processes nodes.0;
       filled = four s.items.protocols_filled s.items.services_filled filled nodes.1;

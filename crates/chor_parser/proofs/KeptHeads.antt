@@ -15,7 +15,7 @@ use Rattle.chor_tree.specs.declared.protocol.ProtoStep.{ProtoStep}
 use Rattle.chor_tree.specs.declared.protocol.State.{State}
 use Rattle.chor_tree.specs.declared.protocol.Protocol.{Protocol}
 use Rattle.chor_tree.specs.declared.tree.Part.{Part}
-use Rattle.chor_parser.specs.Kept.{named_there, names_there, part_there, payload_there, arm_there, step_there, protocol_there, service_there, process_param_there, session_param_there, has_items, comes_after_items, step_filled, protocol_filled, has_name}
+use Rattle.chor_tree.specs.Kept.{named_there, names_there, part_there, payload_there, arm_there, step_there, protocol_there, service_there, process_param_there, session_param_there, has_items, comes_after_items, step_filled, protocol_filled, has_name}
 use Rattle.chor_parser.specs.Grammar as g
 use Rattle.chor_parser.specs.Grammar.{NameIs, MoreAre, ListIs, NamesAre, AnyNamesAre, PartIs, PayloadIs, ArmIs, StepIs, StateIs, MoreStatesAre, StatesAre, ProtocolIs, ServedAre, ServiceIs, VariableIs, VariablesAre, ProcParamIs, HolderIs, SessionParamIs, SessionsAre, ParamsAre, NewPartsAre, PassedSessionsAre, PassedAre}
 use Rattle.chor_parser.proofs.KnownTexts.{name_there}

@@ -12,7 +12,7 @@ use Rattle.chor_lexer.specs.Lexeme.{Symbol, word, number, text, mark, last, Lexe
 use Rattle.chor_lexer.specs.Tokens.{Spells, AreSpelled, AreTokensOf}
 use Rattle.chor_lexer.specs.Keywords.{HasName}
 use Rattle.chor_lexer.specs.Grammar.{OrIs, OrGoes, AndIs, AndGoes, CmpIs, CmpGoes, SumIs, SumGoes, ProdIs, ProdGoes, UnIs, a_disjunction, or_done, or_more, a_conjunction, and_done, and_more, a_comparison, cmp_done, cmp_once, a_sum, sum_done, sum_more, a_product, prod_done, prod_more, a_unary, a_number, a_text, a_truth, a_name, in_parens}
-use Rattle.chor_parser.specs.Kept.{term_there, has_name, has_text}
+use Rattle.chor_tree.specs.Kept.{term_there, has_name, has_text}
 use Rattle.chor_base.specs.declared.names.NameId.{NameId}
 use Rattle.chor_parser.specs.Known.{IsTextKnown}
 

@@ -7,7 +7,8 @@ use Rattle.chor_tree.specs.declared.file.File.{File}
 use Rattle.chor_tree.specs.declared.tree.NodeId.{NodeId}
 use Rattle.chor_tree.specs.declared.tree.Node.{Node}
 use Rattle.chor_tree.specs.Children.{children_of}
-use Rattle.chor_parser.specs.Kept.{IsKept, bodies_of, followers_in, times}
+use Rattle.chor_tree.specs.Kept.{bodies_of, followers_in, times}
+use Rattle.chor_tree.specs.Contents.{contents_of}
 use Rattle.chor_parser.specs.Paths.{Path, here, further}
 use Rattle.chor_parser.proofs.Growth.{one_if, times_append, times_first}
 
@@ -64,22 +65,22 @@ follows_two id (o ∷ ns) (suc i) (suc j) n m h k c d other =
 
 -- ---- ways
 
-module _ (f : File) (kept : IsKept f) where
+module _ (f : File) where
   abbrev nodes : List Node
   nodes = f.tree.nodes
 
-  sum : (id : NodeId) → times id (bodies_of f) + times id (followers_in nodes) ≤ 1
-  sum id = omega (arith, kept.once id, times_append id (bodies_of f) (followers_in nodes))
+  sum : (id : NodeId) → times id (bodies_of (contents_of f)) + times id (followers_in nodes) ≤ 1
+  sum id = omega (arith, f.kept.once id, times_append id (bodies_of (contents_of f)) (followers_in nodes))
 
-  one_body : (id : NodeId) (i j : ℕ) → slice_get (bodies_of f) i ≡ Some id → slice_get (bodies_of f) j ≡ Some id → i ≡ j
+  one_body : (id : NodeId) (i j : ℕ) → slice_get (bodies_of (contents_of f)) i ≡ Some id → slice_get (bodies_of (contents_of f)) j ≡ Some id → i ≡ j
   one_body id i j h k = go (eqb_tells i j)
     where
       go : (((i == j) ≡ true) × (i ≡ j)) ⊎ (((i == j) ≡ false) × (i ≢ j)) → i ≡ j
       go (inl e) = e.1
-      go (inr e) = absurd (omega (arith, sum id, stands_twice id (bodies_of f) i j h k e.1))
+      go (inr e) = absurd (omega (arith, sum id, stands_twice id (bodies_of (contents_of f)) i j h k e.1))
 
-  no_body : (id c : NodeId) (i : ℕ) (n : Node) → slice_get (bodies_of f) i ≡ Some id → slice_get nodes c.0 ≡ Some n → Contains (children_of n.form) id → ⊥
-  no_body id c i n h k m = omega (arith, sum id, stands id (bodies_of f) i h, follows id nodes c.0 n k m)
+  no_body : (id c : NodeId) (i : ℕ) (n : Node) → slice_get (bodies_of (contents_of f)) i ≡ Some id → slice_get nodes c.0 ≡ Some n → Contains (children_of n.form) id → ⊥
+  no_body id c i n h k m = omega (arith, sum id, stands id (bodies_of (contents_of f)) i h, follows id nodes c.0 n k m)
 
   one_before : (id c d : NodeId) (n m : Node) → slice_get nodes c.0 ≡ Some n → slice_get nodes d.0 ≡ Some m → Contains (children_of n.form) id → Contains (children_of m.form) id → c.0 ≡ d.0
   one_before id c d n m h k o p = go (eqb_tells c.0 d.0)
@@ -89,7 +90,7 @@ module _ (f : File) (kept : IsKept f) where
       go (inr e) = absurd (omega (arith, sum id, follows_two id nodes c.0 d.0 n m h k o p e.1))
 
   -- two ways to one node from where bodies begin are one
-  pub one_way_is : (i j : ℕ) (a b id : NodeId) (us vs : List NodeId) → slice_get (bodies_of f) i ≡ Some a → slice_get (bodies_of f) j ≡ Some b → Path nodes a id us → Path nodes b id vs → (i ≡ j) × (us ≡ vs)
+  pub one_way_is : (i j : ℕ) (a b id : NodeId) (us vs : List NodeId) → slice_get (bodies_of (contents_of f)) i ≡ Some a → slice_get (bodies_of (contents_of f)) j ≡ Some b → Path nodes a id us → Path nodes b id vs → (i ≡ j) × (us ≡ vs)
   one_way_is i j a b id us vs h k here here = (one_body id i j h k, refl)
   one_way_is i j a b id us vs h k here (further {b = d} {n = m} q g o) = absurd (no_body id d i m h g o)
   one_way_is i j a b id us vs h k (further {b = c} {n = n} p e m) here = absurd (no_body id c j n k e m)

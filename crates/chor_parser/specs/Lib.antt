@@ -1,6 +1,5 @@
 pub mod Grammar
 pub mod Limits
-pub mod Kept
 pub mod Parts
 pub mod Statements
 pub mod Blocks

@@ -8,7 +8,8 @@ ghost use Rattle.chor_tree.specs.Source.{Source};
 ghost use Rattle.chor_tree.specs.declared.file.File.{File};
 ghost use Rattle.chor_tree.specs.declared.tree.NodeId.{NodeId};
 ghost use Rattle.chor_parser.specs.Grammar.{FileIs};
-ghost use Rattle.chor_parser.specs.Kept.{IsKept, bodies_of};
+ghost use Rattle.chor_tree.specs.Kept.{bodies_of};
+ghost use Rattle.chor_tree.specs.Contents.{contents_of};
 ghost use Rattle.chor_parser.specs.Paths.{Path};
 ghost use Rattle.chor_parser.specs.Faults.{IsWithin, IsFirstFault};
 
@@ -22,7 +23,7 @@ pub fn never_refused()
     ensures { (names : List (List ℕ)) (ts : List Token) (s : Source) (rule : Rule) (place : Place) → IsWithin names ts s → IsFirstFault names ts rule place → ⊥ }
 {}
 
-/// Each node of a file that keeps what `parse` says is reached from one body at most, and by one way.
+/// Each node of a file is reached from one body at most, and by one way.
 pub fn one_way()
-    ensures { (f : File) (i j : ℕ) (a b id : NodeId) (us vs : List NodeId) → IsKept f → slice_get (bodies_of f) i ≡ Some a → slice_get (bodies_of f) j ≡ Some b → Path f.tree.nodes a id us → Path f.tree.nodes b id vs → (i ≡ j) × (us ≡ vs) }
+    ensures { (f : File) (i j : ℕ) (a b id : NodeId) (us vs : List NodeId) → slice_get (bodies_of (contents_of f)) i ≡ Some a → slice_get (bodies_of (contents_of f)) j ≡ Some b → Path f.tree.nodes a id us → Path f.tree.nodes b id vs → (i ≡ j) × (us ≡ vs) }
 {}

@@ -5,7 +5,6 @@ ghost use Rattle.std.specs.List.{AllByRecursion};
 ghost use Rattle.chor_lexer.specs.Tokens.{IsKnown};
 ghost use Rattle.token_grammar.specs.Symbols.{Nothing, Head, Reads, Halts};
 ghost use Rattle.chor_tree.specs.Source.{block_in, blocks_of, procedure_of, source_of};
-ghost use Rattle.chor_parser.specs.Kept.{IsKept};
 ghost use Rattle.chor_parser.specs.Faults.{IsWithin, IsRefusal};
 ghost use Rattle.chor_parser.specs.Files.{ProcedurePart, AnItemPart, ItemFirst, ItemsPart, MainPart, main_of};
 ghost use Rattle.chor_parser.specs.Reading.{names_of, tokens_from, items_of, Grows, AreThere, AfterWord, ItemGoes};
@@ -23,9 +22,7 @@ use chor_lexer::{Mark, Tokens};
 use chor_tree::{File, Named, NodeId, Proc, Protocol, Service, Tree};
 use std::alloc::Global;
 
-/// The file that the tokens are, with the tables of names and texts that are given. Its numbers of
-/// names and texts are in them, it has an item in each list for which the grammar asks one, and a
-/// node begins one body or follows one other node, and no more.
+/// The file that the tokens are, with the tables of names and texts that are given.
 ///
 /// It is refused by P1 at the first token that no file has there after those before it, by P2 where
 /// blocks stand too deep or an expression is too long, and by P3 at the first item that is one too
@@ -39,7 +36,6 @@ pub fn parse(alloc: Global, tokens: &Tokens, names: Names, texts: Texts) -> Resu
     ensures texts { IfOk result (λ file. file.texts ≡ texts) }
     ensures body { IfOk result (λ file. file.body.0 < length file.tree.nodes) }
     ensures bodies { IfOk result (λ file. AreThere file.tree.nodes file.procs) }
-    ensures kept { IfOk result IsKept }
 {
     let input = Input {
         tokens,

@@ -1,5 +1,5 @@
 -- A choreography and an event have one next choreography at most.
-use Rattle.std.proofs.Common.{◌≡◌, ℕ, Bool, true, false, List, [], ◌∷◌, ◌++◌, refl, sym, ap, ◌∙◌, Option, Some, None, subst, ℤ, arith}
+use Rattle.std.proofs.Common.{◌≡◌, ℕ, true, false, List, [], ◌∷◌, ◌++◌, refl, sym, ap, ◌∙◌, Option, Some, None, subst, ℤ, arith}
 use Rattle.std.specs.Prelude.{◌||◌, ◌==◌, map, length}
 use Rattle.std.proofs.lemmas.Bool.Decides.{nat_tests}
 use Rattle.chor_base.specs.declared.event.Event.{Event}
@@ -9,9 +9,9 @@ use Rattle.chor_base.specs.Expr.{Term, value_of, number_of, truth_of}
 use Rattle.chor_base.specs.NameMap.{Variables}
 use Rattle.chor_base.specs.Meaning.{Hosts}
 use Rattle.chor_base.specs.Events.{actors_of}
-use Rattle.chor_semantics.specs.Choreography.{Ref, Live, Named, Choreography, Then, Node, Starts, Communicates, InTransit, Alone, Own, Sets, Shows, Asks, Message, Either, meets, among, named_in}
+use Rattle.chor_semantics.specs.Choreography.{Ref, Live, Named, Choreography, Then, Node, Starts, Communicates, InTransit, Alone, Own, Sets, Shows, Asks, Message, meets, among, named_in}
 use Rattle.chor_semantics.specs.Sources.{Procedure, Configuration}
-use Rattle.chor_semantics.specs.Steps.{Effect, Keeps, Assigns, Made, Makes, Moves, head, test, delay, both, unfolded, head_makes, branch_makes, vars_of, message_of, load_of, live_parts, with_live, sent, begun, alone, new_parts, Steps, vars_after, sid_after}
+use Rattle.chor_semantics.specs.Steps.{Effect, Makes, Moves, head, test, delay, both, unfolded, head_makes, branch_makes, vars_of, load_of, live_parts, with_live, sent, begun, alone, new_parts, Steps, vars_after}
 
 among_self : (n : ℕ) (rs : List Ref) → among (Live n) (Live n ∷ rs) ≡ true
 among_self n rs = grind (arith, nat_tests)

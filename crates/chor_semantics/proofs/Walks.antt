@@ -8,13 +8,12 @@ use Rattle.chor_base.specs.declared.value.Load.TheVariants.{Value as Carries}
 use Rattle.chor_base.specs.NameMap.{Variables}
 use Rattle.chor_base.specs.Expr.{Term, value_of}
 use Rattle.chor_base.specs.Events.{actors_of}
-use Rattle.chor_tree.specs.Children.{IsClosed}
 use Rattle.chor_semantics.specs.Choreography.{Ref, Live, Node, Communicates, InTransit, OfValue, ValueSent, Choreography, Then, Either, Ends, meets, named_in}
 use Rattle.chor_semantics.specs.Sources.{Procedure, Configuration, procedures_of, first_configuration}
 use Rattle.chor_base.specs.Meaning.{Hosts}
 use Rattle.chor_semantics.specs.Steps.{Effect, Keeps, Makes, Moves, head, test, delay, both, head_makes, branch_makes, vars_of, vars_after, sid_after}
 use Rattle.chor_semantics.specs.Runs.{Leads, IsTerminated, quiet, IsRun}
-use Rattle.chor_semantics.specs.Examples.Source.{Source, nodes_of, file_of, HasEndedRun, HasOpenRun}
+use Rattle.chor_semantics.specs.Examples.Source.{Source, IsMade, file_of, HasEndedRun, HasOpenRun}
 use Rattle.chor_semantics.proofs.Determined.{steps_agree, head_names}
 
 infixr 30 ◌⨟◌
@@ -107,25 +106,25 @@ sends {s = s} {p = p} {a = a} {b = b} {x = x} {q = q} {rest = rest} same =
 
 -- ---- runs of a source
 
-module _ (s : Source) (closed : IsClosed (nodes_of s)) where
+module _ (s : Source) (made : IsMade s) where
   -- a walk of the source's file
   abbrev pub WalkOf : Hosts → (Configuration → Type 0) → List Event → Type 0
-  WalkOf hosts P es = Walk (procedures_of (file_of s closed)) hosts P (first_configuration (file_of s closed)) es
+  WalkOf hosts P es = Walk (procedures_of (file_of s made)) hosts P (first_configuration (file_of s made)) es
 
   abbrev pub IsLast : Configuration → Type 0
-  IsLast c = IsTerminated (procedures_of (file_of s closed)) c.tree
+  IsLast c = IsTerminated (procedures_of (file_of s made)) c.tree
 
   abbrev pub Stops : Hosts → Event → Configuration → Type 0
-  Stops hosts e c = Blocked (procedures_of (file_of s closed)) hosts e c.vars c.sid c.tree
+  Stops hosts e c = Blocked (procedures_of (file_of s made)) hosts e c.vars c.sid c.tree
 
   pub ended_run : (es : List Event) → ((hosts : Hosts) → WalkOf hosts IsLast es) → HasEndedRun s es
-  ended_run es walk = (closed, λ hosts. let w = walked (walk hosts) in (w.0, record { leads = w.1; within = tt }, w.2))
+  ended_run es walk = (made, λ hosts. let w = walked (walk hosts) in (w.0, record { leads = w.1; within = tt }, w.2))
 
   pub open_run : (es : List Event) → ((hosts : Hosts) → WalkOf hosts (λ c. ¬ (IsLast c)) es) → HasOpenRun s es
-  open_run es walk = (closed, λ hosts. let w = walked (walk hosts) in ((w.0, record { leads = w.1; within = tt }), λ run. arrives (walk hosts) run.0 run.1.leads run.2))
+  open_run es walk = (made, λ hosts. let w = walked (walk hosts) in ((w.0, record { leads = w.1; within = tt }), λ run. arrives (walk hosts) run.0 run.1.leads run.2))
 
-  pub no_run : (es : List Event) (e : Event) (hosts : Hosts) → WalkOf hosts (Stops hosts e) es → ¬ (IsRun (file_of s closed) hosts None (es ++ e ∷ []))
+  pub no_run : (es : List Event) (e : Event) (hosts : Hosts) → WalkOf hosts (Stops hosts e) es → ¬ (IsRun (file_of s made) hosts None (es ++ e ∷ []))
   no_run es e hosts walk run = next (parted _ hosts _ run.0 es (e ∷ []) run.1.leads)
     where
-      next : (mid : Configuration) × Leads (procedures_of (file_of s closed)) hosts (first_configuration (file_of s closed)) es mid × Leads (procedures_of (file_of s closed)) hosts mid (e ∷ []) run.0 → ⊥
+      next : (mid : Configuration) × Leads (procedures_of (file_of s made)) hosts (first_configuration (file_of s made)) es mid × Leads (procedures_of (file_of s made)) hosts mid (e ∷ []) run.0 → ⊥
       next (mid, leads, (new, last, same)) = (arrives walk mid leads).never last.effect new.tree last.moves

@@ -7,14 +7,12 @@ use Rattle.chor_base.specs.NameMap.{Variables}
 use Rattle.chor_tree.specs.declared.file.File.{File}
 use Rattle.chor_tree.specs.declared.file.Named.{Named as Written}
 use Rattle.chor_tree.specs.declared.file.Proc.{Proc}
-use Rattle.chor_tree.specs.declared.file.ProcParam.{ProcParam}
-use Rattle.chor_tree.specs.declared.file.SessionParam.{SessionParam}
 use Rattle.chor_tree.specs.declared.tree.Part.{Part}
 use Rattle.chor_tree.specs.declared.tree.NodeId.{NodeId}
 use Rattle.chor_tree.specs.declared.tree.Node.{Node as TreeNode}
 use Rattle.chor_tree.specs.declared.tree.Form.{Form}
 use Rattle.chor_tree.specs.declared.tree.Form.TheVariants.{Start, Value, Label, Give, Set, Host, Show, If, Call, End}
-use Rattle.chor_semantics.specs.Choreography.{Ref, Live, Named, OfValue, OfLabel, OfPart, Sets, Shows, Asks, Starts, Communicates, Alone, Choreography, Then, Either, Calls, Ends, bound, instance_of}
+use Rattle.chor_semantics.specs.Choreography.{Ref, Live, Named, OfValue, OfLabel, OfPart, Sets, Shows, Asks, Starts, Communicates, Alone, Choreography, Then, Either, Calls, Ends, instance_of}
 
 abbrev pub name_ref : Written → Ref
 name_ref x = Named x.name.0 0

@@ -1,6 +1,6 @@
 -- One step of a choreography. Sending and receiving split the communication of the published language; delay and both
 -- replace its relation that swaps statements (this project's own).
-use Rattle.std.specs.Prelude.{ℕ, suc, ◌≡◌, ◌==◌, Bool, true, false, List, [], ◌∷◌, ◌++◌, length, map, Option, Some, None, slice_set, slice_index_or, if◌then◌else◌, ℤ}
+use Rattle.std.specs.Prelude.{ℕ, suc, ◌≡◌, ◌==◌, false, List, [], ◌∷◌, ◌++◌, length, Option, Some, None, slice_set, slice_index_or, if◌then◌else◌, ℤ}
 use Rattle.std.specs.FinMap as fin
 use Rattle.chor_base.specs.declared.names.NameId.{NameId}
 use Rattle.chor_base.specs.declared.value.Value.{Value}
@@ -13,7 +13,7 @@ use Rattle.chor_base.specs.Expr.{Term, value_of, number_of, truth_of}
 use Rattle.chor_base.specs.NameMap.{Variables}
 use Rattle.chor_base.specs.Meaning.{Hosts, meaning_named, MayAnswer}
 use Rattle.chor_base.specs.Events.{actors_of}
-use Rattle.chor_semantics.specs.Choreography.{Ref, Live, Named, Content, OfValue, OfLabel, OfPart, Message, ValueSent, LabelSent, PartSent, Own, Sets, Shows, Asks, Node, Starts, Communicates, InTransit, Alone, Choreography, Then, Either, Calls, Ends, meets, named_in, put, number_for, numbers_for, instance_of}
+use Rattle.chor_semantics.specs.Choreography.{Ref, Live, Named, Content, OfValue, OfLabel, OfPart, Message, ValueSent, LabelSent, PartSent, Own, Sets, Shows, Asks, Node, Starts, Communicates, InTransit, Alone, Choreography, Then, Either, Calls, meets, named_in, put, number_for, numbers_for, instance_of}
 use Rattle.chor_semantics.specs.Sources.{Procedure, Configuration}
 
 -- the variables of a process

@@ -12,6 +12,7 @@ use Rattle.chor_tree.specs.declared.protocol.Protocol.{Protocol}
 use Rattle.chor_tree.specs.declared.tree.NodeId.{NodeId}
 use Rattle.chor_tree.specs.declared.tree.Part.{Part}
 use Rattle.chor_tree.specs.declared.tree.Form.TheVariants.{Start, Host, Show}
+use Rattle.chor_tree.specs.Kept.{Keeps}
 use Rattle.chor_tree.specs.Names.{declaration_faults, node_faults}
 
 name : ℕ → NameId
@@ -26,9 +27,10 @@ named n col = record { name = record { 0 = n }; place = record { line = 1; col =
 
 module _ (f : File) (e : Expr) (next : NodeId) where
   -- main (p, p) { end }
-  twice : declaration_faults (record f { protocols = []; services = []; procs = []; processes = named 0 7 ∷ named 0 10 ∷ [] }) ≡ (N2, at 10) ∷ []
+  twice : (kept : Keeps f.names f.texts [] [] [] (named 0 7 ∷ named 0 10 ∷ []) f.tree.nodes f.body)
+      → declaration_faults (record f { protocols = []; services = []; procs = []; processes = named 0 7 ∷ named 0 10 ∷ []; kept = kept }) ≡ (N2, at 10) ∷ []
   unfolding named at
-  twice = refl
+  twice kept = refl
 
   -- main (p) { q show 1; end }
   not_in_scope : node_faults f [] (record { processes = record { 0 = 0 } ∷ []; sessions = [] }) (Show (named 1 12) e next) ≡ (N1, at 12) ∷ []
@@ -36,9 +38,10 @@ module _ (f : File) (e : Expr) (next : NodeId) where
   not_in_scope = refl
 
   -- main (p) { p.x := host far(3, 10); p show x; end }, with a function of another name
-  no_function : node_faults (record f { names = (112 ∷ []) ∷ (102 ∷ []) ∷ [] }) ((103 ∷ []) ∷ []) (record { processes = record { 0 = 0 } ∷ []; sessions = [] }) (Host (named 0 12) (record { 0 = 2 }) (named 1 24) e e next) ≡ (N1, at 24) ∷ []
+  no_function : (kept : Keeps ((112 ∷ []) ∷ (102 ∷ []) ∷ []) f.texts f.protocols f.services f.procs f.processes f.tree.nodes f.body)
+      → node_faults (record f { names = (112 ∷ []) ∷ (102 ∷ []) ∷ []; kept = kept }) ((103 ∷ []) ∷ []) (record { processes = record { 0 = 0 } ∷ []; sessions = [] }) (Host (named 0 12) (record { 0 = 2 }) (named 1 24) e e next) ≡ (N1, at 24) ∷ []
   unfolding named at
-  no_function = refl
+  no_function kept = refl
 
 part : Named → Named → Part
 part p r = record { process = p; role = r }
@@ -52,27 +55,30 @@ service : List Named → List Named → Service
 service active serve = record { name = named 20 39; protocol = named 10 43; active = active; serve = serve }
 
 module _ (f : File) (next : NodeId) where
-  with_service : List Named → List Named → File
-  with_service active serve = record f { protocols = one_protocol ∷ []; services = service active serve ∷ []; procs = []; processes = named 0 70 ∷ named 1 73 ∷ [] }
+  abbrev IsKeptWith : List Named → List Named → Type 0
+  IsKeptWith active serve = Keeps f.names f.texts (one_protocol ∷ []) (service active serve ∷ []) [] (named 0 70 ∷ named 1 73 ∷ []) f.tree.nodes f.body
+
+  with_service : (active serve : List Named) → IsKeptWith active serve → File
+  with_service active serve kept = record f { protocols = one_protocol ∷ []; services = service active serve ∷ []; procs = []; processes = named 0 70 ∷ named 1 73 ∷ []; kept = kept }
 
   -- service a : P (B | A);
-  in_any_order : declaration_faults (with_service (named 12 46 ∷ []) (named 11 50 ∷ [])) ≡ []
+  in_any_order : (kept : IsKeptWith (named 12 46 ∷ []) (named 11 50 ∷ [])) → declaration_faults (with_service (named 12 46 ∷ []) (named 11 50 ∷ []) kept) ≡ []
   unfolding with_service service one_protocol named
-  in_any_order = refl
+  in_any_order kept = refl
 
   -- service a : P (A, B, A);
-  role_twice : declaration_faults (with_service (named 11 46 ∷ named 12 49 ∷ named 11 52 ∷ []) []) ≡ (N3, at 39) ∷ []
+  role_twice : (kept : IsKeptWith (named 11 46 ∷ named 12 49 ∷ named 11 52 ∷ []) []) → declaration_faults (with_service (named 11 46 ∷ named 12 49 ∷ named 11 52 ∷ []) [] kept) ≡ (N3, at 39) ∷ []
   unfolding with_service service one_protocol named at
-  role_twice = refl
+  role_twice kept = refl
 
   -- start a(k): p[A] new r[B]; where a is P (A | B)
-  well_started : node_faults (with_service (named 11 46 ∷ []) (named 12 50 ∷ [])) [] (record { processes = record { 0 = 0 } ∷ record { 0 = 1 } ∷ []; sessions = [] }) (Start (named 20 86) (named 2 88) (part (named 0 92) (named 11 94) ∷ []) (part (named 3 101) (named 12 103) ∷ []) next) ≡ []
+  well_started : (kept : IsKeptWith (named 11 46 ∷ []) (named 12 50 ∷ [])) → node_faults (with_service (named 11 46 ∷ []) (named 12 50 ∷ []) kept) [] (record { processes = record { 0 = 0 } ∷ record { 0 = 1 } ∷ []; sessions = [] }) (Start (named 20 86) (named 2 88) (part (named 0 92) (named 11 94) ∷ []) (part (named 3 101) (named 12 103) ∷ []) next) ≡ []
   unfolding with_service service one_protocol named part
-  well_started = refl
+  well_started kept = refl
 
   -- start a(a): p[A], r[B] new k[B], q[B]; where q is there, and a is P (A | B)
-  ill_started : node_faults (with_service (named 11 46 ∷ []) (named 12 50 ∷ [])) [] (record { processes = record { 0 = 0 } ∷ record { 0 = 1 } ∷ []; sessions = [] })
+  ill_started : (kept : IsKeptWith (named 11 46 ∷ []) (named 12 50 ∷ [])) → node_faults (with_service (named 11 46 ∷ []) (named 12 50 ∷ []) kept) [] (record { processes = record { 0 = 0 } ∷ record { 0 = 1 } ∷ []; sessions = [] })
       (Start (named 20 86) (named 20 88) (part (named 0 92) (named 11 94) ∷ part (named 3 98) (named 12 100) ∷ []) (part (named 2 107) (named 12 109) ∷ part (named 1 113) (named 12 115) ∷ []) next)
       ≡ (N3, at 86) ∷ (N1, at 98) ∷ (N2, at 88) ∷ (N2, at 113) ∷ []
   unfolding with_service service one_protocol named part at
-  ill_started = refl
+  ill_started kept = refl

@@ -1,4 +1,6 @@
 pub mod Children
+pub mod Kept
+pub mod Contents
 pub mod Names
 pub mod Source
 pub mod Same

@@ -1,5 +1,7 @@
 //! A source file.
 
+ghost use Rattle.chor_tree.specs.Kept.{Keeps};
+
 use crate::protocol::Protocol;
 use crate::tree::{NodeId, Tree};
 use chor_base::{List, NameId, Names, Place, Sort, Texts};
@@ -12,6 +14,9 @@ pub struct Named {
 }
 
 /// A whole source: its tables of names and texts, what it declares, and its choreography.
+///
+/// Its numbers are in its tables, it has an item in each list for which the grammar asks one, and a
+/// node begins one body or follows one other node, and no more.
 #[derive(Drop)]
 pub struct File {
     pub names: Names,
@@ -25,6 +30,7 @@ pub struct File {
     pub tree: Tree,
     /// Where the body of `main` begins.
     pub body: NodeId,
+    ghost kept: { Keeps names texts protocols services procs processes tree.nodes body },
 }
 
 /// A public channel: `service name : protocol (active | serve);`.

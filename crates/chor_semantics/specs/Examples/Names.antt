@@ -1,4 +1,5 @@
 -- The names of the example sources, by their numbers.
+use Rattle.std.specs.Prelude.{ℕ, List, [], ◌∷◌, codes}
 use Rattle.chor_base.specs.declared.names.NameId.{NameId}
 
 -- ---- processes
@@ -104,3 +105,12 @@ Ping = record { 0 = 28 }
 
 abbrev pub begin : NameId
 begin = record { 0 = 29 }
+
+-- ---- the table of their words
+
+abbrev pub words : List (List ℕ)
+words =
+    codes "p" ∷ codes "q" ∷ codes "r" ∷ codes "b" ∷ codes "s" ∷ codes "z" ∷ codes "c" ∷ codes "x" ∷ codes "y" ∷ codes "k"
+    ∷ codes "h" ∷ codes "a" ∷ codes "d" ∷ codes "sale" ∷ codes "hand" ∷ codes "A" ∷ codes "B" ∷ codes "C" ∷ codes "D" ∷ codes "S"
+    ∷ codes "Buyer" ∷ codes "Seller" ∷ codes "From" ∷ codes "To" ∷ codes "go" ∷ codes "up" ∷ codes "down" ∷ codes "Loop" ∷ codes "Ping" ∷ codes "begin"
+    ∷ []

@@ -1,5 +1,5 @@
 -- Small sources, each as a table of nodes. Places and the spelling of names don't matter to runs:
--- all places are the same here, and names are numbers.
+-- all places are the same here, and names are their numbers in one table.
 use Rattle.std.specs.Prelude.{ℕ, ◌-◌, List, [], map, length, None, pos}
 use Rattle.chor_base.specs.declared.names.NameId.{NameId}
 use Rattle.chor_base.specs.declared.rule.Place.{Place}
@@ -17,8 +17,10 @@ use Rattle.chor_tree.specs.declared.tree.NodeId.{NodeId}
 use Rattle.chor_tree.specs.declared.tree.Node.{Node}
 use Rattle.chor_tree.specs.declared.tree.Form.{Form}
 use Rattle.chor_tree.specs.Children.{IsClosed}
+use Rattle.chor_tree.specs.Kept.{Keeps}
 use Rattle.chor_base.specs.Meaning.{Hosts}
 use Rattle.chor_semantics.specs.Runs.{IsRun, IsEndedRun}
+use Rattle.chor_semantics.specs.Examples.Names.{words}
 
 abbrev pub nowhere : Place
 nowhere = record { line = 0; col = 0 }
@@ -50,28 +52,34 @@ pub record Source : Type 0 where
 abbrev pub nodes_of : Source → List Node
 nodes_of s = map (λ f. record { place = nowhere; form = f }) s.forms
 
-abbrev pub file_of : (s : Source) → IsClosed (nodes_of s) → File
-file_of s closed = record {
-  names = [];
+-- what the table and the file of a source keep
+pub record IsMade (s : Source) : Type 0 where
+  pub closed : IsClosed (nodes_of s)
+  pub kept : Keeps words [] [] [] s.procs (map written s.processes) (nodes_of s) (node (length s.forms - 1))
+
+abbrev pub file_of : (s : Source) → IsMade s → File
+file_of s made = record {
+  names = words;
   texts = [];
   protocols = [];
   services = [];
   procs = s.procs;
   processes = map written s.processes;
-  tree = record { nodes = nodes_of s; closed = closed };
+  tree = record { nodes = nodes_of s; closed = made.closed };
   body = node (length s.forms - 1);
+  kept = made.kept;
 }
 
 -- these events are a run of the source after which nothing is left to happen, whatever host functions there are
 abbrev pub HasEndedRun : Source → List Event → Type 0
-HasEndedRun s h = (closed : IsClosed (nodes_of s)) × ((hosts : Hosts) → IsEndedRun (file_of s closed) hosts None h)
+HasEndedRun s h = (made : IsMade s) × ((hosts : Hosts) → IsEndedRun (file_of s made) hosts None h)
 
 -- they are a run after which something is left to happen
 abbrev pub HasOpenRun : Source → List Event → Type 0
 HasOpenRun s h =
-    (closed : IsClosed (nodes_of s))
-    × ((hosts : Hosts) → IsRun (file_of s closed) hosts None h × (¬ (IsEndedRun (file_of s closed) hosts None h)))
+    (made : IsMade s)
+    × ((hosts : Hosts) → IsRun (file_of s made) hosts None h × (¬ (IsEndedRun (file_of s made) hosts None h)))
 
 -- they are no run
 abbrev pub HasNoRun : Source → List Event → Type 0
-HasNoRun s h = (closed : IsClosed (nodes_of s)) (hosts : Hosts) → ¬ (IsRun (file_of s closed) hosts None h)
+HasNoRun s h = (made : IsMade s) (hosts : Hosts) → ¬ (IsRun (file_of s made) hosts None h)

@@ -11,9 +11,10 @@ use Rattle.chor_base.specs.declared.names.NameId.{NameId}
 use Rattle.chor_tree.specs.declared.file.File.{File}
 use Rattle.chor_tree.specs.declared.file.Service.{Service}
 use Rattle.chor_tree.specs.Children.{IsClosed as IsClosedTree}
+use Rattle.chor_tree.specs.Kept.{Keeps}
 use Rattle.chor_semantics.specs.Sources.{tree_in, trees_of}
 use Rattle.chor_semantics.specs.Examples.Source.{nodes_of, node, number, written}
-use Rattle.chor_semantics.specs.Examples.Names.{p, q, x, y, k, h, a, d, A, S, D, up, down}
+use Rattle.chor_semantics.specs.Examples.Names.{words, p, q, x, y, k, h, a, d, A, S, D, up, down}
 use Rattle.chor_semantics.specs.Examples.ServiceTwice.{source}
 use Rattle.endpoint_code.specs.declared.code.CodeId.{CodeId}
 use Rattle.endpoint_code.specs.declared.code.CodeNode.{CodeNode}
@@ -52,9 +53,12 @@ sends_one = code 2
 abbrev pub service : NameId → Service
 service c = record { name = written c; protocol = written D; active = written A ∷ []; serve = written S ∷ [] }
 
-abbrev pub file : IsClosedTree (nodes_of source) → File
-file closed = record {
-  names = [];
+abbrev pub FileIsKept : Type 0
+FileIsKept = Keeps words [] [] (service a ∷ service d ∷ []) [] (written p ∷ written q ∷ []) (nodes_of source) (node 6)
+
+abbrev pub file : IsClosedTree (nodes_of source) → FileIsKept → File
+file closed kept = record {
+  names = words;
   texts = [];
   protocols = [];
   services = service a ∷ service d ∷ [];
@@ -62,6 +66,7 @@ file closed = record {
   processes = written p ∷ written q ∷ [];
   tree = record { nodes = nodes_of source; closed = closed };
   body = node 6;
+  kept = kept;
 }
 
 -- process p { join d[A](k); pick k S up; recv k S x; end }
@@ -92,7 +97,7 @@ processes = record { name = p; body = code 6 } ∷ record { name = q; body = cod
 
 abbrev pub endpoints : IsClosed nodes → AreInside nodes [] services processes → Endpoints
 endpoints closed inside = record {
-  names = [];
+  names = words;
   texts = [];
   channels = channels;
   procedures = [];

@@ -4,6 +4,8 @@ use Rattle.chor_parser.proofs.Terminals.{holds_if, fails_if}
 use Rattle.chor_parser.proofs.Files.{items_part, items_end, main_part}
 use Rattle.chor_parser.proofs.Joined.{file_within}
 use Rattle.chor_parser.proofs.FirstFaults.{refusal_is, unended, whole}
+use Rattle.chor_tree.specs.Kept.{Contents}
+use Rattle.chor_parser.proofs.Tables.{all_there}
 use Rattle.chor_parser.proofs.KeptFiles.{nodes_are, file_kept}
 use Rattle.chor_parser.proofs.source.parse.Goals as goal
 
@@ -23,5 +25,20 @@ returns-then-not-is_end-clause-denied c = unended _ (whole c.args.tokens.now.end
 pub returns-clause-found : goal.returns-clause-found
 returns-clause-found c = file_within _ _ _ c.in_ok-items.items _ _ _ (then_reads items_part items_end c.in_ok-items.ensures.reads c.in_ok-main.ensures.reads) c.in_ok-items.ensures.there c.in_ok-main.ensures.grows c.args.tokens.now.ended (holds_if c.is_end.ensures c.if-not-is_end.false)
 
-pub returns-clause-kept : goal.returns-clause-kept
-returns-clause-kept c = file_kept _ _ (file_within _ _ _ c.in_ok-items.items _ _ _ (then_reads items_part items_end c.in_ok-items.ensures.reads c.in_ok-main.ensures.reads) c.in_ok-items.ensures.there c.in_ok-main.ensures.grows c.args.tokens.now.ended (holds_if c.is_end.ensures c.if-not-is_end.false)) c.requires.texts (nodes_are _ c.in_ok-items.ensures.adds c.in_ok-main.ensures.adds)
+pub returns-clause-bodies : goal.returns-clause-bodies
+returns-clause-bodies c = all_there _ _ _ c.in_ok-main.ensures.grows c.in_ok-items.ensures.there
+
+pub invariant_of-result : goal.invariant_of-result
+invariant_of-result c =
+    let made : Contents = record {
+      names = c.args.names;
+      texts = c.args.texts;
+      protocols = c.in_ok-items.items.protocols;
+      services = c.in_ok-items.items.services;
+      procs = c.in_ok-items.items.procs;
+      processes = c.in_ok-main.main.processes;
+      nodes = c.read_main.new.tree.nodes;
+      body = c.in_ok-main.main.body;
+    } in
+    let within = file_within _ _ _ c.in_ok-items.items _ _ _ (then_reads items_part items_end c.in_ok-items.ensures.reads c.in_ok-main.ensures.reads) c.in_ok-items.ensures.there c.in_ok-main.ensures.grows c.args.tokens.now.ended (holds_if c.is_end.ensures c.if-not-is_end.false) in
+    record { kept = file_kept made _ within c.requires.texts (nodes_are made c.in_ok-items.ensures.adds c.in_ok-main.ensures.adds) }

@@ -1,5 +1,5 @@
--- What each file keeps that was read from a text (this project's own): its numbers are in its tables, the lists of which the grammar
--- asks at least one item have one, and no node is reached twice. `n` tells which names are in the table, and `t` which texts.
+-- What each file keeps (this project's own): its numbers are in its tables, the lists of which the grammar asks at least one item
+-- have one, and no node is reached twice. `n` tells which names are in the table, and `t` which texts.
 use Rattle.std.specs.Prelude.{ℕ, ◌≡◌, ◌≤◌, ◌==◌, ◌&&◌, ◌||◌, Bool, true, not, List, ◌∷◌, ◌++◌, map, length, nat_lt}
 use Rattle.std.specs.List.{flat_map, list_all, count_by}
 use Rattle.chor_base.specs.declared.names.NameId.{NameId}
@@ -11,7 +11,6 @@ use Rattle.chor_tree.specs.declared.file.Service.{Service}
 use Rattle.chor_tree.specs.declared.file.ProcParam.{ProcParam}
 use Rattle.chor_tree.specs.declared.file.SessionParam.{SessionParam}
 use Rattle.chor_tree.specs.declared.file.Proc.{Proc}
-use Rattle.chor_tree.specs.declared.file.File.{File}
 use Rattle.chor_tree.specs.declared.protocol.Payload.{Payload}
 use Rattle.chor_tree.specs.declared.protocol.Payload.TheVariants.{Plain, Endpoint}
 use Rattle.chor_tree.specs.declared.protocol.ProtoArm.{ProtoArm}
@@ -115,10 +114,6 @@ form_filled _ = true
 
 -- ---- nodes
 
--- where bodies begin
-abbrev pub bodies_of : File → List NodeId
-bodies_of f = f.body ∷ map (λ p. p.body) f.procs
-
 -- the nodes that follow others
 abbrev pub followers_in : List Node → List NodeId
 followers_in nodes = flat_map (λ o. children_of o.form) nodes
@@ -129,6 +124,17 @@ times id ids = count_by (λ c. c.0 == id.0) ids
 
 -- ---- a file
 
+-- what a file holds
+pub record Contents : Type 0 where
+  pub names : List (List ℕ)
+  pub texts : List (List ℕ)
+  pub protocols : List Protocol
+  pub services : List Service
+  pub procs : List Proc
+  pub processes : List Named
+  pub nodes : List Node
+  pub body : NodeId
+
 abbrev pub has_name : List (List ℕ) → NameId → Bool
 has_name names x = nat_lt x.0 (length names)
 
@@ -136,23 +142,31 @@ abbrev pub has_text : List (List ℕ) → ℕ → Bool
 has_text texts x = nat_lt x (length texts)
 
 -- each number of a name or a text is in its table
-abbrev pub is_numbered : File → Bool
+abbrev pub is_numbered : Contents → Bool
 is_numbered f =
     list_all (protocol_there (has_name f.names)) f.protocols && list_all (service_there (has_name f.names)) f.services
     && list_all (proc_there (has_name f.names)) f.procs && names_there (has_name f.names) f.processes
-    && list_all (λ o. form_there (has_name f.names) (has_text f.texts) o.form) f.tree.nodes
+    && list_all (λ o. form_there (has_name f.names) (has_text f.texts) o.form) f.nodes
 
 -- no list is empty of which the grammar asks one item
-abbrev pub is_filled : File → Bool
+abbrev pub is_filled : Contents → Bool
 is_filled f =
     list_all protocol_filled f.protocols && list_all (λ s. has_items s.active) f.services && list_all proc_filled f.procs
-    && list_all (λ o. form_filled o.form) f.tree.nodes
+    && list_all (λ o. form_filled o.form) f.nodes
+
+-- where bodies begin
+abbrev pub bodies_of : Contents → List NodeId
+bodies_of f = f.body ∷ map (λ p. p.body) f.procs
 
 -- What a file keeps; that what follows a node is in the table is kept by its tree
-pub record IsKept (f : File) : Type 0 where
+pub record IsKept (f : Contents) : Type 0 where
   pub numbered : is_numbered f ≡ true
   pub filled : is_filled f ≡ true
   -- bodies begin in the table
-  pub begin : list_all (λ b. nat_lt b.0 (length f.tree.nodes)) (bodies_of f) ≡ true
+  pub begin : list_all (λ b. nat_lt b.0 (length f.nodes)) (bodies_of f) ≡ true
   -- a node begins one body or follows one other node, and no more
-  pub once : (id : NodeId) → times id (bodies_of f ++ followers_in f.tree.nodes) ≤ 1
+  pub once : (id : NodeId) → times id (bodies_of f ++ followers_in f.nodes) ≤ 1
+
+abbrev pub Keeps : (names texts : List (List ℕ)) → List Protocol → List Service → List Proc → List Named → List Node → NodeId → Type 0
+Keeps names texts protocols services procs processes nodes body =
+    IsKept (record { names = names; texts = texts; protocols = protocols; services = services; procs = procs; processes = processes; nodes = nodes; body = body })
