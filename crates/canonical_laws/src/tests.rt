@@ -72,6 +72,29 @@ fn space_and_comments_are_dropped(rt: HostRuntime) -> Result<(), Fail> {
 }
 
 #[test]
+fn text_that_stood_there_stays(rt: HostRuntime) -> Result<(), Fail> {
+    let alloc = rt.alloc();
+    let file = read(alloc, b"main(p){end}".as_slice())?;
+    let mut out = b"> ".to_vec(alloc)?;
+    print(alloc, &file, &mut out)?;
+    assert!(rt; out.as_slice() == b"> main (p) {\n  end\n}\n".as_slice());
+    Ok(())
+}
+
+#[test]
+fn a_conditional(rt: HostRuntime) -> Result<(), Fail> {
+    let alloc = rt.alloc();
+    assert!(rt;
+        is_printed_as(
+            alloc,
+            b"main(p){if p.true{p show 1;end}else{end}}".as_slice(),
+            b"main (p) {\n  if p.true {\n    p show 1;\n    end\n  } else {\n    end\n  }\n}\n".as_slice()
+        )?
+    );
+    Ok(())
+}
+
+#[test]
 fn nested_conditionals(rt: HostRuntime) -> Result<(), Fail> {
     let alloc = rt.alloc();
     assert!(rt;
@@ -165,5 +188,52 @@ fn words_texts_and_numbers_make_a_difference(rt: HostRuntime) -> Result<(), Fail
     assert!(rt; !say_the_same(alloc, source, other_operator)?);
     assert!(rt; !say_the_same(alloc, source, one_statement_less)?);
     assert!(rt; !say_the_same(alloc, source, one_argument_more)?);
+    Ok(())
+}
+
+// What a small file says, and others that differ in one thing.
+const SAID: &[u8] = b"service a:P(A|B);main(p,q){if p.x<1{p show \"hi\";end}else{q show 1;end}}";
+
+const OTHERS: [&[u8]; 8] = [
+    // a variable
+    b"service a:P(A|B);main(p,q){if p.y<1{p show \"hi\";end}else{q show 1;end}}",
+    // a process: of the statement, of the test, and of main
+    b"service a:P(A|B);main(p,q){if p.x<1{p show \"hi\";end}else{p show 1;end}}",
+    b"service a:P(A|B);main(p,q){if q.x<1{p show \"hi\";end}else{q show 1;end}}",
+    b"service a:P(A|B);main(p){if p.x<1{p show \"hi\";end}else{q show 1;end}}",
+    // a service role that is left out
+    b"service a:P(A);main(p,q){if p.x<1{p show \"hi\";end}else{q show 1;end}}",
+    // a text
+    b"service a:P(A|B);main(p,q){if p.x<1{p show \"ho\";end}else{q show 1;end}}",
+    // an operator
+    b"service a:P(A|B);main(p,q){if p.x<=1{p show \"hi\";end}else{q show 1;end}}",
+    // the branches exchanged
+    b"service a:P(A|B);main(p,q){if p.x<1{q show 1;end}else{p show \"hi\";end}}",
+];
+
+#[test]
+fn one_thing_makes_a_difference_both_ways_round(rt: HostRuntime) -> Result<(), Fail> {
+    let alloc = rt.alloc();
+    let elsewhere =
+        b"service a : P (A | B);\nmain (p, q) {\n  if p.x < 01 { p show \"hi\"; end }\n  else { q show 1; end } }".as_slice();
+    assert!(rt; say_the_same(alloc, SAID, elsewhere)?);
+    assert!(rt; say_the_same(alloc, elsewhere, SAID)?);
+    for other in OTHERS.iter() {
+        assert!(rt; !say_the_same(alloc, SAID, other)?, "{other:?}");
+        assert!(rt; !say_the_same(alloc, other, SAID)?, "{other:?}");
+    }
+    Ok(())
+}
+
+// The units in two orders of their kinds, so that their words come in other orders too
+#[test]
+fn numbers_of_words_make_no_difference(rt: HostRuntime) -> Result<(), Fail> {
+    let alloc = rt.alloc();
+    let source =
+        b"proc F(r){r show \"one\";end}service a:P(A);main(p){p show \"two\";end}".as_slice();
+    let other =
+        b"service a:P(A);proc F(r){r show \"one\";end}main(p){p show \"two\";end}".as_slice();
+    assert!(rt; say_the_same(alloc, source, other)?);
+    assert!(rt; say_the_same(alloc, other, source)?);
     Ok(())
 }

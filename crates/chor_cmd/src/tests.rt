@@ -10,6 +10,8 @@ use std::test::Fail;
 
 mod examples;
 mod fmt;
+mod names;
+mod protocols;
 mod worked;
 
 fn word(alloc: Global, bytes: &[u8]) -> Result<Word, Fail> {

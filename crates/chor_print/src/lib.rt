@@ -5,8 +5,6 @@ mod block;
 mod canonical;
 mod piece;
 mod statement;
-#[cfg(test)]
-mod tests;
 mod unit;
 
 pub use canonical::print;

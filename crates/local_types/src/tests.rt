@@ -1,13 +1,14 @@
-//! Types of small protocols, and views with faults.
+//! Types of small protocols, and views with faults. Whole files are tested on sources, where the
+//! commands are.
 
 mod large;
 mod purchase;
 
 ghost use Rattle.local_types.specs.Reading.{IsProper};
 
-use crate::{LocalType, check_views, local, print_local};
-use chor_base::{Denied, List, Memory, Names, Place, Rule, Sort, Texts};
-use chor_tree::{File, Named, NodeId, Payload, ProtoArm, ProtoStep, Protocol, State, Tree};
+use crate::{LocalType, local, print_local};
+use chor_base::{Denied, List, Memory, Names, Place, Rule, Sort};
+use chor_tree::{Named, Payload, ProtoArm, ProtoStep, Protocol, State};
 use std::alloc::Global;
 use std::process::Abort;
 use std::test::Fail;
@@ -132,26 +133,15 @@ fn all_types(alloc: Global, protocol: &Protocol, names: &Names) -> Result<List<L
     Ok(types)
 }
 
-// What the check of a file of one protocol answers.
-fn views(alloc: Global, names: Names, protocol: Protocol) -> Result<(), Denied>
-    requires { IsProper protocol }
+// Whether all roles of a protocol have types, else the refusal of the first that hasn't.
+fn views(alloc: Global, protocol: &Protocol, names: &Names) -> Result<(), Denied>
+    requires { IsProper protocol.now }
 {
-    let mut protocols = List::new(alloc);
-    protocols.push(protocol)?;
-    let file = File {
-        names,
-        texts: Texts::new(alloc),
-        protocols,
-        services: List::new(alloc),
-        procs: List::new(alloc),
-        processes: List::new(alloc),
-        tree: Tree::new(alloc),
-        body: NodeId(0),
-    };
-    check_views(alloc, &file)
+    let _types = all_types(alloc, protocol, names)?;
+    Ok(())
 }
 
-// A file of one protocol is refused by this rule at this column.
+// One of the roles of a protocol, in their order, is refused by this rule at this column.
 fn assert_refused(
     rt: &impl Abort,
     alloc: Global,
@@ -162,7 +152,7 @@ fn assert_refused(
 ) -> Result<(), Memory>
     requires { IsProper protocol }
 {
-    match views(alloc, names, protocol) {
+    match views(alloc, &protocol, &names) {
         Err(Denied::Refused(refusal)) => {
             assert!(rt; refusal.rule == rule);
             assert!(rt; refusal.place == Place { line: 1, col });

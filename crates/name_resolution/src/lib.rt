@@ -14,7 +14,5 @@ mod protocols;
 mod resolving;
 mod scope;
 mod set;
-#[cfg(test)]
-mod tests;
 
 pub use resolving::resolve;

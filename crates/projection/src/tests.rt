@@ -1,21 +1,15 @@
-//! Projections of small files that were worked out by hand.
+//! What each process does at a statement, worked out by hand. Whole files are tested on sources, where
+//! the commands are.
 
-ghost use Rattle.std.specs.Prelude.{◌≡◌, ◌<◌, [], All, IfOk, length};
-ghost use Rattle.chor_tree.specs.Children.{children_of};
-ghost use Rattle.chor_semantics.specs.Sources.{form_tree, trees_of};
-ghost use Rattle.projection.specs.Making.{tree_at};
-ghost use Rattle.projection.specs.Straight.{IsLine, IsStraight};
-
-use crate::project;
-use chor_base::{Expr, List, Memory, NameId, Names, Place, Texts, Value};
-use chor_tree::{File, Form, Named, Node, NodeId, Part, Service, Tree};
-use endpoint_code::{Code, CodeId, CodeNode};
+use crate::part::part;
+use chor_base::{Expr, List, Memory, NameId, Place, Value};
+use chor_tree::{Form, Named, NodeId, Part};
+use endpoint_code::{CodeId, CodeNode};
 use std::alloc::Global;
+use std::process::Abort;
 use std::test::Fail;
 
-const STARTED: u32 = 0;
-
-const UNSTARTED: u32 = 1;
+const CHANNEL: u32 = 0;
 
 const FIRST: u32 = 2;
 
@@ -25,6 +19,8 @@ const P: u32 = 4;
 
 const Q: u32 = 5;
 
+const OTHER: u32 = 10;
+
 const K: u32 = 6;
 
 const H: u32 = 7;
@@ -33,6 +29,8 @@ const X: u32 = 8;
 
 const LABEL: u32 = 9;
 
+const NEXT: u32 = 17;
+
 fn named(number: u32) -> Named {
     Named {
         name: NameId(number),
@@ -40,7 +38,7 @@ fn named(number: u32) -> Named {
     }
 }
 
-fn part(process: u32, role: u32) -> Part {
+fn taking(process: u32, role: u32) -> Part {
     Part {
         process: named(process),
         role: named(role),
@@ -51,226 +49,212 @@ fn number(n: i64) -> Expr {
     Expr::Lit(Value::Int(n))
 }
 
-// A node more, which ends or goes on in one way.
-fn add(tree: &mut Tree, form: Form) -> Result<NodeId, Memory>
-    requires children { All (λ c. c.0 < length tree.old.nodes) (children_of form) }
-    requires line { IsLine (form_tree (trees_of tree.old.nodes) form) }
-    ensures inside { IfOk result (λ id. id.0 < length tree.new.nodes) }
-    ensures line { IfOk result (λ id. IsLine (tree_at tree.new.nodes id)) }
-{
-    let place = Place { line: 1, col: 1 };
-    let id = tree.push(Node { place, form })?;
-    Ok(id)
+// The number that an expression is.
+fn number_in(expr: &Expr) -> i64 {
+    match expr {
+        Expr::Lit(Value::Int(n)) => *n,
+        _ => -1,
+    }
 }
 
-// A start of the session by both processes.
-fn start(alloc: Global, tree: &mut Tree, session: u32, next: NodeId) -> Result<NodeId, Memory>
-    requires next { next.0 < length tree.old.nodes }
-    requires line { IsLine (tree_at tree.old.nodes next) }
-    ensures inside { IfOk result (λ id. id.0 < length tree.new.nodes) }
-    ensures line { IfOk result (λ id. IsLine (tree_at tree.new.nodes id)) }
-{
-    let mut active = List::new(alloc);
-    active.push(part(P, FIRST))?;
-    active.push(part(Q, SECOND))?;
-    add(
-        tree,
-        Form::Start {
-            channel: named(STARTED),
-            session: named(session),
-            active,
-            serve: List::new(alloc),
-            next,
-        },
-    )
+// The label of an only arm, and where it goes on.
+fn only_arm(arms: &List<(NameId, CodeId)>) -> (i64, i64) {
+    if arms.len() != 1 {
+        return (-1, -1);
+    }
+    let (label, next) = *arms.at(0);
+    (name(label), code(next))
 }
 
-fn service(alloc: Global, name: u32) -> Result<Service, Memory>
-    ensures { IfOk result (λ s. s.serve ≡ []) }
-{
-    let mut active = List::new(alloc);
-    active.push(named(FIRST))?;
-    active.push(named(SECOND))?;
-    Ok(Service {
-        name: named(name),
-        protocol: named(name),
-        active,
-        serve: List::new(alloc),
-    })
-}
-
-fn services(alloc: Global) -> Result<List<Service>, Memory>
-    ensures { IfOk result (λ list. All (λ s. s.serve ≡ []) list) }
-{
-    let mut services = List::new(alloc);
-    services.push(service(alloc, UNSTARTED)?)?;
-    services.push(service(alloc, STARTED)?)?;
-    Ok(services)
-}
-
-// A file of two processes.
-fn file(alloc: Global, tree: Tree, body: NodeId) -> Result<File, Memory>
-    requires inside { body.0 < length tree.nodes }
-    requires line { IsLine (tree_at tree.nodes body) }
-    ensures { IfOk result (λ f. IsStraight f) }
-{
-    let services = services(alloc)?;
-    let mut processes = List::new(alloc);
-    processes.push(named(P))?;
-    processes.push(named(Q))?;
-    Ok(File {
-        names: Names::new(alloc),
-        texts: Texts::new(alloc),
-        protocols: List::new(alloc),
-        services,
-        procs: List::new(alloc),
-        processes,
-        tree,
-        body,
-    })
-}
-
-// One sends the other a number.
-fn exchange(alloc: Global) -> Result<File, Memory>
-    ensures { IfOk result (λ f. IsStraight f) }
-{
-    let mut tree = Tree::new(alloc);
-    let ended = add(&mut tree, Form::End)?;
-    let sent = add(
-        &mut tree,
-        Form::Value {
-            from: part(P, FIRST),
-            expr: number(3),
-            to: part(Q, SECOND),
-            var: NameId(X),
-            session: named(K),
-            next: ended,
-        },
-    )?;
-    let body = start(alloc, &mut tree, K, sent)?;
-    file(alloc, tree, body)
-}
-
-// Two sessions, and each other statement once.
-fn statements(alloc: Global) -> Result<File, Memory>
-    ensures { IfOk result (λ f. IsStraight f) }
-{
-    let mut tree = Tree::new(alloc);
-    let ended = add(&mut tree, Form::End)?;
-    let shown = add(
-        &mut tree,
-        Form::Show {
-            process: named(P),
-            expr: number(1),
-            next: ended,
-        },
-    )?;
-    let asked = add(
-        &mut tree,
-        Form::Host {
-            process: named(Q),
-            var: NameId(X),
-            name: named(X),
-            left: number(1),
-            right: number(2),
-            next: shown,
-        },
-    )?;
-    let set = add(
-        &mut tree,
-        Form::Set {
-            process: named(P),
-            var: NameId(X),
-            expr: number(1),
-            next: asked,
-        },
-    )?;
-    let first = parted(&mut tree, set)?;
-    let second = start(alloc, &mut tree, H, first)?;
-    let body = start(alloc, &mut tree, K, second)?;
-    file(alloc, tree, body)
-}
-
-// One tells the other a label, and gives its endpoint of the second session away.
-fn parted(tree: &mut Tree, next: NodeId) -> Result<NodeId, Memory>
-    requires next { next.0 < length tree.old.nodes }
-    requires line { IsLine (tree_at tree.old.nodes next) }
-    ensures inside { IfOk result (λ id. id.0 < length tree.new.nodes) }
-    ensures line { IfOk result (λ id. IsLine (tree_at tree.new.nodes id)) }
-{
-    let given = add(
-        tree,
-        Form::Give {
-            from: part(P, FIRST),
-            to: part(Q, SECOND),
-            session: named(K),
-            given: part(H, FIRST),
-            next,
-        },
-    )?;
-    add(
-        tree,
-        Form::Label {
-            from: part(P, FIRST),
-            to: part(Q, SECOND),
-            session: named(K),
-            label: NameId(LABEL),
-            next: given,
-        },
-    )
-}
-
-// A letter for each node.
-fn letter(node: &CodeNode) -> u8 {
+// A letter for a node, and its first four numbers in their order.
+fn shape(node: &Option<CodeNode>) -> (u8, [i64; 4]) {
     match node {
-        CodeNode::Join(..) => b'j',
-        CodeNode::Send(..) => b'!',
-        CodeNode::Recv(..) => b'?',
-        CodeNode::Pick(..) => b'p',
-        CodeNode::Branch(..) => b'b',
-        CodeNode::Throw(..) => b'g',
-        CodeNode::Catch(..) => b't',
-        CodeNode::Set(..) => b'=',
-        CodeNode::Show(..) => b's',
-        CodeNode::Host(..) => b'h',
-        CodeNode::If(..) => b'i',
-        CodeNode::Call(..) => b'c',
-        CodeNode::End => b'.',
+        Some(CodeNode::Join(a, role, k, next)) => (
+            b'j',
+            [name(*a), name(*role), name(*k), code(*next)],
+        ),
+        Some(CodeNode::Send(k, role, expr, next)) => (
+            b'!',
+            [name(*k), name(*role), number_in(expr), code(*next)],
+        ),
+        Some(CodeNode::Recv(k, role, var, next)) => (
+            b'?',
+            [name(*k), name(*role), name(*var), code(*next)],
+        ),
+        Some(CodeNode::Pick(k, role, label, next)) => (
+            b'p',
+            [name(*k), name(*role), name(*label), code(*next)],
+        ),
+        Some(CodeNode::Branch(k, role, arms)) => {
+            let (label, next) = only_arm(arms);
+            (b'b', [name(*k), name(*role), label, next])
+        }
+        Some(CodeNode::Throw(k, role, given, next)) => (
+            b'g',
+            [name(*k), name(*role), name(*given), code(*next)],
+        ),
+        Some(CodeNode::Catch(k, role, taken, next)) => (
+            b't',
+            [name(*k), name(*role), name(*taken), code(*next)],
+        ),
+        Some(CodeNode::Set(var, expr, next)) => (
+            b'=',
+            [name(*var), number_in(expr), code(*next), 0],
+        ),
+        Some(CodeNode::Show(expr, next)) => (b's', [number_in(expr), code(*next), 0, 0]),
+        Some(CodeNode::Host(var, function, left, right, _)) => (
+            b'h',
+            [
+                name(*var),
+                name(*function),
+                number_in(left),
+                number_in(right),
+            ],
+        ),
+        Some(_) => (b'x', [0, 0, 0, 0]),
+        None => (b'-', [0, 0, 0, 0]),
     }
 }
 
-fn letters(alloc: Global, code: &Code) -> Result<Vec<u8>, Memory> {
-    let mut letters = Vec::new(alloc);
-    for node in code.nodes.as_slice() {
-        letters.push(letter(node))?;
-    }
-    Ok(letters)
+fn name(id: NameId) -> i64 {
+    i64::from(id.0)
 }
 
-#[test]
-fn an_exchange(rt: HostRuntime) -> Result<(), Fail> {
-    let alloc = rt.alloc();
-    let file = exchange(alloc)?;
-    let endpoints = project(alloc, &file)?;
-    let letters = letters(alloc, &endpoints.code)?;
-    assert_eq!(rt; letters.as_slice(), b".!j.?j".as_slice());
-    assert_eq!(rt; endpoints.channels.len(), 1);
-    assert!(rt; endpoints.channels.at(0).name == NameId(STARTED));
-    assert_eq!(rt; endpoints.processes.len(), 2);
-    assert!(rt; endpoints.processes.at(0).body == CodeId(2));
-    assert!(rt; endpoints.processes.at(1).body == CodeId(5));
+fn code(id: CodeId) -> i64 {
+    i64::from(id.0)
+}
+
+// What a process does that has no part.
+const NOTHING: (u8, [i64; 4]) = (b'-', [0, 0, 0, 0]);
+
+// The first process does this at a statement, the second that, and another nothing.
+fn assert_parts(
+    rt: &impl Abort,
+    alloc: Global,
+    form: &Form,
+    first: (u8, [i64; 4]),
+    second: (u8, [i64; 4]),
+) -> Result<(), Memory> {
+    let next = CodeId(NEXT);
+    assert!(rt; shape(&part(alloc, form, NameId(P), next)?) == first);
+    assert!(rt; shape(&part(alloc, form, NameId(Q), next)?) == second);
+    assert!(rt; shape(&part(alloc, form, NameId(OTHER), next)?) == NOTHING);
     Ok(())
 }
 
+// start a(k): p[A], q[B];
 #[test]
-fn other_statements(rt: HostRuntime) -> Result<(), Fail> {
+fn a_start(rt: HostRuntime) -> Result<(), Fail> {
     let alloc = rt.alloc();
-    let file = statements(alloc)?;
-    let endpoints = project(alloc, &file)?;
-    let letters = letters(alloc, &endpoints.code)?;
-    assert_eq!(rt; letters.as_slice(), b".s=gpjj.htbjj".as_slice());
-    assert_eq!(rt; endpoints.processes.len(), 2);
-    assert!(rt; endpoints.processes.at(0).body == CodeId(6));
-    assert!(rt; endpoints.processes.at(1).body == CodeId(12));
+    let mut active = List::new(alloc);
+    active.push(taking(P, FIRST))?;
+    active.push(taking(Q, SECOND))?;
+    let form = Form::Start {
+        channel: named(CHANNEL),
+        session: named(K),
+        active,
+        serve: List::new(alloc),
+        next: NodeId(0),
+    };
+    assert_parts(
+        &rt,
+        alloc,
+        &form,
+        (b'j', [0, 2, 6, 17]),
+        (b'j', [0, 3, 6, 17]),
+    )?;
+    Ok(())
+}
+
+// p[A].33 -> q[B].x : k;
+#[test]
+fn a_value(rt: HostRuntime) -> Result<(), Fail> {
+    let alloc = rt.alloc();
+    let form = Form::Value {
+        from: taking(P, FIRST),
+        expr: number(33),
+        to: taking(Q, SECOND),
+        var: NameId(X),
+        session: named(K),
+        next: NodeId(0),
+    };
+    assert_parts(
+        &rt,
+        alloc,
+        &form,
+        (b'!', [6, 3, 33, 17]),
+        (b'?', [6, 2, 8, 17]),
+    )?;
+    Ok(())
+}
+
+// p[A] -> q[B] : k.ok;
+#[test]
+fn a_label(rt: HostRuntime) -> Result<(), Fail> {
+    let alloc = rt.alloc();
+    let form = Form::Label {
+        from: taking(P, FIRST),
+        to: taking(Q, SECOND),
+        session: named(K),
+        label: NameId(LABEL),
+        next: NodeId(0),
+    };
+    assert_parts(
+        &rt,
+        alloc,
+        &form,
+        (b'p', [6, 3, 9, 17]),
+        (b'b', [6, 2, 9, 17]),
+    )?;
+    Ok(())
+}
+
+// p[A] -> q[B] : k(h[A]);
+#[test]
+fn an_endpoint_given_away(rt: HostRuntime) -> Result<(), Fail> {
+    let alloc = rt.alloc();
+    let form = Form::Give {
+        from: taking(P, FIRST),
+        to: taking(Q, SECOND),
+        session: named(K),
+        given: taking(H, FIRST),
+        next: NodeId(0),
+    };
+    assert_parts(
+        &rt,
+        alloc,
+        &form,
+        (b'g', [6, 3, 7, 17]),
+        (b't', [6, 2, 7, 17]),
+    )?;
+    Ok(())
+}
+
+// p.x := 1; p show 1; and q.x := host f(1, 2);
+#[test]
+fn statements_of_one_process(rt: HostRuntime) -> Result<(), Fail> {
+    let alloc = rt.alloc();
+    let set = Form::Set {
+        process: named(P),
+        var: NameId(X),
+        expr: number(1),
+        next: NodeId(0),
+    };
+    assert_parts(&rt, alloc, &set, (b'=', [8, 1, 17, 0]), NOTHING)?;
+    let show = Form::Show {
+        process: named(P),
+        expr: number(1),
+        next: NodeId(0),
+    };
+    assert_parts(&rt, alloc, &show, (b's', [1, 17, 0, 0]), NOTHING)?;
+    let host = Form::Host {
+        process: named(Q),
+        var: NameId(X),
+        name: named(LABEL),
+        left: number(1),
+        right: number(2),
+        next: NodeId(0),
+    };
+    assert_parts(&rt, alloc, &host, NOTHING, (b'h', [8, 9, 1, 2]))?;
     Ok(())
 }

@@ -5,6 +5,11 @@ use super::examples::{
     ORDERED_STARTS, PURCHASE, SERVICE, TWO_MESSAGES,
 };
 use super::fmt::formats;
+use chor_base::{Names, Texts};
+use chor_lexer::tokens;
+use chor_parser::parse;
+use chor_tree::{File, same};
+use std::alloc::Global;
 use std::test::Fail;
 
 // One session of one message.
@@ -130,33 +135,49 @@ main (p, q) {
 const PURCHASE_AS_SHOWN: &[u8] =
     b"protocol Buy (Buyer, Seller) { ask = Buyer -> Seller : text then quote; quote = Seller -> Buyer : int then answer; answer = Buyer -> Seller { accept then pay, reject then done }; pay = Buyer -> Seller : int then receipt; receipt = Seller -> Buyer : text then done; done = end; } protocol Settle (Shop, Bank) { hand = Shop -> Bank : Buy.pay@Seller then paid; paid = Bank -> Shop : int then done; done = end; } protocol Ship (Shop, Depot) { order = Shop -> Depot : text then done; done = end; } service buy : Buy (Buyer, Seller); service settle : Settle (Shop | Bank); service ship : Ship (Shop | Depot); main (b, s) { start buy(k): b[Buyer], s[Seller]; b[Buyer].\"book\" -> s[Seller].item : k; s[Seller].20 -> b[Buyer].price : k; if b.price <= 25 { b[Buyer] -> s[Seller] : k.accept; start settle(m): s[Shop] new n[Bank]; s[Shop] -> n[Bank] : m(k[Seller]); b[Buyer].price -> n[Seller].sum : k; n[Seller].\"paid\" -> b[Buyer].note : k; n[Bank].sum -> s[Shop].got : m; start ship(h): s[Shop] new d[Depot]; s[Shop].item -> d[Depot].parcel : h; end } else { b[Buyer] -> s[Seller] : k.reject; end } }";
 
+// The file that a source is. Other sources are much shorter than this test takes them.
+fn read(alloc: Global, source: &[u8]) -> Result<File, Fail> {
+    let mut names = Names::new(alloc);
+    let mut texts = Texts::new(alloc);
+    let front = &source[..source.len().min(100_000)];
+    let tokens = tokens(alloc, front, &mut names, &mut texts)?;
+    Ok(parse(alloc, &tokens, names, texts)?)
+}
+
+// Whether `fmt` writes this text for a source, and both say the same.
+fn is_laid_out(alloc: Global, source: &[u8], text: &[u8]) -> Result<bool, Fail> {
+    let file = read(alloc, source)?;
+    let other = read(alloc, text)?;
+    Ok(formats(alloc, source, text)? && same(&file, &other))
+}
+
 #[test]
 fn examples_in_other_layouts(rt: HostRuntime) -> Result<(), Fail> {
     let alloc = rt.alloc();
-    assert!(rt; formats(alloc, b"main () { end }", NOTHING)?);
+    assert!(rt; is_laid_out(alloc, b"main () { end }", NOTHING)?);
     assert!(rt;
-        formats(
+        is_laid_out(
             alloc,
             b"main (p) { p show 9223372036854775807 + 1; end }",
             GREATEST_NUMBER
         )?
     );
     assert!(rt;
-        formats(
+        is_laid_out(
             alloc,
             b"main (p) { p.x := host gap(3, 10); p show x; end }",
             HOST_CALL
         )?
     );
-    assert!(rt; formats(alloc, HELLO_AS_SHOWN, HELLO)?);
-    assert!(rt; formats(alloc, TWO_MESSAGES_AS_SHOWN, TWO_MESSAGES)?);
-    assert!(rt; formats(alloc, BEFORE_A_DECISION_AS_SHOWN, BEFORE_A_DECISION)?);
-    assert!(rt; formats(alloc, LABELS_AS_SHOWN, LABELS)?);
-    assert!(rt; formats(alloc, SERVICE_AS_SHOWN, SERVICE)?);
-    assert!(rt; formats(alloc, ORDERED_STARTS_AS_SHOWN, ORDERED_STARTS)?);
-    assert!(rt; formats(alloc, DELEGATION_AS_SHOWN, DELEGATION)?);
-    assert!(rt; formats(alloc, ENDLESS_AS_SHOWN, ENDLESS)?);
-    assert!(rt; formats(alloc, PURCHASE_AS_SHOWN, PURCHASE)?);
+    assert!(rt; is_laid_out(alloc, HELLO_AS_SHOWN, HELLO)?);
+    assert!(rt; is_laid_out(alloc, TWO_MESSAGES_AS_SHOWN, TWO_MESSAGES)?);
+    assert!(rt; is_laid_out(alloc, BEFORE_A_DECISION_AS_SHOWN, BEFORE_A_DECISION)?);
+    assert!(rt; is_laid_out(alloc, LABELS_AS_SHOWN, LABELS)?);
+    assert!(rt; is_laid_out(alloc, SERVICE_AS_SHOWN, SERVICE)?);
+    assert!(rt; is_laid_out(alloc, ORDERED_STARTS_AS_SHOWN, ORDERED_STARTS)?);
+    assert!(rt; is_laid_out(alloc, DELEGATION_AS_SHOWN, DELEGATION)?);
+    assert!(rt; is_laid_out(alloc, ENDLESS_AS_SHOWN, ENDLESS)?);
+    assert!(rt; is_laid_out(alloc, PURCHASE_AS_SHOWN, PURCHASE)?);
     Ok(())
 }
 
@@ -165,64 +186,64 @@ fn examples_in_other_layouts(rt: HostRuntime) -> Result<(), Fail> {
 fn what_other_rules_refuse_is_formatted(rt: HostRuntime) -> Result<(), Fail> {
     let alloc = rt.alloc();
     assert!(rt;
-        formats(
+        is_laid_out(
             alloc,
             b"main (p) { q show 1; end }",
             b"main (p) {\n  q show 1;\n  end\n}\n"
         )?
     );
-    assert!(rt; formats(alloc, b"main (p, p) { end }", b"main (p, p) {\n  end\n}\n")?);
+    assert!(rt; is_laid_out(alloc, b"main (p, p) { end }", b"main (p, p) {\n  end\n}\n")?);
     assert!(rt;
-        formats(
+        is_laid_out(
             alloc,
             b"main (p) { p show x; end }",
             b"main (p) {\n  p show x;\n  end\n}\n"
         )?
     );
     assert!(rt;
-        formats(
+        is_laid_out(
             alloc,
             b"main (p) { p show 1 + true; end }",
             b"main (p) {\n  p show 1 + true;\n  end\n}\n"
         )?
     );
     assert!(rt;
-        formats(
+        is_laid_out(
             alloc,
             b"main (p) { p.x := host far(3, 10); p show x; end }",
             b"main (p) {\n  p.x := host far(3, 10);\n  p show x;\n  end\n}\n"
         )?
     );
     assert!(rt;
-        formats(
+        is_laid_out(
             alloc,
             b"proc Idle (p, q) { p show 1; call Idle(p, q) } main (p, q) { call Idle(p, q) }",
             b"proc Idle (p, q) {\n  p show 1;\n  call Idle(p, q)\n}\nmain (p, q) {\n  call Idle(p, q)\n}\n"
         )?
     );
     assert!(rt;
-        formats(
+        is_laid_out(
             alloc,
             b"protocol V (A, B) { s = A -> B : int then w; } main () { end }",
             b"protocol V (A, B) {\n  s = A -> B : int then w;\n}\nmain () {\n  end\n}\n"
         )?
     );
     assert!(rt;
-        formats(
+        is_laid_out(
             alloc,
             b"protocol V (A, B, C) { s = A -> B { l then t, r then u }; t = B -> C : int then e; u = B -> A : int then e; e = end; } main () { end }",
             b"protocol V (A, B, C) {\n  s = A -> B {l then t, r then u};\n  t = B -> C : int then e;\n  u = B -> A : int then e;\n  e = end;\n}\nmain () {\n  end\n}\n"
         )?
     );
     assert!(rt;
-        formats(
+        is_laid_out(
             alloc,
             b"protocol V (A, B, C) { s = A -> B { more then s, done then t }; t = A -> C : int then e; e = end; } main () { end }",
             b"protocol V (A, B, C) {\n  s = A -> B {more then s, done then t};\n  t = A -> C : int then e;\n  e = end;\n}\nmain () {\n  end\n}\n"
         )?
     );
     assert!(rt;
-        formats(
+        is_laid_out(
             alloc,
             b"main (r, p) { if r.true { p show 1; end } else { p show 2; end } }",
             b"main (r, p) {\n  if r.true {\n    p show 1;\n    end\n  } else {\n    p show 2;\n    end\n  }\n}\n"

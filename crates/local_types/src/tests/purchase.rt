@@ -1,6 +1,6 @@
 //! The types of all roles of a purchase's protocols.
 
-use super::{choice, end, endpoint, number, protocol_named, types, value, views};
+use super::{all_types, choice, end, endpoint, number, protocol_named, types, value};
 use chor_base::{List, Memory, Names, Sort};
 use chor_tree::{Payload, Protocol};
 use std::alloc::Global;
@@ -47,7 +47,8 @@ fn all_roles_of_buy_are_fine(rt: HostRuntime) -> Result<(), Fail> {
     let mut names = Names::new(alloc);
     let protocol = buying(alloc, &mut names)?;
     assert!(rt; !protocol.states.is_empty() && protocol.states.len() < 10);
-    assert!(rt; views(alloc, names, protocol).is_ok());
+    let types = all_types(alloc, &protocol, &names)?;
+    assert_eq!(rt; types.len(), 2);
     Ok(())
 }
 
