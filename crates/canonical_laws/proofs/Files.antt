@@ -7,7 +7,7 @@ use Rattle.chor_lexer.specs.Lexeme.{Symbol}
 use Rattle.chor_lexer.specs.Spelling.{IsSource, SpellAll}
 use Rattle.token_grammar.specs.Symbols.{nowhere}
 use Rattle.chor_tree.specs.declared.file.Service.{Service}
-use Rattle.chor_tree.specs.declared.protocol.Protocol.{Protocol}
+use Rattle.chor_tree.specs.Protocols.{Protocol}
 use Rattle.chor_tree.specs.Source.{Procedure, Source}
 use Rattle.chor_parser.specs.Grammar.{ProcedureIs, a_procedure, no_item, protocol_first, service_first, procedure_first, FileIs, a_file}
 use Rattle.chor_parser.specs.Limits.{KeepsProcedure, KeepsAll}

@@ -20,4 +20,5 @@ pub mod AlikeTerms
 pub mod AlikeBlocks
 pub mod Renumbered
 pub mod Placeless
+pub mod Fresh
 pub mod Anew

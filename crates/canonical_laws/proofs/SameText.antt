@@ -7,16 +7,15 @@ use Rattle.chor_base.specs.Writing.{name_in, literal}
 use Rattle.chor_lexer.specs.Mark.{spelling}
 use Rattle.chor_lexer.specs.Canonical.{unary_mark, binary_mark, strength, strength_of, left_needs, right_needs, operand_text, constant_text, expr_text}
 use Rattle.chor_tree.specs.declared.file.File.{File}
-use Rattle.chor_tree.specs.declared.file.Proc.{Proc}
 use Rattle.chor_tree.specs.declared.protocol.Payload.TheVariants as payload
 use Rattle.chor_tree.specs.declared.protocol.ProtoStep.TheVariants as step
-use Rattle.chor_tree.specs.Source.{Starts, Sends, Selects, Gives, Sets, Asks, Shows, Then, Either, Calls, Ends, Procedure, block_in, blocks_of, procedure_of}
-use Rattle.chor_tree.specs.Same.{Same, all_same, same_named, same_part, same_payload, same_arm, same_step, same_state, same_protocol, same_service, same_variable, same_process_param, same_holder, same_session_param, same_value, same_term, same_statement, same_block, same_procedure, same_words, same_texts, same_files}
+use Rattle.chor_tree.specs.Source.{Starts, Sends, Selects, Gives, Sets, Asks, Shows, Then, Either, Calls, Ends, Source, source_of}
+use Rattle.chor_tree.specs.Same.{Same, all_same, same_named, same_part, same_payload, same_arm, same_step, same_state, same_protocol, same_service, same_variable, same_process_param, same_holder, same_session_param, same_value, same_term, same_statement, same_block, same_procedure, same_source, same_words, same_texts, same_files}
 use Rattle.chor_print.specs.Pieces.{named_text, part_text, sort_text, payload_text, arm_text, variable_text, variables_text, process_param_text, holder_text, session_param_text, listed, listed_after}
 use Rattle.chor_print.specs.Lines.{indented, braced, stated}
-use Rattle.chor_print.specs.Text.{step_text, state_line, protocol_lines, service_line, proc_head, proc_lines, ended, file_lines, canonical_text}
+use Rattle.chor_print.specs.Text.{step_text, state_line, protocol_lines, service_line, ended, canonical_text}
 use Rattle.chor_tree.proofs.SameLaws.{two, three, four, five, same_bytes, found_tells, int_tells, bool_tells, sort_tells, unary_tells, binary_tells}
-use Rattle.canonical_laws.proofs.Sources.{statement_text, lines_of, block_lines_are}
+use Rattle.canonical_laws.proofs.Sources.{statement_text, lines_of, procedure_lines, source_text, canonical_is}
 
 -- ---- lists
 
@@ -204,59 +203,59 @@ module _ (names texts names' texts' : List (List ℕ)) where
 
 -- ---- statements and blocks
 
-module _ (f g : File) where
-  statement_tells : Tells (same_statement (same_words f.names g.names) (same_texts f.texts g.texts)) (statement_text f) (statement_text g)
+module _ (names texts names' texts' : List (List ℕ)) where
+  statement_tells : Tells (same_statement (same_words names names') (same_texts texts texts')) (statement_text names texts) (statement_text names' texts')
   statement_tells (Starts c k ps qs) (Starts d l rs ss) h =
       let a = four h in
-      let channel = named_tells f.names g.names c d a.0 in
-      let session = named_tells f.names g.names k l a.1 in
-      let active = listed_tells (part_tells f.names g.names) ps rs a.2 in
-      let serve = listed_after_tells (codes " new ") (part_tells f.names g.names) qs ss a.3 in
+      let channel = named_tells names names' c d a.0 in
+      let session = named_tells names names' k l a.1 in
+      let active = listed_tells (part_tells names names') ps rs a.2 in
+      let serve = listed_after_tells (codes " new ") (part_tells names names') qs ss a.3 in
       λ i. codes "start " ++ channel i ++ codes "(" ++ session i ++ codes "): " ++ active i ++ serve i
   statement_tells (Sends p e q x k) (Sends r u s y l) h =
       let a = five h in
-      let from = part_tells f.names g.names p r a.0 in
-      let sent = term_tells f.names f.texts g.names g.texts e u a.1 in
-      let to = part_tells f.names g.names q s a.2 in
-      let var = name_tells f.names g.names x y a.3 in
-      let session = named_tells f.names g.names k l a.4 in
+      let from = part_tells names names' p r a.0 in
+      let sent = term_tells names texts names' texts' e u a.1 in
+      let to = part_tells names names' q s a.2 in
+      let var = name_tells names names' x y a.3 in
+      let session = named_tells names names' k l a.4 in
       λ i. from i ++ codes "." ++ sent i ++ codes " -> " ++ to i ++ codes "." ++ var i ++ codes " : " ++ session i
   statement_tells (Selects p q k x) (Selects r s l y) h =
       let a = four h in
-      let from = part_tells f.names g.names p r a.0 in
-      let to = part_tells f.names g.names q s a.1 in
-      let session = named_tells f.names g.names k l a.2 in
-      let label = name_tells f.names g.names x y a.3 in
+      let from = part_tells names names' p r a.0 in
+      let to = part_tells names names' q s a.1 in
+      let session = named_tells names names' k l a.2 in
+      let label = name_tells names names' x y a.3 in
       λ i. from i ++ codes " -> " ++ to i ++ codes " : " ++ session i ++ codes "." ++ label i
   statement_tells (Gives p q k x) (Gives r s l y) h =
       let a = four h in
-      let from = part_tells f.names g.names p r a.0 in
-      let to = part_tells f.names g.names q s a.1 in
-      let session = named_tells f.names g.names k l a.2 in
-      let given = part_tells f.names g.names x y a.3 in
+      let from = part_tells names names' p r a.0 in
+      let to = part_tells names names' q s a.1 in
+      let session = named_tells names names' k l a.2 in
+      let given = part_tells names names' x y a.3 in
       λ i. from i ++ codes " -> " ++ to i ++ codes " : " ++ session i ++ codes "(" ++ given i ++ codes ")"
   statement_tells (Sets p x e) (Sets q y u) h =
       let a = three h in
-      let process = named_tells f.names g.names p q a.0 in
-      let var = name_tells f.names g.names x y a.1 in
-      let value = term_tells f.names f.texts g.names g.texts e u a.2 in
+      let process = named_tells names names' p q a.0 in
+      let var = name_tells names names' x y a.1 in
+      let value = term_tells names texts names' texts' e u a.2 in
       λ i. process i ++ codes "." ++ var i ++ codes " := " ++ value i
   statement_tells (Asks p x k d e) (Asks q y l u v) h =
       let a = five h in
-      let process = named_tells f.names g.names p q a.0 in
-      let var = name_tells f.names g.names x y a.1 in
-      let function = named_tells f.names g.names k l a.2 in
-      let left = term_tells f.names f.texts g.names g.texts d u a.3 in
-      let right = term_tells f.names f.texts g.names g.texts e v a.4 in
+      let process = named_tells names names' p q a.0 in
+      let var = name_tells names names' x y a.1 in
+      let function = named_tells names names' k l a.2 in
+      let left = term_tells names texts names' texts' d u a.3 in
+      let right = term_tells names texts names' texts' e v a.4 in
       λ i. process i ++ codes "." ++ var i ++ codes " := host " ++ function i ++ codes "(" ++ left i ++ codes ", " ++ right i ++ codes ")"
   statement_tells (Shows p e) (Shows q u) h =
       let a = two h in
-      let process = named_tells f.names g.names p q a.0 in
-      let value = term_tells f.names f.texts g.names g.texts e u a.1 in
+      let process = named_tells names names' p q a.0 in
+      let value = term_tells names texts names' texts' e u a.1 in
       λ i. process i ++ codes " show " ++ value i
   statement_tells _ _ h = absurd cc
 
-  block_tells : Tells (same_block (same_words f.names g.names) (same_texts f.texts g.texts)) (lines_of f) (lines_of g)
+  block_tells : Tells (same_block (same_words names names') (same_texts texts texts')) (lines_of names texts) (lines_of names' texts')
   block_tells (Then p s b) (Then q r c) h =
       let a = two h in
       let statement = statement_tells s r a.0 in
@@ -264,61 +263,42 @@ module _ (f g : File) where
       λ i. stated (statement i) (others i)
   block_tells (Either p x e b c) (Either q y u d k) h =
       let a = four h in
-      let process = named_tells f.names g.names x y a.0 in
-      let value = term_tells f.names f.texts g.names g.texts e u a.1 in
+      let process = named_tells names names' x y a.0 in
+      let value = term_tells names texts names' texts' e u a.1 in
       let first = block_tells b d a.2 in
       let second = block_tells c k a.3 in
       λ i. (codes "if " ++ process i ++ codes "." ++ value i ++ codes " {") ∷ (indented (first i) ++ codes "} else {" ∷ (indented (second i) ++ codes "}" ∷ []))
   block_tells (Calls p x ps ks) (Calls q y rs ls) h =
       let a = three h in
-      let procedure = named_tells f.names g.names x y a.0 in
-      let processes = listed_tells (named_tells f.names g.names) ps rs a.1 in
-      let sessions = listed_after_tells (codes "; ") (named_tells f.names g.names) ks ls a.2 in
+      let procedure = named_tells names names' x y a.0 in
+      let processes = listed_tells (named_tells names names') ps rs a.1 in
+      let sessions = listed_after_tells (codes "; ") (named_tells names names') ks ls a.2 in
       λ i. (codes "call " ++ procedure i ++ codes "(" ++ processes i ++ sessions i ++ codes ")") ∷ []
   block_tells (Ends p) (Ends q) h = refl
   block_tells _ _ h = absurd cc
 
--- ---- procedures
+  -- ---- procedures and sources
 
--- the lines of a procedure of a source
-abbrev procedure_lines : File → Procedure → List (List ℕ)
-procedure_lines f p =
-    braced (codes "proc " ++ named_text f.names p.name ++ codes " (" ++ listed (process_param_text f.names) p.params
-    ++ listed_after (codes "; ") (session_param_text f.names) p.sessions ++ codes ") {") (lines_of f p.body)
+  procedure_tells : Tells (same_procedure (same_words names names') (same_texts texts texts')) (procedure_lines names texts) (procedure_lines names' texts')
+  procedure_tells p q h =
+      let a = four h in
+      let name = named_tells names names' p.name q.name a.0 in
+      let params = listed_tells (process_param_tells names names') p.params q.params a.1 in
+      let sessions = listed_after_tells (codes "; ") (session_param_tells names names') p.sessions q.sessions a.2 in
+      let body = block_tells p.body q.body a.3 in
+      λ i. braced (codes "proc " ++ name i ++ codes " (" ++ params i ++ sessions i ++ codes ") {") (body i)
 
-procedure_lines_are : (f : File) (p : Proc) → proc_lines f p ≡ procedure_lines f (procedure_of f.tree.nodes p)
-procedure_lines_are f p = ap (braced (proc_head f.names p)) (block_lines_are f p.body)
-
-all_procedure_lines : (f : File) (ps : List Proc) → flat_map (proc_lines f) ps ≡ flat_map (procedure_lines f) (map (procedure_of f.tree.nodes) ps)
-all_procedure_lines f [] = refl
-all_procedure_lines f (p ∷ ps) =
-    let first = procedure_lines_are f p in
-    let others = all_procedure_lines f ps in
-    λ i. first i ++ others i
-
-procedure_tells : (f g : File) → Tells (same_procedure (same_words f.names g.names) (same_texts f.texts g.texts)) (procedure_lines f) (procedure_lines g)
-procedure_tells f g p q h =
-    let a = four h in
-    let name = named_tells f.names g.names p.name q.name a.0 in
-    let params = listed_tells (process_param_tells f.names g.names) p.params q.params a.1 in
-    let sessions = listed_after_tells (codes "; ") (session_param_tells f.names g.names) p.sessions q.sessions a.2 in
-    let body = block_tells f g p.body q.body a.3 in
-    λ i. braced (codes "proc " ++ name i ++ codes " (" ++ params i ++ sessions i ++ codes ") {") (body i)
-
--- ---- files
-
-same_lines : (f g : File) → same_files f g ≡ true → file_lines f ≡ file_lines g
-same_lines f g h =
-    let a = five h in
-    let protocols = flat_tells (protocol_tells f.names g.names) f.protocols g.protocols a.0 in
-    let services = map_tells (service_tells f.names g.names) f.services g.services a.1 in
-    let said = flat_tells (procedure_tells f g) (map (procedure_of f.tree.nodes) f.procs) (map (procedure_of g.tree.nodes) g.procs) a.2 in
-    let procedures = all_procedure_lines f f.procs ∙ said ∙ sym (all_procedure_lines g g.procs) in
-    let processes = listed_tells (named_tells f.names g.names) f.processes g.processes a.3 in
-    let told = block_tells f g (block_in (blocks_of f.tree.nodes) f.body) (block_in (blocks_of g.tree.nodes) g.body) a.4 in
-    let body = block_lines_are f f.body ∙ told ∙ sym (block_lines_are g g.body) in
-    λ i. protocols i ++ services i ++ procedures i ++ braced (codes "main (" ++ processes i ++ codes ") {") (body i)
+  -- sources that say the same have the same canonical text
+  pub same_source_text : (s r : Source) → same_source (same_words names names') (same_texts texts texts') s r ≡ true → source_text names texts s ≡ source_text names' texts' r
+  same_source_text s r h =
+      let a = five h in
+      let protocols = flat_tells (protocol_tells names names') s.items.protocols r.items.protocols a.0 in
+      let services = map_tells (service_tells names names') s.items.services r.items.services a.1 in
+      let procedures = flat_tells procedure_tells s.items.procedures r.items.procedures a.2 in
+      let processes = listed_tells (named_tells names names') s.processes r.processes a.3 in
+      let body = block_tells s.body r.body a.4 in
+      ap (flat_map ended) (λ i. protocols i ++ services i ++ procedures i ++ braced (codes "main (" ++ processes i ++ codes ") {") (body i))
 
 -- files that say the same have the same canonical text
 pub same_text : (f g : File) → same_files f g ≡ true → canonical_text f ≡ canonical_text g
-same_text f g h = ap (flat_map ended) (same_lines f g h)
+same_text f g h = canonical_is f ∙ same_source_text f.names f.texts g.names g.texts (source_of f) (source_of g) h ∙ sym (canonical_is g)

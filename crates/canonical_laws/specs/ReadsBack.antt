@@ -17,10 +17,22 @@ DeriveSame names ts s = (t : Source) × IsWithin names ts t × IsSame t s
 abbrev pub HasSymbols : List ℕ → List Symbol → Type 0
 HasSymbols bytes ss = (ls : List Lexeme) × IsTokens bytes ls × (map (λ l. l.symbol) ls ≡ ss)
 
--- these are the tokens of the bytes, with which both tables were filled, and they derive the file within the limits
-pub record IsReadFrom (bytes : List ℕ) (ts : List Token) (f : File) : Type 0 where
-  pub tokens : AreTokensOf bytes [] [] f.names f.texts ts
+-- these are the tokens of the bytes, of which what is new went into these tables, and they derive the file within the limits
+pub record IsReadWith (old_names old_texts : List (List ℕ)) (bytes : List ℕ) (ts : List Token) (f : File) : Type 0 where
+  pub tokens : AreTokensOf bytes old_names old_texts f.names f.texts ts
   pub derived : IsWithin f.names ts (source_of f)
+
+-- some bytes were read as the file, whatever was in the tables before
+pub record IsRead (f : File) : Type 0 where
+  pub old_names : List (List ℕ)
+  pub old_texts : List (List ℕ)
+  pub bytes : List ℕ
+  pub tokens : List Token
+  pub is : IsReadWith old_names old_texts bytes tokens f
+
+-- these bytes, with empty tables
+abbrev pub IsReadFrom : List ℕ → List Token → File → Type 0
+IsReadFrom bytes ts f = IsReadWith [] [] bytes ts f
 
 -- the canonical text has tokens, which have numbers in the file's tables, and they derive the file's source but for places
 pub record ReadsBack (f : File) : Type 0 where

@@ -2,8 +2,6 @@
 #![tactic(auto)]
 
 mod laws;
-#[cfg(test)]
-mod tests;
 
 pub use laws::{
     numbers_are_free, symbols_read_back, text_has_symbols, text_is_settled, text_reads_anew,

@@ -1,9 +1,9 @@
 //! `chor COMMAND ARGUMENTS`: reads the words, and ends with the status that the command gives.
 #![tactic(auto)]
 
-use chor_base::{List, Memory, Word};
+use chor_base::{HostOp, List, Meaning, Memory, Word};
 use chor_cmd::{Words, chor};
-use chor_host::HostTable;
+use chor_host::{HostFn, HostTable, host_gap, host_max, host_min};
 use chor_io::{DiskShelf, OpenGate, OutSink};
 use std::alloc::Global;
 use std::env;
@@ -12,7 +12,7 @@ use std::process::ExitCode;
 // The system didn't give the program its words.
 const NO_WORDS: u8 = 10;
 
-// There was no memory for the words.
+// There was no memory for the words or the host functions.
 const NO_MEMORY: u8 = 5;
 
 fn main(rt: HostRuntime) -> ExitCode {
@@ -29,12 +29,32 @@ fn main(rt: HostRuntime) -> ExitCode {
     let mut shelf = DiskShelf::new(rt.alloc(), &rt);
     let mut out = OutSink::new(&rt);
     let gate = OpenGate;
-    let hosts = HostTable::new(rt.alloc());
-    let status = chor(rt.alloc(), &words, &mut shelf, &mut out, &gate, &hosts);
+    let Some(hosts) = host_functions(rt.alloc()) else {
+        return ExitCode::from(NO_MEMORY);
+    };
+    let status = chor(rt.alloc(), &words, &hosts, &mut shelf, &mut out, &gate);
     ExitCode::from(status.number())
 }
 
 fn push_word(alloc: Global, items: &mut List<Word>, bytes: &[u8]) -> Result<(), Memory> {
-    let word = List::from_vec(bytes.to_vec(alloc)?);
+    let word = Word::from_slice(alloc, bytes)?;
     items.push(word)
+}
+
+// The functions that choreographies may call; none where there is no memory for them.
+fn host_functions(alloc: Global) -> Option<HostTable> {
+    let mut hosts = HostTable::new(alloc);
+    let min = Word::from_slice(alloc, b"min".as_slice()).ok()?;
+    let max = Word::from_slice(alloc, b"max".as_slice()).ok()?;
+    let gap = Word::from_slice(alloc, b"gap".as_slice()).ok()?;
+    hosts
+        .add(HostFn::new(min, Meaning::Exact(HostOp::Min), host_min))
+        .ok()?;
+    hosts
+        .add(HostFn::new(max, Meaning::Exact(HostOp::Max), host_max))
+        .ok()?;
+    hosts
+        .add(HostFn::new(gap, Meaning::Exact(HostOp::Gap), host_gap))
+        .ok()?;
+    Some(hosts)
 }

@@ -2,3 +2,6 @@ pub mod Lists
 pub mod Tables
 pub mod WordTables
 pub mod NameMaps
+pub mod Members
+pub mod Rules
+pub mod Faults

@@ -1,6 +1,8 @@
 -- Entries of names as a finite map.
-use Rattle.std.proofs.Common.{◌≡◌, ℕ, true, false, cond, List, [], ◌∷◌, refl, sym, ap, ◌∙◌, Some, None, arith, ◌==◌, ◌⊎◌, ◌≤◌, is_some, inl, inr}
-use Rattle.std.specs.Prelude.{map}
+use Rattle.std.proofs.Common.{◌≡◌, ℕ, suc, ◌-◌, ◌<◌, length, drop, true, false, cond, List, [], ◌∷◌, refl, sym, ap, ◌∙◌, Some, None, arith, ◌==◌, ◌⊎◌, ◌≤◌, is_some, inl, inr}
+use Rattle.std.specs.Prelude.{map, slice_get}
+use Rattle.std.proofs.lemmas.Option.{slice_get_within, get_or_from_slice_get}
+use Rattle.std.proofs.Math.Seq.{drop-cons}
 use Rattle.std.specs.Ordering.{nat_cmp, eq_by_cmp}
 use Rattle.std.specs.Map.{lookup}
 use Rattle.std.specs.FinMap as fin
@@ -35,3 +37,23 @@ put_found old new x v h = fin.same_map nat_cmp_total fin.nat_cmp-IsAntisymmetric
 
 pub no_room : {V : Type 0} (es : List (NameId × V)) (x : NameId) (n : ℕ) → lookup (λ k. x.0 == k.0) es ≡ None → (1 ≤ n → ⊥) → ((is_some (fin.get (map_of es) x.0) ≡ true) ⊎ (1 ≤ n)) → ⊥
 no_room es x n absent none some = elim some [ inl h ↦ (let e : is_some (fin.get (map_of es) x.0) ≡ false = ap is_some (get_found es x ∙ absent) in cc) | inr h ↦ none h ]
+
+-- ---- a copy, made from the last entry to the first
+
+-- entries that answer alike are one map
+pub alike_maps : {V : Type 0} (es fs : List (NameId × V)) → ((q : NameId) → lookup (λ k. q.0 == k.0) es ≡ lookup (λ k. q.0 == k.0) fs) → map_of es ≡ map_of fs
+alike_maps es fs h = fin.same_map nat_cmp_total fin.nat_cmp-IsAntisymmetric (map_of es) (map_of fs) (λ q. get_found es (record { 0 = q }) ∙ h (record { 0 = q }) ∙ sym (get_found fs (record { 0 = q })))
+
+-- one entry more, from the end
+pub copied_turn : {V : Type 0} (es old new : List (NameId × V)) (i : ℕ) (x : NameId) (v : V) → 0 < i → slice_get es (i - 1) ≡ Some (x, v)
+    → ((q : NameId) → lookup (λ k. q.0 == k.0) new ≡ cond (x.0 == q.0) (Some v) (lookup (λ k. q.0 == k.0) old))
+    → ((q : NameId) → lookup (λ k. q.0 == k.0) old ≡ lookup (λ k. q.0 == k.0) (drop i es))
+    → (q : NameId) → lookup (λ k. q.0 == k.0) new ≡ lookup (λ k. q.0 == k.0) (drop (i - 1) es)
+copied_turn es old new i x v positive at put so_far q =
+    let lt : i - 1 < length es = slice_get_within es (i - 1) (x, v) at in
+    let after : suc (i - 1) ≡ i = omega arith in
+    let parts : drop (i - 1) es ≡ (x, v) ∷ drop i es = drop-cons es (i - 1) (x, v) lt ∙ ap (λ e. e ∷ drop (suc (i - 1)) es) (get_or_from_slice_get es (i - 1) (x, v) (x, v) at) ∙ ap (λ j. (x, v) ∷ drop j es) after in
+    put q ∙ ap (cond (x.0 == q.0) (Some v)) (so_far q) ∙ ap (λ b. cond b (Some v) (lookup (λ k. q.0 == k.0) (drop i es))) (turned x.0 q.0) ∙ ap (lookup (λ k. q.0 == k.0)) (sym parts)
+  where
+    turned : (a b : ℕ) → (a == b) ≡ (b == a)
+    turned a b = grind (arith, nat_tests)

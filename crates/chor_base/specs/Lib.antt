@@ -4,3 +4,5 @@ pub mod Expr
 pub mod Meaning
 pub mod Events
 pub mod Writing
+pub mod Faults
+pub mod Sorts

@@ -1,5 +1,5 @@
 -- Tables of byte strings.
-use Rattle.std.specs.Prelude.{ℕ, ◌≡◌, ◌++◌, List, [], ◌∷◌, map, Vec, bytes_eq, if◌then◌else◌, Some, slice_get, false}
+use Rattle.std.specs.Prelude.{ℕ, ◌≡◌, ◌++◌, ◌<◌, ◌^◌, length, List, [], ◌∷◌, map, Vec, bytes_eq, if◌then◌else◌, Some, slice_get, false}
 use Rattle.std.specs.List.{list_any}
 use Rattle.std.specs.declared.alloc.Global.{Global}
 
@@ -17,3 +17,8 @@ Lacks ws w = list_any (bytes_eq w) ws ≡ false
 -- no word stands at two places
 abbrev pub AllDistinct : List (List ℕ) → Type 0
 AllDistinct ws = (i j : ℕ) (w : List ℕ) → slice_get ws i ≡ Some w → slice_get ws j ≡ Some w → i ≡ j
+
+-- fewer than 2^32 words, and none at two places
+pub record IsShortSet (ws : List (List ℕ)) : Type 0 where
+  pub distinct : AllDistinct ws
+  pub short : length ws < 2 ^ 32

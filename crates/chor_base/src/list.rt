@@ -1,12 +1,12 @@
 //! A list of items, which contracts see as a list.
 
-ghost use Rattle.std.specs.Prelude.{◌≡◌, ◌<◌, ◌++◌, ◌∷◌, [], length, slice_get, Some, OnOk, OnErr, IfOk, IsTrue, ◌↔◌, MatchOption};
+ghost use Rattle.std.specs.Prelude.{◌≡◌, ◌<◌, ◌++◌, ◌∷◌, [], length, slice_get, Some, OnOk, OnErr, IfOk, IsTrue, ◌↔◌, ◌^◌};
 
 use crate::memory::Memory;
 use std::alloc::Global;
 use std::marker::Model;
 
-/// Items in order.
+/// Items in order, fewer than 2^32 of them.
 #[derive(Debug, Drop)]
 pub struct List<T> {
     items: Vec<T>,
@@ -16,11 +16,13 @@ pub struct List<T> {
 pub type Word = List<u8>;
 
 impl<T> Model for List<T> {
-    ghost use Rattle.std.specs.Prelude.{List};
+    ghost use Rattle.std.specs.Prelude.{List, ◌<◌, ◌^◌, length};
 
     ghost Value = { List T };
 
     ghost view = { λ a. a.items.items };
+
+    ghost invariant = { λ a. length a.items.items < 2 ^ 32 };
 }
 
 impl<T> List<T> {
@@ -35,6 +37,7 @@ impl<T> List<T> {
 
     /// The items of a vector.
     pub fn from_vec(items: Vec<T>) -> Self
+        requires { length items.items < 2 ^ 32 }
         ensures { result ≡ items.items }
     {
         Self { items }
@@ -47,6 +50,13 @@ impl<T> List<T> {
         self.items.len()
     }
 
+    /// How many items there are, in 32 bits.
+    pub fn count(&self) -> u32
+        ensures { result ≡ length self.now }
+    {
+        self.items.len() as u32
+    }
+
     /// Whether there is no item.
     pub fn is_empty(&self) -> bool
         ensures { IsTrue result ↔ (self.now ≡ []) }
@@ -54,13 +64,17 @@ impl<T> List<T> {
         self.items.is_empty()
     }
 
-    /// Adds an item after all others.
+    /// Adds an item after all others. A list of 2^32 - 1 items answers `Memory`.
     pub fn push(&mut self, item: T) -> Result<(), Memory>
     where
         T: Drop,
         ensures ok { OnOk result (self.new ≡ self.old ++ item ∷ []) }
+        ensures short { length self.new < 2 ^ 32 }
         ensures err { OnErr result (self.new ≡ self.old) }
     {
+        if self.items.len() >= u32::MAX as usize {
+            return Err(Memory);
+        }
         self.items.push(item)?;
         Ok(())
     }
@@ -82,15 +96,22 @@ impl<T> List<T> {
 }
 
 impl<T: Copy> List<T> {
+    /// The items of a slice. One of 2^32 items or more answers `Memory`.
+    pub fn from_slice(alloc: Global, items: &[T]) -> Result<Self, Memory>
+        ensures { IfOk result (λ list. list ≡ items.now) }
+    {
+        let mut list = Self::new(alloc);
+        for item in items {
+            list.push(*item)?;
+        }
+        Ok(list)
+    }
+
     /// The same items once more.
-    pub fn copy(&self, alloc: Global) -> Result<List<T>, Memory>
+    pub fn copy(&self, alloc: Global) -> Result<Self, Memory>
         ensures { IfOk result (λ list. list ≡ self.now) }
     {
-        let source = self.items.as_slice();
-        let mut items = Vec::new(alloc);
-        for item in source {
-            items.push(*item)?;
-        }
-        Ok(Self { items })
+        let list = Self::from_slice(alloc, self.as_slice())?;
+        Ok(list)
     }
 }

@@ -1,6 +1,6 @@
 //! Finite maps from names.
 
-ghost use Rattle.std.specs.Prelude.{◌≡◌, ◌≤◌, ◌+◌, ◌⊎◌, OnOk, IsOk, IsTrue, is_some, true};
+ghost use Rattle.std.specs.Prelude.{◌≡◌, ◌≤◌, ◌+◌, ◌⊎◌, IfOk, OnOk, IsOk, IsTrue, is_some, true};
 ghost use Rattle.std.specs.Ordering.{nat_cmp};
 ghost use Rattle.std.specs.FinMap as fin;
 
@@ -47,6 +47,21 @@ impl<V> NameMap<V> {
 }
 
 impl<V: Copy> NameMap<V> {
+    /// The same map once more.
+    pub fn copy(&self, alloc: Global) -> Result<Self, Memory>
+        ensures { IfOk result (λ map. map.map ≡ self.now.map) }
+    {
+        let mut entries = IndexMap::new(alloc);
+        let mut left = self.entries.len();
+        while left > 0 {
+            left -= 1;
+            if let Some((name, value)) = self.entries.get_index(left) {
+                entries.insert(*name, *value)?;
+            }
+        }
+        Ok(NameMap { entries })
+    }
+
     /// What a name stands for, if anything.
     pub fn get(&self, name: NameId) -> Option<V>
         ensures { result ≡ fin.get self.now.map name.0 }

@@ -12,7 +12,7 @@ use std::marker::Model;
 #[derive(Clone, Copy, Debug, PartialEq, Eq, PartialOrd, Ord, Hash)]
 pub struct NameId(pub u32);
 
-/// Names, each once, in the order in which they came.
+/// Names, each once, in the order in which they came, fewer than 2^32 of them.
 #[derive(Drop)]
 pub struct Names {
     table: Table,
@@ -40,18 +40,18 @@ impl Names {
     pub fn len(&self) -> usize
         ensures len { result ≡ length self.now }
         ensures distinct { AllDistinct self.now }
+        ensures short { length self.now < 2 ^ 32 }
     {
         self.table.len()
     }
 
     /// The number of a name that is there.
     pub fn find(&self, word: &[u8]) -> Option<NameId>
-        requires { length self.now < 2 ^ 32 }
         ensures found { IfSome result (λ n. slice_get self.now n.0 ≡ Some word.now) }
         ensures absent { IfNone result (Lacks self.now word.now) }
     {
         let number = self.table.find(word)?;
-        Some(NameId(number as u32))
+        Some(NameId(number))
     }
 
     /// The bytes of a name.
@@ -59,19 +59,20 @@ impl Names {
         requires { name.0 < length self.now }
         ensures { slice_get self.now name.0 ≡ Some result.now }
     {
-        self.table.at(name.0 as usize)
+        self.table.at(name.0)
     }
 
-    /// The number of a name, which goes last where it isn't there yet.
+    /// The number of a name, which goes last where it isn't there yet. A table of 2^32 - 1
+    /// names answers `Memory`.
     pub fn intern(&mut self, word: &[u8]) -> Result<NameId, Memory>
-        requires { length self.old < 2 ^ 32 }
         ensures number { IfOk result (λ n. slice_get self.new n.0 ≡ Some word.now) }
         ensures ok { OnOk result (self.new ≡ with_word self.old word.now) }
         ensures err { OnErr result (self.new ≡ self.old) }
         ensures distinct { AllDistinct self.new }
+        ensures short { length self.new < 2 ^ 32 }
     {
         let number = self.table.intern(word)?;
-        Ok(NameId(number as u32))
+        Ok(NameId(number))
     }
 
     /// The same names with the same numbers.

@@ -1,15 +1,15 @@
 //! Byte strings and their numbers.
 
-ghost use Rattle.std.specs.Prelude.{◌≡◌, ◌<◌, ◌++◌, ◌∷◌, [], length, slice_get, Some, OnOk, OnErr, IfOk, IfSome, IfNone, bytes_eq, false};
+ghost use Rattle.std.specs.Prelude.{◌≡◌, ◌<◌, ◌++◌, ◌∷◌, [], length, slice_get, Some, OnOk, OnErr, IfOk, IfSome, IfNone, bytes_eq, false, ◌^◌};
 ghost use Rattle.std.specs.List.{list_any};
-ghost use Rattle.chor_base.specs.Words.{with_word, AllDistinct, Lacks};
+ghost use Rattle.chor_base.specs.Words.{with_word, IsShortSet, Lacks};
 
 use crate::memory::Memory;
 use indexmap::IndexSet;
 use std::alloc::Global;
 use std::marker::Model;
 
-/// Byte strings, each once. The number of one is its place.
+/// Fewer than 2^32 byte strings, each once. The number of one is its place.
 #[derive(Drop)]
 pub struct Table {
     words: IndexSet<Vec<u8>>,
@@ -17,13 +17,13 @@ pub struct Table {
 
 impl Model for Table {
     ghost use Rattle.std.specs.Prelude.{List, ℕ};
-    ghost use Rattle.chor_base.specs.Words.{words_of, AllDistinct};
+    ghost use Rattle.chor_base.specs.Words.{words_of, IsShortSet};
 
     ghost Value = { List (List ℕ) };
 
     ghost view = { λ a. words_of a.words.keys };
 
-    ghost invariant = { λ a. AllDistinct (words_of a.words.keys) };
+    ghost invariant = { λ a. IsShortSet (words_of a.words.keys) };
 }
 
 impl Table {
@@ -37,35 +37,39 @@ impl Table {
 
     pub fn len(&self) -> usize
         ensures len { result ≡ length self.now }
-        ensures distinct { AllDistinct self.now }
+        ensures set { IsShortSet self.now }
     {
         self.words.len()
     }
 
-    pub fn find(&self, word: &[u8]) -> Option<usize>
+    pub fn find(&self, word: &[u8]) -> Option<u32>
         ensures found { IfSome result (λ n. slice_get self.now n ≡ Some word.now) }
         ensures absent { IfNone result (Lacks self.now word.now) }
     {
-        self.words.get_index_of(word)
+        match self.words.get_index_of(word) {
+            Some(number) => Some(number as u32),
+            None => None,
+        }
     }
 
-    pub fn at(&self, number: usize) -> &[u8]
+    pub fn at(&self, number: u32) -> &[u8]
         requires { number < length self.now }
         ensures { slice_get self.now number ≡ Some result.now }
     {
-        match self.words.get_index(number) {
+        match self.words.get_index(number as usize) {
             Some(word) => word.as_slice(),
             None => unreachable!(),
         }
     }
 
-    // The number of a word, which goes last where it isn't there.
+    // The number of a word, which goes last where it isn't there. A table that is full answers
+    // `Memory`.
     #[tactic(auto, using(crate::proofs::WordTables::put_absent, crate::proofs::WordTables::put_present, crate::proofs::WordTables::get_last, crate::proofs::WordTables::distinct_more))]
-    pub fn intern(&mut self, word: &[u8]) -> Result<usize, Memory>
+    pub fn intern(&mut self, word: &[u8]) -> Result<u32, Memory>
         ensures number { IfOk result (λ n. slice_get self.new n ≡ Some word.now) }
         ensures ok { OnOk result (self.new ≡ with_word self.old word.now) }
         ensures err { OnErr result (self.new ≡ self.old) }
-        ensures distinct { AllDistinct self.new }
+        ensures set { IsShortSet self.new }
     {
         if let Some(number) = self.find(word) {
             return Ok(number);
@@ -87,16 +91,20 @@ impl Table {
     }
 
     // One more word.
-    fn add(&mut self, key: Vec<u8>) -> Result<usize, Memory>
+    fn add(&mut self, key: Vec<u8>) -> Result<u32, Memory>
         requires { Lacks self.old key.items }
         ensures ok { OnOk result (self.new ≡ self.old ++ key.items ∷ []) }
         ensures number { IfOk result (λ n. n ≡ length self.old) }
         ensures err { OnErr result (self.new ≡ self.old) }
+        ensures set { IsShortSet self.new }
     {
         let number = self.words.len();
+        if number >= u32::MAX as usize {
+            return Err(Memory);
+        }
         self.words.reserve(1)?;
         match self.words.insert_full(key) {
-            Ok(_) => Ok(number),
+            Ok(_) => Ok(number as u32),
             Err(_) => unreachable!(),
         }
     }

@@ -8,7 +8,7 @@ use crate::table::Table;
 use std::alloc::Global;
 use std::marker::Model;
 
-/// Literal texts without their quotes, each once, in the order in which they came.
+/// Literal texts without their quotes, each once, in the order in which they came, fewer than 2^32 of them.
 #[derive(Drop)]
 pub struct Texts {
     table: Table,
@@ -36,18 +36,17 @@ impl Texts {
     pub fn len(&self) -> usize
         ensures len { result ≡ length self.now }
         ensures distinct { AllDistinct self.now }
+        ensures short { length self.now < 2 ^ 32 }
     {
         self.table.len()
     }
 
     /// The number of a text that is there.
     pub fn find(&self, text: &[u8]) -> Option<u32>
-        requires { length self.now < 2 ^ 32 }
         ensures found { IfSome result (λ n. slice_get self.now n ≡ Some text.now) }
         ensures absent { IfNone result (Lacks self.now text.now) }
     {
-        let number = self.table.find(text)?;
-        Some(number as u32)
+        self.table.find(text)
     }
 
     /// The bytes of a text.
@@ -55,19 +54,20 @@ impl Texts {
         requires { text < length self.now }
         ensures { slice_get self.now text ≡ Some result.now }
     {
-        self.table.at(text as usize)
+        self.table.at(text)
     }
 
-    /// The number of a text, which goes last where it isn't there yet.
+    /// The number of a text, which goes last where it isn't there yet. A table of 2^32 - 1
+    /// texts answers `Memory`.
     pub fn intern(&mut self, text: &[u8]) -> Result<u32, Memory>
-        requires { length self.old < 2 ^ 32 }
         ensures number { IfOk result (λ n. slice_get self.new n ≡ Some text.now) }
         ensures ok { OnOk result (self.new ≡ with_word self.old text.now) }
         ensures err { OnErr result (self.new ≡ self.old) }
         ensures distinct { AllDistinct self.new }
+        ensures short { length self.new < 2 ^ 32 }
     {
         let number = self.table.intern(text)?;
-        Ok(number as u32)
+        Ok(number)
     }
 
     /// The same texts with the same numbers.

@@ -1,5 +1,8 @@
 //! Sorts, values and the loads of messages.
 
+ghost use Rattle.std.specs.Prelude.{◌≡◌};
+ghost use Rattle.chor_base.specs.Sorts.{same_sort};
+
 use crate::names::NameId;
 
 /// What sort of value an expression or a variable has.
@@ -8,6 +11,18 @@ pub enum Sort {
     Int,
     Bool,
     Text,
+}
+
+impl Sort {
+    /// Whether two sorts are the same.
+    pub fn is_same(self, other: Sort) -> bool
+        ensures { result ≡ same_sort self other }
+    {
+        match (self, other) {
+            (Sort::Int, Sort::Int) | (Sort::Bool, Sort::Bool) | (Sort::Text, Sort::Text) => true,
+            _ => false,
+        }
+    }
 }
 
 /// What a variable has.

@@ -10,9 +10,9 @@ use Rattle.chor_print.specs.Text.{canonical_text}
 use Rattle.canonical_laws.specs.ReadsBack.{IsReadFrom}
 use Rattle.canonical_laws.proofs.Anew.{is_cut, is_taken, is_settled}
 use Rattle.canonical_laws.proofs.SameText.{same_text}
-use Rattle.chor_cmd.specs.Source.{IsFileOf, IsNoSource, tokens, grammar}
-use Rattle.chor_cmd.proofs.Files.{one_file}
-use Rattle.chor_cmd.proofs.OneReading.{one_list}
+use Rattle.source_check.specs.Source.{IsFileOf, IsNoSource, tokens, grammar}
+use Rattle.source_check.proofs.Files.{one_file}
+use Rattle.source_check.proofs.OneReading.{one_list}
 
 files_alike : (bytes : List ℕ) (f g : File) → IsFileOf bytes f → IsFileOf bytes g → same_files f g ≡ true
 files_alike bytes f g i j =

@@ -3,54 +3,28 @@ use Rattle.std.proofs.Common.{◌≡◌, ◌<◌, ◌≤◌, ◌+◌, ℕ, zero,
 use Rattle.std.specs.Prelude.{slice_index_or}
 use Rattle.std.proofs.lemmas.List.{take_all}
 use Rattle.chor_base.specs.declared.names.NameId.{NameId}
-use Rattle.chor_base.specs.declared.rule.Rule.{Rule}
-use Rattle.chor_base.specs.declared.rule.Rule.TheVariants.{L1, L2, L3, L4, L5, P1, P2, P3, N1, N2, N3, G1, G2, G3, V1, V2, V3, T1, T2, T3, T4, T5, T6, T7, T8, T9, U1, U2, M1, M2, E1, E2, E3, E4}
 use Rattle.chor_base.specs.declared.rule.Refusal.{Refusal}
 use Rattle.chor_base.specs.declared.rule.Denied.TheVariants.{Refused}
-use Rattle.chor_tree.specs.declared.protocol.Protocol.{Protocol}
-use Rattle.chor_tree.specs.declared.protocol.State.{State}
-use Rattle.global_types.specs.Views.{IsViewFault, HasNoViewFault}
+use Rattle.chor_tree.specs.Protocols.{Protocol}
+use Rattle.global_types.specs.Views.{HasNoViewFault}
 use Rattle.local_types.specs.Reading.{IsRefusal}
-use Rattle.chor_cmd.specs.Types.{AreTexts}
+use Rattle.source_check.proofs.ViewRules.{no_view_fault}
+use Rattle.chor_tree.specs.declared.file.File.{File}
+use Rattle.source_check.specs.Classes.{classes_of, IsFaultless}
+use Rattle.chor_cmd.specs.declared.words.Command.{Command}
+use Rattle.chor_cmd.specs.declared.words.Command.TheVariants.{Check, Fmt, Types, Project, Run}
+use Rattle.chor_cmd.specs.Words.{rules_of, ShowsTypes}
+use Rattle.chor_cmd.specs.Types.{AreTexts, HasFineViews}
 
--- ---- a view without fault isn't refused
+-- a file that is accepted by a command that writes its local types has views without fault
+pub shown_fine : (command : Command) (hosts : List (List ℕ)) (f : File) → IsFaultless hosts f (classes_of (rules_of command)) → ShowsTypes command → HasFineViews f
+shown_fine (Check file) hosts f h s = absurd s
+shown_fine (Fmt file) hosts f h s = absurd s
+shown_fine (Types file) hosts f h s = h.1.1.0
+shown_fine (Project file) hosts f h s = absurd s
+shown_fine (Run file) hosts f h s = absurd s
 
-pub no_view_fault : (ss : List State) (r : NameId) (rule : Rule) → HasNoViewFault ss r → IsViewFault ss r rule → ⊥
-no_view_fault ss r L1 h f = f
-no_view_fault ss r L2 h f = f
-no_view_fault ss r L3 h f = f
-no_view_fault ss r L4 h f = f
-no_view_fault ss r L5 h f = f
-no_view_fault ss r P1 h f = f
-no_view_fault ss r P2 h f = f
-no_view_fault ss r P3 h f = f
-no_view_fault ss r N1 h f = f
-no_view_fault ss r N2 h f = f
-no_view_fault ss r N3 h f = f
-no_view_fault ss r G1 h f = f
-no_view_fault ss r G2 h f = f
-no_view_fault ss r G3 h f = f
-no_view_fault ss r V1 h f = h.clear f.2
-no_view_fault ss r V2 h f = h.kept f.1
-no_view_fault ss r V3 h f = h.few f
-no_view_fault ss r T1 h f = f
-no_view_fault ss r T2 h f = f
-no_view_fault ss r T3 h f = f
-no_view_fault ss r T4 h f = f
-no_view_fault ss r T5 h f = f
-no_view_fault ss r T6 h f = f
-no_view_fault ss r T7 h f = f
-no_view_fault ss r T8 h f = f
-no_view_fault ss r T9 h f = f
-no_view_fault ss r U1 h f = f
-no_view_fault ss r U2 h f = f
-no_view_fault ss r M1 h f = f
-no_view_fault ss r M2 h f = f
-no_view_fault ss r E1 h f = f
-no_view_fault ss r E2 h f = f
-no_view_fault ss r E3 h f = f
-no_view_fault ss r E4 h f = f
-
+-- a view without fault isn't refused
 pub not_refused : (p : Protocol) (role : NameId) (f : Refusal) → HasNoViewFault p.states role → IsRefusal p role (Refused f) → ⊥
 not_refused p role f h r = no_view_fault p.states role f.rule h r.0
 

@@ -1,127 +1,76 @@
--- How a call of the program may end, and with which text (this project's own).
-use Rattle.std.specs.Prelude.{ℕ, suc, ◌≡◌, ◌≢◌, ◌<◌, ◌≤◌, ◌*◌, List, [], ◌∷◌, ◌++◌, length, map, Option, Some, None, codes}
-use Rattle.std.specs.Fmt.{decimal}
+-- How a call of the program ends, and with which text (this project's own).
+use Rattle.std.specs.Prelude.{ℕ, ℤ, ◌≡◌, ◌<◌, ◌≤◌, List, ◌++◌, length, Option, Some, None}
+use denote.Param.Members.{Mut}
 use Rattle.chor_base.specs.declared.rule.Place.{Place}
 use Rattle.chor_base.specs.declared.rule.Rule.{Rule}
-use Rattle.chor_base.specs.Writing.{rule_name}
-use Rattle.chor_base.specs.declared.event.Event.{Event}
-use Rattle.chor_base.specs.declared.event.Entry.{Entry}
-use Rattle.chor_base.specs.Events.{IsFifo}
 use Rattle.chor_tree.specs.declared.file.File.{File}
-use Rattle.chor_semantics.specs.Runs.{IsEndedRun}
-use Rattle.endpoint_code.specs.declared.endpoints.Endpoints.{Endpoints}
-use Rattle.projection.specs.Projects.{Projects}
-use Rattle.endpoint_text.specs.Text.{endpoints_text}
-use Rattle.chor_io.specs.Outside.{Risen, GrowsByFront}
-use Rattle.transcript.specs.Text.{Words as Book, transcript}
+use Rattle.chor_host.specs.declared.table.HostTable.{HostTable}
+use Rattle.chor_host.specs.Functions.{names_of}
+use Rattle.chor_host.specs.Tables.{functions_of}
+use Rattle.chor_io.specs.Outside.{Risen, GrowsByFront, ShelfState, SinkState}
 use Rattle.chor_print.specs.Text.{canonical_text}
 use Rattle.chor_cmd.specs.declared.words.Words.{Words}
 use Rattle.chor_cmd.specs.declared.status.Status.{Status}
 use Rattle.chor_cmd.specs.declared.status.Status.TheVariants.{Done, Refused, Usage, ReadFault, WriteFault, Memory, TooLarge, Unbuilt}
 use Rattle.chor_cmd.specs.declared.words.Command.{Command}
-use Rattle.chor_cmd.specs.declared.words.Command.TheVariants.{Run, Project, Types, Fmt}
-use Rattle.chor_cmd.specs.Words.{IsForm, NamesFile, HasNoForm}
-use Rattle.chor_cmd.specs.Thin.{Thin}
-use Rattle.chor_cmd.specs.ThinFile.{plain, IsRunnable, IsThin}
-use Rattle.chor_cmd.specs.Source.{Breaks, IsAccepted, IsNoSource, Violates}
-use Rattle.chor_cmd.specs.Types.{IsTypesText}
-
--- the files by name, where they are told
-abbrev pub Told : Type 0
-Told = Option (List ℕ → Option (List ℕ))
-
--- the shelf tells that this file has these bytes
-abbrev pub Tells : Told → List ℕ → List ℕ → Type 0
-Tells None name bytes = ⊥
-Tells (Some files) name bytes = files name ≡ Some bytes
+use Rattle.chor_cmd.specs.declared.words.Command.TheVariants.{Fmt}
+use Rattle.chor_cmd.specs.Words.{rules_of, IsForm, NamesFile, HasNoForm}
+use Rattle.source_check.specs.Source.{IsFileOf, IsAccepted, Violates}
+use Rattle.chor_cmd.specs.Outputs.{IsUnbuilt, Answers, usage_line, read_fault_line, too_large_line, refused_line, unbuilt_line}
 
 -- a source file has at most 1 MiB
 abbrev pub source_limit : ℕ
 source_limit = 1048576
 
--- where the shelf tells the bytes of this file, they are these
-abbrev pub TellsOnly : Told → List ℕ → List ℕ → Type 0
-TellsOnly files name bytes = (told : List ℕ) → Tells files name told → told ≡ bytes
+-- the names of the host functions that a file may call
+abbrev pub host_names : {X : Type 0} {g : Mut X (ℤ × (ℤ × Unit {0})) ℤ} → HostTable X g → List (List ℕ)
+host_names hosts = names_of (functions_of hosts)
 
--- what the transcripts of a file are written with
-abbrev pub book_of : File → Book
-book_of f = record { names = f.names; texts = f.texts; processes = plain f.processes }
+-- ---- the file that is asked of the shelf
 
-abbrev pub events_of : List Entry → List Event
-events_of entries = map (λ entry. entry.event) entries
+-- the files by name, where they are told
+abbrev pub Told : Type 0
+Told = Option (List ℕ → Option (List ℕ))
 
-abbrev pub end_line : ℕ → List ℕ
-end_line n = codes "end " ++ decimal n
+-- a file of this name with these bytes is told
+abbrev pub Tells : Told → List ℕ → List ℕ → Type 0
+Tells None name bytes = ⊥
+Tells (Some files) name bytes = files name ≡ Some bytes
 
--- The text is the transcript of a run of this file's choreography to its end, in which messages are received first in,
--- first out
-pub record IsRunText (f : File) (text : List ℕ) : Type 0 where
-  pub history : List Event
-  pub run : IsEndedRun f [] None history
-  pub fifo : IsFifo history
-  pub text_is : text ≡ transcript (book_of f) history (end_line (length history))
+-- the file of this name may have these bytes: where files are told, it is told with these
+abbrev pub MayTell : Told → List ℕ → List ℕ → Type 0
+MayTell None name bytes = Unit {0}
+MayTell (Some files) name bytes = files name ≡ Some bytes
 
--- such a run of a file that says what t says has a start and two events for each exchange
-pub record RunsShape (f : File) (t : Thin) (text : List ℕ) : Type 0 where
-  pub run : IsRunText f text
-  pub count : length run.history ≡ suc (2 * length t.exchanges)
+-- the words ask for this command on a file that may have these bytes, which aren't too many
+pub record MayAsk (words : Words) (shelf : ShelfState) (command : Command) (bytes : List ℕ) : Type 0 where
+  pub name : List ℕ
+  pub form : IsForm words command name
+  pub told : MayTell shelf.files name bytes
+  pub few : length bytes ≤ source_limit
 
--- the text is that of endpoint programs that are the projection of this file
-pub record IsProjectionText (f : File) (text : List ℕ) : Type 0 where
-  pub endpoints : Endpoints
-  pub projects : Projects f endpoints
-  pub text_is : text ≡ endpoints_text endpoints
+-- the same where the file is told with these bytes
+pub record Asks (words : Words) (shelf : ShelfState) (command : Command) (bytes : List ℕ) : Type 0 where
+  pub name : List ℕ
+  pub form : IsForm words command name
+  pub told : Tells shelf.files name bytes
+  pub few : length bytes ≤ source_limit
 
--- what a command writes for a file
-abbrev pub IsOutput : Command → File → List ℕ → Type 0
-IsOutput (Run word) f text = (t : Thin) × IsRunnable f t × RunsShape f t text
-IsOutput (Project word) f text = IsThin f × IsProjectionText f text
-IsOutput (Types word) f text = IsTypesText f text
-IsOutput (Fmt word) f text = text ≡ canonical_text f
+-- no fetch has failed but those of the file that the words name
+abbrev pub FetchesOnly : Words → ShelfState → ShelfState → Type 0
+FetchesOnly words shelf shelf' = (other : List ℕ) → (NamesFile words other → ⊥) → shelf'.faults other ≡ shelf.faults other
 
--- the command handles thin files only, so far
-abbrev pub NeedsThin : Command → Type 0
-NeedsThin (Run word) = Unit {0}
-NeedsThin (Project word) = Unit {0}
-NeedsThin (Types word) = ⊥
-NeedsThin (Fmt word) = ⊥
-
--- what a command writes for a file with these bytes
-pub record Answers (hosts : List (List ℕ)) (command : Command) (bytes text : List ℕ) : Type 0 where
-  pub file : File
-  pub source : IsAccepted command hosts bytes file
-  pub output : IsOutput command file text
-
-abbrev pub line_naming : List ℕ → List ℕ → List ℕ
-line_naming what name = what ++ name ++ 10 ∷ []
-
--- `refused`, the rule, and its place as line and column
-abbrev pub refused_line : Rule → Place → List ℕ
-refused_line rule place = codes "refused " ++ rule_name rule ++ codes " " ++ decimal place.line ++ codes ":" ++ decimal place.col ++ 10 ∷ []
-
--- the text is the line of a rule of tokens or of the grammar that the bytes violate at this place
-abbrev pub IsRefusedAt : List ℕ → Place → List ℕ → Type 0
-IsRefusedAt bytes place text = (rule : Rule) × IsNoSource bytes rule place × (text ≡ refused_line rule place)
-
--- the text is the line of a rule that the file breaks
-abbrev pub IsRefusedBy : List (List ℕ) → File → List ℕ → Type 0
-IsRefusedBy hosts f text = (rule : Rule) × (place : Place) × Breaks hosts f rule place × (text ≡ refused_line rule place)
+-- ---- what each status says
 
 -- The statuses with which a call may end that could write its text, each with its cause and that text, where the host
--- functions have these names. The counts are
--- those of the failed fetches of each name, before and after
-pub data Ends (hosts : List (List ℕ)) (words : Words) (files : Told) (before after : List ℕ → ℕ) : Status → List ℕ → Type 0 where
-  usage : HasNoForm words → Ends hosts words files before after Usage (codes "usage: chor COMMAND ARGUMENTS\n")
-  read_fault : (name : List ℕ) → NamesFile words name → Risen (before name) (after name)
-      → Ends hosts words files before after ReadFault (line_naming (codes "read fault ") name)
-  too_large : (name : List ℕ) → NamesFile words name → ((bytes : List ℕ) → Tells files name bytes → source_limit < length bytes)
-      → Ends hosts words files before after TooLarge (line_naming (codes "too large ") name)
-  refused : (command : Command) (name bytes : List ℕ) (rule : Rule) (place : Place) → IsForm words command name → TellsOnly files name bytes → length bytes ≤ source_limit → Violates command hosts bytes rule place
-      → Ends hosts words files before after Refused (refused_line rule place)
-  unbuilt : (command : Command) (name bytes : List ℕ) (f : File) → IsForm words command name → NeedsThin command → TellsOnly files name bytes → length bytes ≤ source_limit → IsAccepted command hosts bytes f → (IsThin f → ⊥)
-      → Ends hosts words files before after Unbuilt (codes "not built\n")
-  done : (command : Command) (name bytes text : List ℕ) → IsForm words command name → TellsOnly files name bytes → length bytes ≤ source_limit → Answers hosts command bytes text
-      → Ends hosts words files before after Done text
+-- functions have these names, and the shelf was and is so
+pub data Ends (hosts : List (List ℕ)) (words : Words) (shelf shelf' : ShelfState) : Status → List ℕ → Type 0 where
+  usage : HasNoForm words → Ends hosts words shelf shelf' Usage usage_line
+  read_fault : (name : List ℕ) → NamesFile words name → Risen (shelf.faults name) (shelf'.faults name) → Ends hosts words shelf shelf' ReadFault (read_fault_line name)
+  too_large : (name bytes : List ℕ) → NamesFile words name → MayTell shelf.files name bytes → source_limit < length bytes → Ends hosts words shelf shelf' TooLarge (too_large_line name)
+  refused : (command : Command) (bytes : List ℕ) (rule : Rule) (place : Place) → MayAsk words shelf command bytes → Violates (rules_of command) hosts bytes rule place → Ends hosts words shelf shelf' Refused (refused_line rule place)
+  unbuilt : (command : Command) (bytes : List ℕ) (f : File) → MayAsk words shelf command bytes → IsAccepted (rules_of command) hosts bytes f → IsUnbuilt command f → Ends hosts words shelf shelf' Unbuilt unbuilt_line
+  done : (command : Command) (bytes text : List ℕ) → MayAsk words shelf command bytes → Answers hosts command bytes text → Ends hosts words shelf shelf' Done text
 
 -- where the bytes written are told, exactly this text was added
 abbrev pub Wrote : Option (List ℕ) → Option (List ℕ) → List ℕ → Type 0
@@ -135,16 +84,59 @@ WroteFront (Some old) None text = ⊥
 WroteFront (Some old) (Some new) text = GrowsByFront old new text
 
 -- A call has ended so: by a failing write after a front of a text, for want of memory, or with the whole text
-abbrev pub HasEnded : List (List ℕ) → Words → Told → (List ℕ → ℕ) → (List ℕ → ℕ) → ℕ → ℕ → Option (List ℕ) → Option (List ℕ) → Status → Type 0
-HasEnded hosts words files before after faults faults' old new WriteFault =
-    Risen faults faults' × ((status : Status) × (text : List ℕ) × Ends hosts words files before after status text × WroteFront old new text)
-HasEnded hosts words files before after faults faults' old new Memory = ((name : List ℕ) × NamesFile words name) × (new ≡ old)
-HasEnded hosts words files before after faults faults' old new status = (text : List ℕ) × Ends hosts words files before after status text × Wrote old new text
+abbrev pub HasEnded : List (List ℕ) → Words → ShelfState → ShelfState → SinkState → SinkState → Status → Type 0
+HasEnded hosts words shelf shelf' sink sink' WriteFault =
+    Risen sink.faults sink'.faults × ((status : Status) × (text : List ℕ) × Ends hosts words shelf shelf' status text × WroteFront sink.written sink'.written text)
+HasEnded hosts words shelf shelf' sink sink' Memory = ((name : List ℕ) × NamesFile words name) × (sink'.written ≡ sink.written)
+HasEnded hosts words shelf shelf' sink sink' status = (text : List ℕ) × Ends hosts words shelf shelf' status text × Wrote sink.written sink'.written text
 
--- A call for a file whose bytes the shelf tells would end so, and not because reading failed
-pub record ReadAndEnds (hosts : List (List ℕ)) (words : Words) (files : Told) (before after : List ℕ → ℕ) (bytes : List ℕ) (status : Status) (text : List ℕ) : Type 0 where
-  pub name : List ℕ
-  pub named : NamesFile words name
-  pub told : Tells files name bytes
-  pub read : status ≢ ReadFault
-  pub ends : Ends hosts words files before after status text
+-- ---- which status comes
+
+-- A call ends with this status and has written such a text, or there was no memory, or a fetch of the file or a write failed,
+-- and was counted
+pub data Comes (words : Words) (shelf shelf' : ShelfState) (sink sink' : SinkState) (status : Status) (Says : List ℕ → Type 0) : Status → Type 0 where
+  so : (text : List ℕ) → Says text → Wrote sink.written sink'.written text → Comes words shelf shelf' sink sink' status Says status
+  no_memory : (name : List ℕ) → NamesFile words name → Comes words shelf shelf' sink sink' status Says Memory
+  unread : (name : List ℕ) → NamesFile words name → Risen (shelf.faults name) (shelf'.faults name) → Comes words shelf shelf' sink sink' status Says ReadFault
+  unwritten : Risen sink.faults sink'.faults → Comes words shelf shelf' sink sink' status Says WriteFault
+
+module _ (hosts : List (List ℕ)) (words : Words) (shelf shelf' : ShelfState) (sink sink' : SinkState) (result : Status) where
+  -- for words of no form, which name no file
+  abbrev pub GivesUsage : Type 0
+  GivesUsage = HasNoForm words → Comes words shelf shelf' sink sink' Usage (λ text. text ≡ usage_line) result
+
+  -- for a file that is told and too long
+  abbrev pub GivesTooLarge : Type 0
+  GivesTooLarge =
+      (name bytes : List ℕ) → NamesFile words name → Tells shelf.files name bytes → source_limit < length bytes
+      → Comes words shelf shelf' sink sink' TooLarge (λ text. text ≡ too_large_line name) result
+
+  -- for a file that is told and violates a rule that the command applies
+  abbrev pub GivesRefusal : Type 0
+  GivesRefusal =
+      (command : Command) (bytes : List ℕ) (rule : Rule) (place : Place) → Asks words shelf command bytes → Violates (rules_of command) hosts bytes rule place
+      → Comes words shelf shelf' sink sink' Refused (λ text. text ≡ refused_line rule place) result
+
+  -- for a file that is told and that the command accepts but doesn't handle
+  abbrev pub GivesUnbuilt : Type 0
+  GivesUnbuilt =
+      (command : Command) (bytes : List ℕ) (f : File) → Asks words shelf command bytes → IsAccepted (rules_of command) hosts bytes f → IsUnbuilt command f
+      → Comes words shelf shelf' sink sink' Unbuilt (λ text. text ≡ unbuilt_line) result
+
+  -- for any other file that is told and that the command accepts
+  abbrev pub GivesAnswer : Type 0
+  GivesAnswer =
+      (command : Command) (bytes : List ℕ) (f : File) → Asks words shelf command bytes → IsAccepted (rules_of command) hosts bytes f → (IsUnbuilt command f → ⊥)
+      → Comes words shelf shelf' sink sink' Done (Answers hosts command bytes) result
+
+  -- `fmt`, for a source that is told: its canonical text, whichever file of these bytes is read
+  abbrev pub GivesCanonical : Type 0
+  GivesCanonical =
+      (word : ℕ) (bytes : List ℕ) (f : File) → Asks words shelf (Fmt word) bytes → IsFileOf bytes f
+      → Comes words shelf shelf' sink sink' Done (λ text. text ≡ canonical_text f) result
+
+  -- `fmt`, for the canonical text of a file that was read: the same text again
+  abbrev pub GivesSame : Type 0
+  GivesSame =
+      (word : ℕ) (bytes : List ℕ) (f : File) → IsFileOf bytes f → Asks words shelf (Fmt word) (canonical_text f)
+      → Comes words shelf shelf' sink sink' Done (λ text. text ≡ canonical_text f) result

@@ -1,10 +1,5 @@
-pub mod Thin
-pub mod ThinCode
-pub mod ThinFile
-pub mod Frames
-pub mod Source
 pub mod Types
-pub mod Following
 pub mod Words
 pub mod Status
+pub mod Outputs
 pub mod Endings

@@ -2,22 +2,26 @@
 use Rattle.std.specs.Prelude.{ℕ, ◌≡◌, List, [], ◌∷◌, ◌++◌}
 use Rattle.chor_tree.specs.declared.file.File.{File}
 use Rattle.chor_tree.specs.declared.file.Named.{Named}
-use Rattle.chor_tree.specs.declared.protocol.Protocol.{Protocol}
+use Rattle.chor_tree.specs.Protocols.{Protocol}
 use Rattle.local_types.specs.declared.local_type.LocalState.{LocalState}
-use Rattle.local_types.specs.Reading.{IsTypeOf, IsBreadthFirst, HasAscendingLabels}
+use Rattle.local_types.specs.Reading.{IsRoleType}
 use Rattle.local_types.specs.Text.{local_text}
+use Rattle.source_check.specs.declared.rules.Class.TheVariants.{Views}
+use Rattle.source_check.specs.Classes.{HasNone}
+
+-- no fault of the views of roles
+abbrev pub HasFineViews : File → Type 0
+HasFineViews f = HasNone [] f Views
 
 -- the text is made of one text for each of these, in their order
 abbrev pub AreTexts : {A : Type 0} → (A → List ℕ → Type 0) → List A → List ℕ → Type 0
 AreTexts Each [] text = text ≡ []
 AreTexts Each (x ∷ xs) text = (one : List ℕ) × (rest : List ℕ) × Each x one × AreTexts Each xs rest × (text ≡ one ++ rest)
 
--- the text of a type that stands for the role's view, its states numbered breadth first, their labels in ascending order
+-- the text of the role's type, its states numbered breadth first, the labels of each in ascending order and each once
 pub record IsTypeText (names : List (List ℕ)) (p : Protocol) (role : Named) (text : List ℕ) : Type 0 where
   pub states : List LocalState
-  pub stands : IsTypeOf p.states role.name states
-  pub numbered : IsBreadthFirst states
-  pub ascend : HasAscendingLabels names states
+  pub is_type : IsRoleType names p.states role.name states
   pub text_is : text ≡ local_text names p.name.name role.name states
 
 -- the texts of a protocol's roles, one after another

@@ -3,7 +3,9 @@ use Rattle.std.specs.Prelude.{ℕ, ◌≡◌, ◌≢◌, List, [], ◌∷◌, co
 use Rattle.std.specs.Str.{IsUtf8}
 use Rattle.chor_cmd.specs.declared.words.Words.{Words}
 use Rattle.chor_cmd.specs.declared.words.Command.{Command}
-use Rattle.chor_cmd.specs.declared.words.Command.TheVariants.{Run, Project, Types, Fmt}
+use Rattle.chor_cmd.specs.declared.words.Command.TheVariants.{Check, Fmt, Types, Project, Run}
+use Rattle.source_check.specs.declared.rules.Rules.{Rules}
+use Rattle.source_check.specs.declared.rules.Rules.TheVariants as rules
 
 -- the word doesn't begin as an option does
 abbrev pub BeginsPlain : List ℕ → Type 0
@@ -17,17 +19,27 @@ pub record IsFileWord (w : List ℕ) : Type 0 where
 
 -- the word of a command
 abbrev pub command_word : Command → List ℕ
-command_word (Run file) = codes "run"
-command_word (Project file) = codes "project"
-command_word (Types file) = codes "types"
+command_word (Check file) = codes "check"
 command_word (Fmt file) = codes "fmt"
+command_word (Types file) = codes "types"
+command_word (Project file) = codes "project"
+command_word (Run file) = codes "run"
+
+-- the rules that a command applies
+abbrev pub rules_of : Command → Rules
+rules_of (Check file) = rules.Linearity
+rules_of (Fmt file) = rules.Grammar
+rules_of (Types file) = rules.Views
+rules_of (Project file) = rules.Linearity
+rules_of (Run file) = rules.Linearity
 
 -- the index of a command's file word
 abbrev pub file_index : Command → ℕ
-file_index (Run file) = file
-file_index (Project file) = file
-file_index (Types file) = file
+file_index (Check file) = file
 file_index (Fmt file) = file
+file_index (Types file) = file
+file_index (Project file) = file
+file_index (Run file) = file
 
 -- the word is that of this command, whose file is the word after it
 abbrev pub IsCommand : List ℕ → Command → Type 0
@@ -52,3 +64,8 @@ NamesFile words name = (command : Command) × IsForm words command name
 -- the words are of no form
 abbrev pub HasNoForm : Words → Type 0
 HasNoForm words = (name : List ℕ) → NamesFile words name → ⊥
+
+-- the command writes local types
+abbrev pub ShowsTypes : Command → Type 0
+ShowsTypes (Types file) = Unit {0}
+ShowsTypes _ = ⊥

@@ -1,31 +1,29 @@
 //! The call that the program makes.
 
 ghost use Rattle.std.specs.Prelude.{◌≡◌, ◌≢◌, ◌<◌, ◌≤◌, ◌^◌, ℕ, List, IfOk, IfSome, IfNone, length};
+ghost use Rattle.chor_io.specs.Outside.{ShelfState};
 ghost use Rattle.chor_cmd.specs.declared.words.Words.{Words as CommandWords};
-ghost use Rattle.chor_cmd.specs.Words.{IsForm, NamesFile};
-ghost use Rattle.chor_cmd.specs.ThinFile.{IsThin};
-ghost use Rattle.chor_host.specs.Functions.{names_of};
-ghost use Rattle.chor_host.specs.Tables.{functions_of};
-ghost use Rattle.chor_tree.specs.declared.protocol.Protocol.{Protocol};
-ghost use Rattle.global_types.specs.Moves.{IsIn};
-ghost use Rattle.local_types.specs.Reading.{IsProper};
-ghost use Rattle.chor_cmd.specs.Source.{Judges, IsAccepted, HasFineViews};
-ghost use Rattle.chor_cmd.specs.Endings.{HasEnded, IsOutput, NeedsThin, Told, TellsOnly, source_limit};
+ghost use Rattle.chor_cmd.specs.Words.{rules_of, IsForm, ShowsTypes};
+ghost use Rattle.source_check.specs.Source.{IsAccepted};
+ghost use Rattle.chor_cmd.specs.Types.{HasFineViews};
+ghost use Rattle.chor_cmd.specs.Outputs.{IsOutput, IsUnbuilt};
+ghost use Rattle.chor_cmd.specs.Endings.{FetchesOnly, HasEnded, MayAsk, host_names};
+ghost use Rattle.chor_cmd.specs.Endings.{GivesUsage, GivesTooLarge, GivesRefusal, GivesUnbuilt, GivesAnswer, GivesCanonical, GivesSame};
 
 use crate::canonical::canonical_of;
-use crate::endpoints::{endpoints_of, text_of_endpoints};
+use crate::endpoints::text_of_endpoints;
 use crate::output::{finish, finish_denying, finish_naming};
-use crate::run::transcript_of;
-use crate::source::read;
+use crate::run::run_text;
 use crate::status::Status;
-use crate::thin::is_thin;
 use crate::types::types_of;
 use crate::words::{Command, Words, form_of};
 use chor_base::{Memory, Word};
 use chor_host::HostTable;
 use chor_io::{Fetched, Gate, Shelf, Sink};
 use chor_tree::File;
+use source_check::read;
 use std::alloc::Global;
+use thin_files::{endpoints_of, is_thin};
 
 // How many bytes a source file has at most.
 const SOURCE_LIMIT: u64 = 1 << 20;
@@ -45,13 +43,24 @@ const SOURCE_LIMIT: u64 = 1 << 20;
 pub fn chor<F: Shelf, K: Sink, G: Gate + Sync>(
     alloc: Global,
     words: &Words,
+    hosts: &HostTable,
     shelf: &mut F,
     out: &mut K,
     _gate: &G,
-    hosts: &HostTable,
 ) -> Status
-    ensures ended { HasEnded (names_of (functions_of hosts.now)) words.now (F.files shelf.old) (F.faults shelf.old) (F.faults shelf.new) (K.faults out.old) (K.faults out.new) (K.written out.old) (K.written out.new) result }
-    ensures others { (name other : List ℕ) → NamesFile words.now name → other ≢ name → F.faults shelf.new other ≡ F.faults shelf.old other }
+    ensures fetches { FetchesOnly words.now (F.state shelf.old) (F.state shelf.new) }
+
+    // What each status says.
+    ensures ended { HasEnded (host_names hosts.now) words.now (F.state shelf.old) (F.state shelf.new) (K.state out.old) (K.state out.new) result }
+
+    // Which status comes.
+    ensures usage { GivesUsage (host_names hosts.now) words.now (F.state shelf.old) (F.state shelf.new) (K.state out.old) (K.state out.new) result }
+    ensures too_large { GivesTooLarge (host_names hosts.now) words.now (F.state shelf.old) (F.state shelf.new) (K.state out.old) (K.state out.new) result }
+    ensures refused { GivesRefusal (host_names hosts.now) words.now (F.state shelf.old) (F.state shelf.new) (K.state out.old) (K.state out.new) result }
+    ensures unbuilt { GivesUnbuilt (host_names hosts.now) words.now (F.state shelf.old) (F.state shelf.new) (K.state out.old) (K.state out.new) result }
+    ensures done { GivesAnswer (host_names hosts.now) words.now (F.state shelf.old) (F.state shelf.new) (K.state out.old) (K.state out.new) result }
+    ensures canonical { GivesCanonical (host_names hosts.now) words.now (F.state shelf.old) (F.state shelf.new) (K.state out.old) (K.state out.new) result }
+    ensures same { GivesSame (host_names hosts.now) words.now (F.state shelf.old) (F.state shelf.new) (K.state out.old) (K.state out.new) result }
 {
     match form_of(words) {
         None => finish(
@@ -59,7 +68,7 @@ pub fn chor<F: Shelf, K: Sink, G: Gate + Sync>(
             b"usage: chor COMMAND ARGUMENTS\n".as_slice(),
             Status::Usage,
         ),
-        Some((command, name)) => answer(alloc, command, name, shelf, out, hosts),
+        Some((command, name)) => answer(alloc, command, name, hosts, shelf, out),
     }
 }
 
@@ -68,12 +77,12 @@ fn answer<F: Shelf, K: Sink>(
     alloc: Global,
     command: Command,
     name: &Word,
+    hosts: &HostTable,
     shelf: &mut F,
     out: &mut K,
-    hosts: &HostTable,
 ) -> Status
-    ensures ended { (words : CommandWords) → IsForm words command name.now → HasEnded (names_of (functions_of hosts.now)) words (F.files shelf.old) (F.faults shelf.old) (F.faults shelf.new) (K.faults out.old) (K.faults out.new) (K.written out.old) (K.written out.new) result }
-    ensures others { (other : List ℕ) → other ≢ name.now → F.faults shelf.new other ≡ F.faults shelf.old other }
+    ensures ended { (words : CommandWords) → IsForm words command name.now → HasEnded (host_names hosts.now) words (F.state shelf.old) (F.state shelf.new) (K.state out.old) (K.state out.new) result }
+    ensures others { (other : List ℕ) → other ≢ name.now → (F.state shelf.new).faults other ≡ (F.state shelf.old).faults other }
 {
     let mut bytes = Vec::new(alloc);
     match shelf.fetch(name.as_slice(), SOURCE_LIMIT, &mut bytes) {
@@ -92,7 +101,7 @@ fn answer<F: Shelf, K: Sink>(
             Status::TooLarge,
         ),
         Fetched::Memory => Status::Memory,
-        Fetched::All => answer_bytes(alloc, command, bytes.as_slice(), out, hosts),
+        Fetched::All => answer_bytes(alloc, command, bytes.as_slice(), hosts, out),
     }
 }
 
@@ -101,13 +110,13 @@ fn answer_bytes<K: Sink>(
     alloc: Global,
     command: Command,
     bytes: &[u8],
-    out: &mut K,
     hosts: &HostTable,
+    out: &mut K,
 ) -> Status
     requires { length bytes.now ≤ 2 ^ 20 }
-    ensures { (words : CommandWords) (files : Told) (before after : List ℕ → ℕ) (name : List ℕ) → IsForm words command name → TellsOnly files name bytes.now → HasEnded (names_of (functions_of hosts.now)) words files before after (K.faults out.old) (K.faults out.new) (K.written out.old) (K.written out.new) result }
+    ensures { (words : CommandWords) (before after : ShelfState) → MayAsk words before command bytes.now → HasEnded (host_names hosts.now) words before after (K.state out.old) (K.state out.new) result }
 {
-    match read(alloc, command, bytes, hosts) {
+    match read(alloc, command.rules(), bytes, hosts) {
         Ok(file) => answer_file(alloc, command, &file, out),
         Err(denied) => finish_denying(alloc, out, &denied),
     }
@@ -116,9 +125,8 @@ fn answer_bytes<K: Sink>(
 // Answers the command for a file that violates no rule that it applies.
 fn answer_file<K: Sink>(alloc: Global, command: Command, file: &File, out: &mut K) -> Status
     requires body { file.now.body.0 < length file.now.tree.nodes }
-    requires proper { (p : Protocol) → IsIn p file.now.protocols → IsProper p }
-    requires views { Judges command → HasFineViews file.now }
-    ensures { (hosts : List (List ℕ)) (words : CommandWords) (files : Told) (before after : List ℕ → ℕ) (name bytes : List ℕ) → IsForm words command name → TellsOnly files name bytes → length bytes ≤ source_limit → IsAccepted command hosts bytes file.now → HasEnded hosts words files before after (K.faults out.old) (K.faults out.new) (K.written out.old) (K.written out.new) result }
+    requires views { ShowsTypes command → HasFineViews file.now }
+    ensures { (hosts : List (List ℕ)) (words : CommandWords) (before after : ShelfState) (bytes : List ℕ) → MayAsk words before command bytes → IsAccepted (rules_of command) hosts bytes file.now → HasEnded hosts words before after (K.state out.old) (K.state out.new) result }
 {
     match text_of(alloc, command, file) {
         Ok(Some(text)) => finish(out, text.as_slice(), Status::Done),
@@ -130,18 +138,20 @@ fn answer_file<K: Sink>(alloc: Global, command: Command, file: &File, out: &mut 
 // What the command writes for a file, if it handles it.
 fn text_of(alloc: Global, command: Command, file: &File) -> Result<Option<Vec<u8>>, Memory>
     requires body { file.now.body.0 < length file.now.tree.nodes }
-    requires proper { (p : Protocol) → IsIn p file.now.protocols → IsProper p }
-    requires views { Judges command → HasFineViews file.now }
+    requires views { ShowsTypes command → HasFineViews file.now }
     ensures some { IfOk result (λ text. IfSome text (λ t. IsOutput command file.now t.items)) }
-    ensures none { IfOk result (λ text. IfNone text (NeedsThin command × (IsThin file.now → ⊥))) }
+    ensures none { IfOk result (λ text. IfNone text (IsUnbuilt command file.now)) }
 {
     match command {
+        Command::Check(_) => {
+            let text = b"ok\n".to_vec(alloc)?;
+            Ok(Some(text))
+        }
         Command::Run(_) => {
             if !is_thin(file) {
                 return Ok(None);
             }
-            let endpoints = endpoints_of(alloc, file)?;
-            let text = transcript_of(alloc, file, &endpoints)?;
+            let text = run_text(alloc, file)?;
             Ok(Some(text))
         }
         Command::Project(_) => {

@@ -2,7 +2,9 @@
 
 ghost use Rattle.std.specs.Prelude.{◌≡◌, ℕ, List, IfOk};
 ghost use Rattle.chor_cmd.specs.declared.words.Words.{Words as CommandWords};
-ghost use Rattle.chor_cmd.specs.Endings.{Ends, HasEnded, Told, line_naming, refused_line};
+ghost use Rattle.chor_io.specs.Outside.{ShelfState};
+ghost use Rattle.chor_cmd.specs.Outputs.{line_naming, refused_line};
+ghost use Rattle.chor_cmd.specs.Endings.{Ends, HasEnded};
 ghost use Rattle.chor_base.specs.declared.rule.Refusal.{Refusal as RefusalIs};
 ghost use Rattle.chor_base.specs.declared.rule.Denied.TheVariants as denials;
 ghost use Rattle.chor_cmd.specs.Words.{NamesFile};
@@ -13,9 +15,9 @@ use chor_io::{Put, Sink};
 use std::alloc::Global;
 
 /// Writes the text with which a call ends, and answers the status.
-#[tactic(auto, using(crate::proofs::Outputs::wrote_all, crate::proofs::Outputs::wrote_some))]
+#[tactic(auto, using(crate::proofs::Written::wrote_all, crate::proofs::Written::wrote_some))]
 pub fn finish<K: Sink>(out: &mut K, text: &[u8], status: Status) -> Status
-    ensures { (hosts : List (List ℕ)) (words : CommandWords) (files : Told) (before after : List ℕ → ℕ) → Ends hosts words files before after status text.now → HasEnded hosts words files before after (K.faults out.old) (K.faults out.new) (K.written out.old) (K.written out.new) result }
+    ensures { (hosts : List (List ℕ)) (words : CommandWords) (before after : ShelfState) → Ends hosts words before after status text.now → HasEnded hosts words before after (K.state out.old) (K.state out.new) result }
 {
     match out.put(text) {
         Put::All => status,
@@ -31,7 +33,7 @@ pub fn finish_naming<K: Sink>(
     name: &Word,
     status: Status,
 ) -> Status
-    ensures { (hosts : List (List ℕ)) (words : CommandWords) (files : Told) (before after : List ℕ → ℕ) → NamesFile words name.now → Ends hosts words files before after status (line_naming what.now name.now) → HasEnded hosts words files before after (K.faults out.old) (K.faults out.new) (K.written out.old) (K.written out.new) result }
+    ensures { (hosts : List (List ℕ)) (words : CommandWords) (before after : ShelfState) → NamesFile words name.now → Ends hosts words before after status (line_naming what.now name.now) → HasEnded hosts words before after (K.state out.old) (K.state out.new) result }
 {
     match naming_line(alloc, what, name) {
         Ok(line) => finish(out, line.as_slice(), status),
@@ -50,7 +52,7 @@ fn naming_line(alloc: Global, what: &[u8], name: &Word) -> Result<Vec<u8>, Memor
 
 // Writes the line of a refusal, and answers the status.
 fn finish_refusing<K: Sink>(alloc: Global, out: &mut K, refusal: &Refusal) -> Status
-    ensures { (hosts : List (List ℕ)) (words : CommandWords) (files : Told) (before after : List ℕ → ℕ) (name : List ℕ) → NamesFile words name → Ends hosts words files before after Status.Refused (refused_line refusal.now.rule refusal.now.place) → HasEnded hosts words files before after (K.faults out.old) (K.faults out.new) (K.written out.old) (K.written out.new) result }
+    ensures { (hosts : List (List ℕ)) (words : CommandWords) (before after : ShelfState) (name : List ℕ) → NamesFile words name → Ends hosts words before after Status.Refused (refused_line refusal.now.rule refusal.now.place) → HasEnded hosts words before after (K.state out.old) (K.state out.new) result }
 {
     match refused_line(alloc, refusal) {
         Ok(line) => finish(out, line.as_slice(), Status::Refused),
@@ -60,7 +62,7 @@ fn finish_refusing<K: Sink>(alloc: Global, out: &mut K, refusal: &Refusal) -> St
 
 /// Writes the line of a refusal, or nothing where there was no memory, and answers the status.
 pub fn finish_denying<K: Sink>(alloc: Global, out: &mut K, denied: &Denied) -> Status
-    ensures { (hosts : List (List ℕ)) (words : CommandWords) (files : Told) (before after : List ℕ → ℕ) (name : List ℕ) → NamesFile words name → ((r : RefusalIs) → denied.now ≡ denials.Refused r → Ends hosts words files before after Status.Refused (refused_line r.rule r.place)) → HasEnded hosts words files before after (K.faults out.old) (K.faults out.new) (K.written out.old) (K.written out.new) result }
+    ensures { (hosts : List (List ℕ)) (words : CommandWords) (before after : ShelfState) (name : List ℕ) → NamesFile words name → ((r : RefusalIs) → denied.now ≡ denials.Refused r → Ends hosts words before after Status.Refused (refused_line r.rule r.place)) → HasEnded hosts words before after (K.state out.old) (K.state out.new) result }
 {
     match denied {
         Denied::Refused(refusal) => finish_refusing(alloc, out, refusal),

@@ -1,12 +1,9 @@
 //! The text of the local types of a file.
 
 ghost use Rattle.std.specs.Prelude.{IfOk, IsSome};
-ghost use Rattle.chor_tree.specs.declared.protocol.Protocol.{Protocol as ProtocolIs};
-ghost use Rattle.global_types.specs.Moves.{IsIn};
 ghost use Rattle.global_types.specs.Views.{HasNoViewFault};
-ghost use Rattle.local_types.specs.Reading.{IsProper, IsTypeOf, IsBreadthFirst, HasAscendingLabels, HasFineRoles, role_place};
-ghost use Rattle.chor_cmd.specs.Source.{HasFineViews};
-ghost use Rattle.chor_cmd.specs.Types.{AreRoleTexts, IsTypesText};
+ghost use Rattle.local_types.specs.Reading.{IsTypeOf, IsBreadthFirst, HasAscendingLabels, HasDistinctLabels, HasFineRoles, role_place};
+ghost use Rattle.chor_cmd.specs.Types.{AreRoleTexts, HasFineViews, IsTypesText};
 
 use chor_base::{Denied, Memory, NameId, Names};
 use chor_tree::{File, Protocol};
@@ -15,7 +12,6 @@ use std::alloc::Global;
 
 /// The local types of all roles of all protocols, in the order of the source.
 pub fn types_of(alloc: Global, file: &File) -> Result<Vec<u8>, Memory>
-    requires proper { (p : ProtocolIs) → IsIn p file.now.protocols → IsProper p }
     requires views { HasFineViews file.now }
     ensures { IfOk result (λ text. IsTypesText file.now text.items) }
 {
@@ -29,7 +25,6 @@ pub fn types_of(alloc: Global, file: &File) -> Result<Vec<u8>, Memory>
 
 // The local types of the roles of a protocol.
 fn roles_of(alloc: Global, protocol: &Protocol, names: &Names) -> Result<Vec<u8>, Memory>
-    requires proper { IsProper protocol.now }
     requires fine { HasFineRoles protocol.now protocol.now.roles }
     ensures { IfOk result (λ text. AreRoleTexts names.now protocol.now text.items) }
 {
@@ -49,12 +44,12 @@ fn type_of(
     role: NameId,
     names: &Names,
 ) -> Result<LocalType, Memory>
-    requires proper { IsProper protocol.now }
     requires role { IsSome (role_place protocol.now.roles role) }
     requires fine { HasNoViewFault protocol.now.states role }
     ensures stands { IfOk result (λ t. IsTypeOf protocol.now.states role t.states) }
     ensures numbered { IfOk result (λ t. IsBreadthFirst t.states) }
     ensures ascend { IfOk result (λ t. HasAscendingLabels names.now t.states) }
+    ensures distinct { IfOk result (λ t. HasDistinctLabels t.states) }
 {
     match local(alloc, protocol, role, names) {
         Ok(found) => Ok(found),

@@ -1,10 +1,10 @@
 //! The words of the command line.
 
 ghost use Rattle.std.specs.Prelude.{◌≡◌, ◌↔◌, List, ℕ, MatchOption, IsTrue};
-ghost use Rattle.chor_cmd.specs.Source.{Judges};
-ghost use Rattle.chor_cmd.specs.Words.{IsFileWord, IsForm, HasNoForm, IsCommand, IsNoCommand};
+ghost use Rattle.chor_cmd.specs.Words.{rules_of, IsFileWord, IsForm, HasNoForm, IsCommand, IsNoCommand};
 
 use chor_base::{List, Word};
+use source_check::Rules;
 
 /// The words of the command line, without the program's name.
 #[derive(Drop)]
@@ -15,26 +15,29 @@ pub struct Words {
 /// What the words ask for. A file is the index of its word.
 #[derive(Clone, Copy, Debug, PartialEq, Eq)]
 pub enum Command {
-    /// `run FILE`: writes the transcript of a run.
-    Run(u32),
-    /// `project FILE`: writes the endpoint programs.
-    Project(u32),
-    /// `types FILE`: writes the local types of all roles.
-    Types(u32),
+    /// `check FILE`: judges the file.
+    Check(u32),
     /// `fmt FILE`: writes the canonical text.
     Fmt(u32),
+    /// `types FILE`: writes the local types of all roles.
+    Types(u32),
+    /// `project FILE`: writes the endpoint programs.
+    Project(u32),
+    /// `run FILE`: writes the transcript of a run.
+    Run(u32),
 }
 
 impl Command {
-    /// Whether the command applies the rules of names, protocols and views.
-    pub fn judges(&self) -> bool
-        ensures { IsTrue result ↔ Judges self.now }
+    /// The rules that the command applies.
+    pub fn rules(&self) -> Rules
+        ensures { result ≡ rules_of self.now }
     {
         match self {
-            Command::Run(_) => true,
-            Command::Project(_) => true,
-            Command::Types(_) => true,
-            Command::Fmt(_) => false,
+            Command::Check(_) => Rules::Linearity,
+            Command::Fmt(_) => Rules::Grammar,
+            Command::Types(_) => Rules::Views,
+            Command::Project(_) => Rules::Linearity,
+            Command::Run(_) => Rules::Linearity,
         }
     }
 }
@@ -54,14 +57,16 @@ fn is_file_word(word: &[u8]) -> bool
 fn command_of(word: &[u8]) -> Option<Command>
     ensures { MatchOption result (IsNoCommand word.now) (IsCommand word.now) }
 {
-    if word == b"run".as_slice() {
-        Some(Command::Run(1))
-    } else if word == b"project".as_slice() {
-        Some(Command::Project(1))
-    } else if word == b"types".as_slice() {
-        Some(Command::Types(1))
+    if word == b"check".as_slice() {
+        Some(Command::Check(1))
     } else if word == b"fmt".as_slice() {
         Some(Command::Fmt(1))
+    } else if word == b"types".as_slice() {
+        Some(Command::Types(1))
+    } else if word == b"project".as_slice() {
+        Some(Command::Project(1))
+    } else if word == b"run".as_slice() {
+        Some(Command::Run(1))
     } else {
         None
     }

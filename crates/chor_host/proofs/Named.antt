@@ -35,14 +35,7 @@ module _ {X : Type 0} {g : Mut X (ℤ × (ℤ × Unit {0})) ℤ} where
   names_more [] f = refl
   names_more (h ∷ items) f = ap (λ ws. h.name ∷ ws) (names_more items f)
 
-  length_names : (items : List (HostFn X g)) → length (names_of (map function_of items)) ≡ length items
-  length_names [] = refl
-  length_names (h ∷ items) = ap suc (length_names items)
-
   -- after one more name and its function, the names are those of the functions
   pub named_more : (names : List (List ℕ)) (items : List (HostFn X g)) (f : HostFn X g) → names ≡ names_of (map function_of items) → is_named (map function_of items) f.name ≡ false → with_word names f.name ≡ names_of (map function_of (items ++ f ∷ []))
   named_more names items f e none =
       put_absent names f.name (ap (list_any (bytes_eq f.name)) e ∙ none) ∙ ap (λ ws. ws ++ f.name ∷ []) e ∙ sym (names_more items f)
-
-  pub short_more : (names : List (List ℕ)) (items : List (HostFn X g)) (f : HostFn X g) → names ≡ names_of (map function_of (items ++ f ∷ [])) → length names ≡ length items + 1
-  short_more names items f e = omega (arith, ap length e, length_names (items ++ f ∷ []), length-append items (f ∷ []))

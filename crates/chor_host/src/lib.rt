@@ -5,8 +5,6 @@ mod fault;
 mod function;
 mod operations;
 mod table;
-#[cfg(test)]
-mod tests;
 
 pub use fault::AddFault;
 pub use function::HostFn;

@@ -1,6 +1,6 @@
 //! Host functions by their names.
 
-ghost use Rattle.std.specs.Prelude.{◌≡◌, ◌<◌, ◌^◌, length, map};
+ghost use Rattle.std.specs.Prelude.{◌≡◌, map};
 ghost use Rattle.chor_host.specs.Functions.{function_of, names_of};
 
 mod calls;
@@ -15,5 +15,4 @@ pub struct HostTable {
     names: Names,
     functions: Vec<HostFn>,
     ghost named: { names ≡ names_of (map function_of functions.items) },
-    ghost short: { length names < 2 ^ 32 },
 }

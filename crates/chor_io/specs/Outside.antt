@@ -5,6 +5,17 @@ use Rattle.chor_io.specs.declared.outside.Fetched.TheVariants as fetched
 use Rattle.chor_io.specs.declared.outside.Put.{Put}
 use Rattle.chor_io.specs.declared.outside.Put.TheVariants as puts
 
+-- what contracts see of a shelf: the bytes of each file by its name, where they are told, and how often a fetch of each name
+-- has failed
+pub record ShelfState : Type 0 where
+  pub files : Option (List ℕ → Option (List ℕ))
+  pub faults : List ℕ → ℕ
+
+-- what contracts see of a sink: the bytes written so far, where they are told, and how often a write has failed
+pub record SinkState : Type 0 where
+  pub written : Option (List ℕ)
+  pub faults : ℕ
+
 -- the count rose, or stands at the greatest number that 64 bits hold
 abbrev pub Risen : ℕ → ℕ → Type 0
 Risen old new = (old < new) ⊎ (new ≡ 2 ^ 64 - 1)

@@ -32,8 +32,8 @@ impl FailedNames {
         ensures word { IfOk result (λ word. word ≡ name.now) }
     {
         self.names.reserve(1)?;
-        let bytes = name.to_vec(self.alloc)?;
-        Ok(Word::from_vec(bytes))
+        let word = Word::from_slice(self.alloc, name)?;
+        Ok(word)
     }
 
     /// Notes the name where the call with this answer failed.

@@ -15,6 +15,3 @@ pub use gate::OpenGate;
 pub use memory::{MemoryShelf, MemorySink};
 pub use outside::{Fetched, Gate, Put, Shelf, Sink};
 pub use real::{DiskShelf, OutSink};
-
-#[cfg(test)]
-mod tests;

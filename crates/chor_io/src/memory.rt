@@ -78,9 +78,7 @@ fn copy_file(files: &[(Word, Word)], name: &[u8], limit: u64, into: &mut Vec<u8>
 }
 
 impl Shelf for MemoryShelf {
-    ghost faults = { λ shelf. times shelf.failed };
-
-    ghost files = { λ shelf. Some (file_of shelf.files) };
+    ghost state = { λ shelf. record { files = Some (file_of shelf.files); faults = times shelf.failed } };
 
     /// It fails exactly at a call that is to fail and at a name that the shelf hasn't, and adds
     /// nothing then. Every call counts, one that found no memory too.
@@ -172,9 +170,7 @@ fn allowance(fails: &[(u64, u64)], number: u64) -> Option<u64>
 }
 
 impl Sink for MemorySink {
-    ghost faults = { λ sink. sink.failures };
-
-    ghost written = { λ sink. Some sink.written };
+    ghost state = { λ sink. record { written = Some sink.written; faults = sink.failures } };
 
     /// It fails exactly at a call that is to fail and where the bytes would exceed the room, and
     /// has taken what fits then.

@@ -1,7 +1,7 @@
 //! What a program asks of the outside.
 
-ghost use Rattle.std.specs.Prelude.{◌≡◌, ◌≢◌, ◌≤◌, ◌<◌, ◌^◌, ℕ, List, [], Option};
-ghost use Rattle.chor_io.specs.Outside.{FetchGrows, FetchTells, PutTells, Risen};
+ghost use Rattle.std.specs.Prelude.{◌≡◌, ◌≢◌, ◌≤◌, ◌<◌, ◌^◌, ℕ, List, []};
+ghost use Rattle.chor_io.specs.Outside.{FetchGrows, FetchTells, PutTells, Risen, ShelfState, SinkState};
 
 /// What came of a fetch.
 #[derive(Clone, Copy, Debug, PartialEq, Eq)]
@@ -33,11 +33,8 @@ pub enum Put {
 /// `files` which bytes each name has, and then owes exactly these bytes. A shelf that reads a disk
 /// says `None` there, and owes only how far `into` grows.
 pub trait Shelf {
-    /// How often a fetch of a name has failed.
-    ghost faults: { Self → List ℕ → ℕ };
-
-    /// The bytes of each file by its name, where they are told.
-    ghost files: { Self → Option (List ℕ → Option (List ℕ)) };
+    /// The files, and the failed fetches of each name.
+    ghost state: { Self → ShelfState };
 
     /// Adds the bytes of a file after those that stand in `into`. A file of more than `limit`
     /// bytes isn't read further than one byte beyond. Whatever the answer, what stood in `into`
@@ -45,13 +42,13 @@ pub trait Shelf {
     fn fetch(&mut self, name: &[u8], limit: u64, into: &mut Vec<u8>) -> Fetched
         requires { limit < 2 ^ 32 }
         ensures grows { FetchGrows limit into.old.items into.new.items result }
-        ensures told { FetchTells (files self.old) name.now limit into.old.items into.new.items result }
-        ensures same { files self.new ≡ files self.old }
+        ensures told { FetchTells (state self.old).files name.now limit into.old.items into.new.items result }
+        ensures same { (state self.new).files ≡ (state self.old).files }
 
         // A failure is counted at this very name.
-        ensures cause { result ≡ Fetched.Failed → Risen (faults self.old name.now) (faults self.new name.now) }
-        ensures rises { faults self.old name.now ≤ faults self.new name.now }
-        ensures others { (other : List ℕ) → other ≢ name.now → faults self.new other ≡ faults self.old other };
+        ensures cause { result ≡ Fetched.Failed → Risen ((state self.old).faults name.now) ((state self.new).faults name.now) }
+        ensures rises { (state self.old).faults name.now ≤ (state self.new).faults name.now }
+        ensures others { (other : List ℕ) → other ≢ name.now → (state self.new).faults other ≡ (state self.old).faults other };
 }
 
 /// A place that bytes are written to, in order.
@@ -61,20 +58,17 @@ pub trait Shelf {
 /// number. Where only a front of the piece could be written, answer `Failed`. A sink whose bytes
 /// are known to its type says in `written` which they are, and a sink over a device says `None`.
 pub trait Sink {
-    /// How often a write has failed.
-    ghost faults: { Self → ℕ };
-
-    /// The bytes written so far, where they are told.
-    ghost written: { Self → Option (List ℕ) };
+    /// The bytes written, and the failed writes.
+    ghost state: { Self → SinkState };
 
     /// Writes the bytes of a piece after those written before. An empty piece is always written,
     /// and is no call that could fail.
     fn put(&mut self, piece: &[u8]) -> Put
-        ensures told { PutTells (written self.old) (written self.new) piece.now result }
+        ensures told { PutTells (state self.old).written (state self.new).written piece.now result }
         ensures empty { piece.now ≡ [] → result ≡ Put.All }
-        ensures empty_same { piece.now ≡ [] → faults self.new ≡ faults self.old }
-        ensures cause { result ≡ Put.Failed → Risen (faults self.old) (faults self.new) }
-        ensures rises { faults self.old ≤ faults self.new };
+        ensures empty_same { piece.now ≡ [] → (state self.new).faults ≡ (state self.old).faults }
+        ensures cause { result ≡ Put.Failed → Risen (state self.old).faults (state self.new).faults }
+        ensures rises { (state self.old).faults ≤ (state self.new).faults };
 }
 
 /// What a worker passes before each of its turns.

@@ -78,9 +78,7 @@ fn read_file<R: Files>(rt: &R, name: &[u8], limit: u64, into: &mut Vec<u8>) -> F
 }
 
 impl<R: Files> Shelf for DiskShelf<'_, R> {
-    ghost faults = { λ names. times names };
-
-    ghost files = { λ _. None };
+    ghost state = { λ names. record { files = None; faults = times names } };
 
     /// Opens the file and reads it to its end or to one byte beyond the limit. A directory fails, and
     /// so does a read that a signal interrupts.
@@ -144,9 +142,7 @@ fn write_all<W: Write>(out: &mut W, piece: &[u8]) -> Put
 }
 
 impl<R: Print> Sink for OutSink<'_, R> {
-    ghost faults = { λ failures. failures };
-
-    ghost written = { λ _. None };
+    ghost state = { λ failures. record { written = None; faults = failures } };
 
     /// Writes until the piece is written or a write fails. A write that takes nothing has failed,
     /// and so has one that a signal interrupts.

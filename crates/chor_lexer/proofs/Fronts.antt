@@ -127,7 +127,7 @@ mark_written w = go (named marks w) refl
     go None e = inr (λ m q. let no : None ≡ Some m = sym e ∙ ap (named marks) (sym q) ∙ named_back m in absurd cc)
     go (Some m) e = inl (m, named_is marks w m e)
 
-mark_same : (m n : Mark) → spelling m ≡ spelling n → m ≡ n
+pub mark_same : (m n : Mark) → spelling m ≡ spelling n → m ≡ n
 mark_same m n e = let q : Some m ≡ Some n = sym (named_back m) ∙ ap (named marks) e ∙ named_back n in cc
 
 mark_class : (w : List ℕ) (b : ℕ) (bs u : List ℕ) → IsMark w → w ++ u ≡ b ∷ bs → byte_class b ≡ 3

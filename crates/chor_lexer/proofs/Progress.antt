@@ -35,8 +35,6 @@ pub record Progress (bytes : List ℕ) (names texts : List (List ℕ)) (rest : L
   pub unended : AllByRecursion (λ t. is_last t.kind ≡ false) items
   pub line : p.line + length rest ≤ length bytes + 1
   pub col : p.col + length rest ≤ length bytes + 1
-  pub room : length names' + length texts' + length rest ≤ length names + length texts + length bytes
-  pub few : length items + length rest ≤ length bytes
 
 pub progress_none : (bytes : List ℕ) (names texts : List (List ℕ)) (items : List Token) (p : Place) → items ≡ [] → p ≡ start → Progress bytes names texts bytes p items names texts
 progress_none bytes names texts items p e f = record {
@@ -50,8 +48,6 @@ progress_none bytes names texts items p e f = record {
   unended = subst (AllByRecursion (λ t. is_last t.kind ≡ false)) (sym e) tt;
   line = (let l = ap (λ (x : Place). x.line) f in omega arith);
   col = (let l = ap (λ (x : Place). x.col) f in omega arith);
-  room = omega arith;
-  few = omega (arith, ap length e);
 }
 
 -- where the next place is
@@ -85,8 +81,6 @@ progress_blank bytes names texts rest written after p q items names' texts' n g 
       unended = g.unended;
       line = omega (arith, g.line, h.line);
       col = omega (arith, g.col, h.col);
-      room = omega (arith, g.room);
-      few = omega (arith, g.few);
     }
 
 pub has_written : (bytes rest written : List ℕ) (p : Place) (ls : List Lexeme) (f : Form) (n : ℕ) (s : Symbol) → IsCut bytes start ls rest p → IsNextOf f rest n → written ≡ take n rest → IsLexeme s written → HasSymbol bytes s
@@ -124,8 +118,8 @@ folded : (f : List (List ℕ) → Symbol → List (List ℕ)) (old mid new : Lis
 folded f old mid new [] s p e h = h ∙ ap (λ (t : List (List ℕ)). f t s) e
 folded f old mid new (l ∷ ls) s p e h = folded f (f old l.symbol) mid new ls s p e h
 
-pub progress_token : (bytes : List ℕ) (names texts : List (List ℕ)) (rest written after : List ℕ) (p q : Place) (items items' : List Token) (names' texts' names'' texts'' : List (List ℕ)) (f : Form) (n : ℕ) (k : Kind) → Progress bytes names texts rest p items names' texts' → IsPast p rest n q written after → IsNextOf f rest n → ((s : Symbol) → HasForm f s → IsLexeme s written → Spells names'' texts'' k s) → ((s : Symbol) → HasForm f s → IsLexeme s written → names'' ≡ with_name names' s) → ((s : Symbol) → HasForm f s → IsLexeme s written → texts'' ≡ with_text texts' s) → Grows (λ w. IsLexeme (word w) written) names' names'' → Grows (λ t. IsLexeme (text t) written) texts' texts'' → length names'' + length texts'' ≤ length names' + length texts' + 1 → items' ≡ items ++ record { kind = k; place = p } ∷ [] → Progress bytes names texts after q items' names'' texts''
-progress_token bytes names texts rest written after p q items items' names' texts' names'' texts'' f n k g h x spells en et gn gt more e =
+pub progress_token : (bytes : List ℕ) (names texts : List (List ℕ)) (rest written after : List ℕ) (p q : Place) (items items' : List Token) (names' texts' names'' texts'' : List (List ℕ)) (f : Form) (n : ℕ) (k : Kind) → Progress bytes names texts rest p items names' texts' → IsPast p rest n q written after → IsNextOf f rest n → ((s : Symbol) → HasForm f s → IsLexeme s written → Spells names'' texts'' k s) → ((s : Symbol) → HasForm f s → IsLexeme s written → names'' ≡ with_name names' s) → ((s : Symbol) → HasForm f s → IsLexeme s written → texts'' ≡ with_text texts' s) → Grows (λ w. IsLexeme (word w) written) names' names'' → Grows (λ t. IsLexeme (text t) written) texts' texts'' → items' ≡ items ++ record { kind = k; place = p } ∷ [] → Progress bytes names texts after q items' names'' texts''
+progress_token bytes names texts rest written after p q items items' names' texts' names'' texts'' f n k g h x spells en et gn gt e =
     let len = past_length p rest n q written after h in
     let w : IsLexeme x.symbol written = subst (IsLexeme x.symbol) (sym h.written_is) x.next.longest.is in
     let some = lexeme_long x.symbol written w in
@@ -142,8 +136,6 @@ progress_token bytes names texts rest written after p q items items' names' text
       unended = subst (AllByRecursion (λ t. is_last t.kind ≡ false)) (sym e) (each_append (λ t. is_last t.kind ≡ false) items (token_is ∷ []) g.unended (spells_unended names'' texts'' k x.symbol written spell w, tt));
       line = omega (arith, g.line, h.line);
       col = omega (arith, g.col, h.col);
-      room = omega (arith, g.room);
-      few = omega (arith, g.few, ap length e, length-append items (token_is ∷ []));
     }
 
 pub denied_malformed : (bytes : List ℕ) (n : ℕ) (p q : Place) (d : Denied) → (IsUtf8 bytes → ⊥) → n ≡ utf8_valid_len bytes → p ≡ start → q ≡ place_after p (take n bytes) → d ≡ Refused (record { rule = L4; place = q; who = None }) → IsDenial bytes d
@@ -176,6 +168,3 @@ ended_push (x ∷ y ∷ ts) t h e = let more = ended_push (y ∷ ts) t h.1 e in 
 
 pub progress_ended : (bytes : List ℕ) (names texts : List (List ℕ)) (rest : List ℕ) (p : Place) (items items' : List Token) (names' texts' : List (List ℕ)) → Progress bytes names texts rest p items names' texts' → items' ≡ items ++ record { kind = kind.Last; place = p } ∷ [] → is_ended items' ≡ true
 progress_ended bytes names texts rest p items items' names' texts' g e = ap is_ended e ∙ ended_push items (record { kind = kind.Last; place = p }) g.unended refl
-
-pub progress_short : (bytes : List ℕ) (names texts : List (List ℕ)) (rest : List ℕ) (p : Place) (items items' : List Token) (t : Token) (names' texts' : List (List ℕ)) → Progress bytes names texts rest p items names' texts' → items' ≡ items ++ t ∷ [] → length bytes + length names + length texts < 2 ^ 32 - 1 → length items' < 2 ^ 32
-progress_short bytes names texts rest p items items' t names' texts' g e h = omega (arith, g.few, ap length e, length-append items (t ∷ []))

@@ -1,6 +1,6 @@
 //! The tokens of a file.
 
-ghost use Rattle.std.specs.Prelude.{◌≡◌, ◌+◌, ◌-◌, ◌^◌, ◌<◌, ◌≤◌, ◌∷◌, ◌++◌, [], length, OnOk, IfOk, IfErr};
+ghost use Rattle.std.specs.Prelude.{◌≡◌, ◌-◌, ◌^◌, ◌<◌, ◌∷◌, ◌++◌, [], length, OnOk, IfOk, IfErr};
 ghost use Rattle.std.specs.List.{AllByRecursion};
 ghost use Rattle.chor_lexer.specs.Lexeme.{Symbol, word, text, IsLexeme};
 ghost use Rattle.chor_lexer.specs.Tokens.{AreTokensOf, IsKnown, with_name, with_text, Spells, Grows, HasSymbol};
@@ -27,7 +27,7 @@ pub fn tokens(
     names: &mut Names,
     texts: &mut Texts,
 ) -> Result<Tokens, Denied>
-    requires { length bytes.now + length names.old + length texts.old < 2 ^ 32 - 1 }
+    requires { length bytes.now < 2 ^ 32 - 1 }
     ensures found { IfOk result (λ tokens. AreTokensOf bytes.now names.old texts.old names.new texts.new tokens.items) }
     ensures known { IfOk result (λ tokens. AllByRecursion (IsKnown names.new) tokens.items) }
     ensures denied { IfErr result (IsDenial bytes.now) }
@@ -75,15 +75,12 @@ fn kind_of(
     names: &mut Names,
     texts: &mut Texts,
 ) -> Result<Kind, Memory>
-    requires written { IsWritten form written.now }
-    requires names { length names.old < 2 ^ 32 }
-    requires texts { length texts.old < 2 ^ 32 }
+    requires { IsWritten form written.now }
     ensures kind { IfOk result (λ kind. (s : Symbol) → HasForm form s → IsLexeme s written.now → Spells names.new texts.new kind s) }
     ensures names_are { OnOk result ((s : Symbol) → HasForm form s → IsLexeme s written.now → names.new ≡ with_name names.old s) }
     ensures texts_are { OnOk result ((s : Symbol) → HasForm form s → IsLexeme s written.now → texts.new ≡ with_text texts.old s) }
     ensures names { Grows (λ w. IsLexeme (word w) written.now) names.old names.new }
     ensures texts { Grows (λ t. IsLexeme (text t) written.now) texts.old texts.new }
-    ensures room { length names.new + length texts.new ≤ length names.old + length texts.old + 1 }
 {
     match form {
         Form::Word => Ok(Kind::Word(names.intern(written)?)),
@@ -116,6 +113,3 @@ pub fn refused(rule: Rule, place: Place) -> Denied
         who: None,
     })
 }
-
-#[cfg(test)]
-mod tests;

@@ -11,8 +11,6 @@ mod mark;
 mod number;
 mod place;
 mod scan;
-#[cfg(test)]
-mod tests;
 mod text;
 mod token;
 

@@ -69,19 +69,19 @@ service_begins = same_begins (then_begins (word_begins (codes "service"))) servi
 pub procedure_begins : Begins ProcedurePart (AWord (codes "proc"))
 procedure_begins = same_begins (then_begins (word_begins (codes "proc"))) procedure_alike
 
-abbrev OtherFirst : Further
+abbrev pub OtherFirst : Further
 OtherFirst = Or (AWord (codes "service")) (AWord (codes "proc"))
 
-service_not_procedure : AreDistinct (AWord (codes "service")) (AWord (codes "proc"))
+pub service_not_procedure : AreDistinct (AWord (codes "service")) (AWord (codes "proc"))
 service_not_procedure = words_differ (codes "service") (codes "proc") refl refl
 
-protocol_not_other : AreDistinct (AWord (codes "protocol")) OtherFirst
+pub protocol_not_other : AreDistinct (AWord (codes "protocol")) OtherFirst
 protocol_not_other = distinct_or (words_differ (codes "protocol") (codes "service") refl refl) (words_differ (codes "protocol") (codes "proc") refl refl)
 
 other_part : IsPart (OneOf ServicePart ProcedurePart) Nothing
 other_part = choice_part service_part procedure_part service_begins procedure_begins service_not_procedure
 
-other_begins : Begins (OneOf ServicePart ProcedurePart) OtherFirst
+pub other_begins : Begins (OneOf ServicePart ProcedurePart) OtherFirst
 other_begins = choice_begins service_begins procedure_begins
 
 pub an_item_part : IsPart AnItemPart Nothing

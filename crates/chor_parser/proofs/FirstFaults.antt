@@ -91,16 +91,16 @@ viable_front {names} {all} front more e v = record {
 
 -- ---- what is wider is kept
 
-derives_wider : {Q Q' : Allowed} {names : List (List ℕ)} {ts : List Token} {s : Source} → ((rule : Rule) (p : Place) → Q rule p → Q' rule p) → Derives Q names ts s → Derives Q' names ts s
+pub derives_wider : {Q Q' : Allowed} {names : List (List ℕ)} {ts : List Token} {s : Source} → ((rule : Rule) (p : Place) → Q rule p → Q' rule p) → Derives Q names ts s → Derives Q' names ts s
 derives_wider {Q' = Q'} {names = names} {ts = ts} w d =
     let p = into_parts d.is d.keeps in
     subst (λ (x : Source). Derives Q' names ts x) (sym p.same) (from_parts (source_part.wider w p.is) p.end)
 
 -- another place than this
-abbrev other : Place → Place
+abbrev pub other : Place → Place
 other p = record { line = suc p.line; col = p.col }
 
-other_differs : (p q : Place) → q ≡ other p → q ≡ p → ⊥
+pub other_differs : (p q : Place) → q ≡ other p → q ≡ p → ⊥
 other_differs p q e f = let h : suc p.line ≡ p.line = sym (ap (λ (r : Place). r.line) e) ∙ ap (λ (r : Place). r.line) f in absurd (omega arith)
 
 -- tokens that can be completed with no excess but in what is added have no fault
@@ -115,13 +115,13 @@ no_fault {names} {before} c front t more r e (exceeds v a) =
 
 -- ---- the first fault
 
-wrong_is_free : (place : Place) → IsFree (but_at P1 place)
+pub wrong_is_free : (place : Place) → IsFree (but_at P1 place)
 wrong_is_free place = record { blocks = λ p e f. absurd cc; items = λ p e f. absurd cc }
 
 anywhere_is_free : IsFree anywhere
 anywhere_is_free = record { blocks = λ p. tt; items = λ p. tt }
 
-fault_of : {names : List (List ℕ)} {ts : List Token} {rule : Rule} {place : Place} (s : Stops SourcePart Nothing names ts rule place) → (r : Rule) → r ≡ rule → Reason SourcePart names s.before s.token r → IsFaultAt names s.before s.token r
+pub fault_of : {names : List (List ℕ)} {ts : List Token} {rule : Rule} {place : Place} (s : Stops SourcePart Nothing names ts rule place) → (r : Rule) → r ≡ rule → Reason SourcePart names s.before s.token r → IsFaultAt names s.before s.token r
 fault_of {names} {ts} {rule} {place} s r e wrong =
     unexpected (viable (can_end (s.viable s.token.place))) (λ v.
     let d : FileIs (names ++ v.words) (s.before ++ s.token ∷ v.more) v.source = subst (λ (l : List Token). FileIs (names ++ v.words) l v.source) (append_assoc s.before (s.token ∷ []) v.more) v.is in
@@ -130,14 +130,14 @@ fault_of {names} {ts} {rule} {place} s r e wrong =
     let p = into_parts d k2 in
     s.never v.words v.more p.value p.rest p.is (λ t rest q n. n))
 fault_of {names} {ts} {rule} {place} s r e (excess c) =
-    exceeds (viable (can_end c)) (λ words more x d k.
+    exceeds (viable (can_end (c s.token.place))) (λ words more x d k.
     let d2 : Derives (but_at r s.token.place) (names ++ words) (s.before ++ s.token ∷ more) x = subst (λ (l : List Token). Derives (but_at r s.token.place) (names ++ words) l x) (append_assoc s.before (s.token ∷ []) more) (record { is = d; keeps = k }) in
     let d3 : Derives (but_at rule s.token.place) (names ++ words) (s.before ++ s.token ∷ more) x = subst (λ (q : Rule). Derives (but_at q s.token.place) (names ++ words) (s.before ++ s.token ∷ more) x) e d2 in
     let d4 : Derives (but_at rule place) (names ++ words) (s.before ++ s.token ∷ more) x = subst (λ (q : Place). Derives (but_at rule q) (names ++ words) (s.before ++ s.token ∷ more) x) (sym s.at) d3 in
     let p = into_parts d4.is d4.keeps in
     s.never words more p.value p.rest p.is (λ t rest q n. n))
 
-pub first_fault : {names : List (List ℕ)} {ts : List Token} {rule : Rule} {place : Place} → Stops SourcePart Nothing names ts rule place → IsFirstFault names ts rule place
+abbrev pub first_fault : {names : List (List ℕ)} {ts : List Token} {rule : Rule} {place : Place} → Stops SourcePart Nothing names ts rule place → IsFirstFault names ts rule place
 first_fault {rule = rule} s = record {
   before = s.before;
   token = s.token;
@@ -161,7 +161,7 @@ refusal_is (Refused r) w h = let s = h.by r refl w in (first_fault s.0, s.1)
 not_last : {t u : Token} {ts us : List Token} → t ∷ ts ≡ u ∷ us → u.kind ≡ Last → t.kind ≡ Last
 not_last {t} {u} {ts} {us} e k = let same : t ≡ u = cc in ap (λ (x : Token). x.kind) same ∙ k
 
-after_source : {names : List (List ℕ)} {ts : List Token} {v : Items × Main} {rest : List Token} → AreWhole names ts → (r : Reads SourcePart Nothing names ts v rest) → (o : Only SourcePart Nothing names ts v rest) → (t : Token) (left : List Token) → rest ≡ t ∷ left → (t.kind ≡ Last → ⊥) → IsFirstFault names ts P1 t.place
+pub after_source : {names : List (List ℕ)} {ts : List Token} {v : Items × Main} {rest : List Token} → AreWhole names ts → (r : Reads SourcePart Nothing names ts v rest) → (o : Only SourcePart Nothing names ts v rest) → (t : Token) (left : List Token) → rest ≡ t ∷ left → (t.kind ≡ Last → ⊥) → IsFirstFault names ts P1 t.place
 after_source {names} {ts} {v} {rest} w r o t left e n =
     let ends : (p : Place) → CanEnd (only_at p) names o.front = λ p. record {
       words = more_words;

@@ -36,7 +36,7 @@ rest_of ys = map (λ y. y.1) ys
 abbrev pub all_of : {A : Type 0} → A × List (Unit {0} × A) → List A
 all_of v = v.0 ∷ rest_of v.1
 
-repeated : {A : Type 0} {W : ℕ → Part A} {C F : Further} → AreItems W C F → AreRepeated (CommaAnd W) C (OrComma C) AComma
+pub repeated : {A : Type 0} {W : ℕ → Part A} {C F : Further} → AreItems W C F → AreRepeated (CommaAnd W) C (OrComma C) AComma
 repeated {C = C} w = record {
   part = λ n. then_part (mark_part Comma) (w.part n) nothing_apart;
   begins = λ n. then_begins (mark_begins Comma);
@@ -47,7 +47,7 @@ repeated {C = C} w = record {
   end_stable = or_stable (mark_stable Comma) w.stable;
 }
 
-apart_from_more : {A : Type 0} {W : ℕ → Part A} {C F : Further} {n : ℕ} → AreItems W C F → Apart C (Times (CommaAnd W) n) (OrComma C)
+pub apart_from_more : {A : Type 0} {W : ℕ → Part A} {C F : Further} {n : ℕ} → AreItems W C F → Apart C (Times (CommaAnd W) n) (OrComma C)
 apart_from_more {C = C} w = times_apart (repeated w) w.distinct (or_right AComma C)
 
 pub commas_part : {A : Type 0} {W : ℕ → Part A} {C F : Further} (n : ℕ) → AreItems W C F → IsPart (Commas W n) (OrComma C)

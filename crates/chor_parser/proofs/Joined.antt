@@ -8,7 +8,7 @@ use Rattle.chor_lexer.specs.Tokens.{is_ended}
 use Rattle.chor_tree.specs.declared.file.Named.{Named}
 use Rattle.chor_tree.specs.declared.file.Proc.{Proc}
 use Rattle.chor_tree.specs.declared.file.Service.{Service}
-use Rattle.chor_tree.specs.declared.protocol.Protocol.{Protocol}
+use Rattle.chor_tree.specs.Protocols.{Protocol}
 use Rattle.chor_tree.specs.declared.tree.Node.{Node}
 use Rattle.token_grammar.specs.Symbols.{Nothing, Reads, Halts, Head, left, right, Times, Leads}
 use Rattle.token_grammar.proofs.Sequels.{past, reads_past, leads_on, leads_same}

@@ -10,10 +10,10 @@ use Rattle.chor_tree.specs.declared.file.Named.{Named}
 use Rattle.chor_tree.specs.declared.file.Service.{Service}
 use Rattle.chor_tree.specs.declared.file.ProcParam.{ProcParam}
 use Rattle.chor_tree.specs.declared.file.SessionParam.{SessionParam}
-use Rattle.chor_tree.specs.declared.protocol.Protocol.{Protocol}
+use Rattle.chor_tree.specs.Protocols.{Protocol, has_items}
 use Rattle.chor_tree.specs.declared.tree.Part.{Part as Role}
 use Rattle.chor_tree.specs.Source.{Statement, Block, Procedure, Items, Source}
-use Rattle.chor_tree.specs.Kept.{named_there, names_there, protocol_there, service_there, process_param_there, session_param_there, has_items, comes_after_items, protocol_filled, has_name, has_text}
+use Rattle.chor_tree.specs.Kept.{named_there, names_there, protocol_there, service_there, process_param_there, session_param_there, comes_after_items, has_name, has_text}
 use Rattle.token_grammar.specs.Symbols.{Part, Further, IsPart, anywhere}
 use Rattle.chor_parser.specs.Grammar as g
 use Rattle.chor_parser.specs.Grammar.{MarkIs, WordIs, NameIs, AnyNamesAre, PartIs, ProtocolIs, ServiceIs, ParamsAre, StatementIs, BlockIs, LinesAre, TailIs, ProcedureIs, ItemsAre, FileIs}
@@ -136,7 +136,6 @@ procedure_good names texts (g.a_procedure w n o params c body) h =
 
 pub record ItemsKept (names texts : List (List ℕ)) (is : Items) : Type 0 where
   pub protocols : list_all (protocol_there (has_name names)) is.protocols ≡ true
-  pub protocols_filled : list_all protocol_filled is.protocols ≡ true
   pub services : list_all (service_there (has_name names)) is.services ≡ true
   pub services_filled : list_all (λ (s : Service). has_items s.active) is.services ≡ true
   pub heads : list_all (head_there names) is.procedures ≡ true
@@ -144,13 +143,12 @@ pub record ItemsKept (names texts : List (List ℕ)) (is : Items) : Type 0 where
   pub bodies : AllByRecursion (λ (p : Procedure). block_kept (has_name names) (has_text texts) p.body ≡ true) is.procedures
 
 items_good : (names texts : List (List ℕ)) {ts : List Token} {is : Items} {rest : List Token} → ItemsAre names ts is rest → AreKnown texts ts → ItemsKept names texts is
-items_good names texts g.no_item h = record { protocols = refl; protocols_filled = refl; services = refl; services_filled = refl; heads = refl; heads_filled = refl; bodies = tt }
+items_good names texts g.no_item h = record { protocols = refl; services = refl; services_filled = refl; heads = refl; heads_filled = refl; bodies = tt }
 items_good names texts (g.protocol_first p is) h =
     let k = protocol_kept p in
     let l = items_good names texts is (protocol_rest p h) in
     record {
-      protocols = two k.0 l.protocols;
-      protocols_filled = two k.1 l.protocols_filled;
+      protocols = two k l.protocols;
       services = l.services;
       services_filled = l.services_filled;
       heads = l.heads;
@@ -162,7 +160,6 @@ items_good names texts (g.service_first s is) h =
     let l = items_good names texts is (service_rest s h) in
     record {
       protocols = l.protocols;
-      protocols_filled = l.protocols_filled;
       services = two k.0 l.services;
       services_filled = two k.1 l.services_filled;
       heads = l.heads;
@@ -174,7 +171,6 @@ items_good names texts (g.procedure_first p is) h =
     let l = items_good names texts is (procedure_rest p h) in
     record {
       protocols = l.protocols;
-      protocols_filled = l.protocols_filled;
       services = l.services;
       services_filled = l.services_filled;
       heads = two k.there l.heads;

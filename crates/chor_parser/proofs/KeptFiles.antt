@@ -15,7 +15,7 @@ use Rattle.chor_parser.specs.Known.{IsTextKnown}
 use Rattle.chor_parser.specs.Growing.{form_kept, block_kept, begins_of, Adds}
 use Rattle.chor_parser.specs.Faults.{IsWithin}
 use Rattle.chor_parser.proofs.Growth.{adds_on, times_append, times_first}
-use Rattle.chor_parser.proofs.KeptHeads.{two, four, five}
+use Rattle.chor_parser.proofs.KeptHeads.{two, three, five}
 use Rattle.chor_parser.proofs.KeptBlocks.{head_there, head_filled, SourceKept, source_good}
 
 -- the source that is made of these
@@ -85,7 +85,7 @@ file_kept f ts within known a =
     let filled = sym (list_all-map head_filled (procedure_of f.nodes) f.procs) ∙ s.items.heads_filled in
     record {
       numbered = five s.items.protocols s.items.services heads s.processes nodes.0;
-      filled = four s.items.protocols_filled s.items.services_filled filled nodes.1;
+      filled = three s.items.services_filled filled nodes.1;
       begin = body_there f a;
       once = λ id. once_in f a id;
     }

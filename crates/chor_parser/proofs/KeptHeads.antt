@@ -13,9 +13,9 @@ use Rattle.chor_tree.specs.declared.protocol.Payload.{Payload}
 use Rattle.chor_tree.specs.declared.protocol.ProtoArm.{ProtoArm}
 use Rattle.chor_tree.specs.declared.protocol.ProtoStep.{ProtoStep}
 use Rattle.chor_tree.specs.declared.protocol.State.{State}
-use Rattle.chor_tree.specs.declared.protocol.Protocol.{Protocol}
+use Rattle.chor_tree.specs.Protocols.{Protocol, has_items, step_filled, are_filled}
 use Rattle.chor_tree.specs.declared.tree.Part.{Part}
-use Rattle.chor_tree.specs.Kept.{named_there, names_there, part_there, payload_there, arm_there, step_there, protocol_there, service_there, process_param_there, session_param_there, has_items, comes_after_items, step_filled, protocol_filled, has_name}
+use Rattle.chor_tree.specs.Kept.{named_there, names_there, part_there, payload_there, arm_there, step_there, protocol_there, service_there, process_param_there, session_param_there, comes_after_items, has_name}
 use Rattle.chor_parser.specs.Grammar as g
 use Rattle.chor_parser.specs.Grammar.{NameIs, MoreAre, ListIs, NamesAre, AnyNamesAre, PartIs, PayloadIs, ArmIs, StepIs, StateIs, MoreStatesAre, StatesAre, ProtocolIs, ServedAre, ServiceIs, VariableIs, VariablesAre, ProcParamIs, HolderIs, SessionParamIs, SessionsAre, ParamsAre, NewPartsAre, PassedSessionsAre, PassedAre}
 use Rattle.chor_parser.proofs.KnownTexts.{name_there}
@@ -96,11 +96,12 @@ more_states_kept : {names : List (List ℕ)} {ts : List Token} {ss : List State}
 more_states_kept g.no_state = (refl, refl)
 more_states_kept (g.one_state s m) = let k = state_kept s in let l = more_states_kept m in (two k.0 l.0, two k.1 l.1)
 
-pub protocol_kept : {names : List (List ℕ)} {ts : List Token} {p : Protocol} {rest : List Token} → ProtocolIs names ts p rest → (protocol_there (has_name names) p ≡ true) × (protocol_filled p ≡ true)
-protocol_kept (g.a_protocol w n o roles c b (g.some_states {s = first} {ss = more} s m) e) =
-    let k = state_kept s in
-    let l = more_states_kept m in
-    (three (named n) (names_kept roles) (two k.0 l.0), three (list_filled roles) (first_is_one first more) (two k.1 l.1))
+pub protocol_kept : {names : List (List ℕ)} {ts : List Token} {p : Protocol} {rest : List Token} → ProtocolIs names ts p rest → protocol_there (has_name names) p ≡ true
+protocol_kept (g.a_protocol w n o roles c b (g.some_states s m) e) = three (named n) (names_kept roles) (two (state_kept s).0 (more_states_kept m).0)
+
+-- what is read as the roles and the states of a protocol is filled
+pub protocol_filled : {names : List (List ℕ)} {ts us more rest : List Token} {rs : List Named} {ss : List State} → NamesAre names ts rs more → StatesAre names us ss rest → are_filled rs ss ≡ true
+protocol_filled roles (g.some_states {s = first} {ss = others} s m) = three (list_filled roles) (first_is_one first others) (two (state_kept s).1 (more_states_kept m).1)
 
 served_kept : {names : List (List ℕ)} {ts : List Token} {ns : List Named} {rest : List Token} → ServedAre names ts ns rest → names_there (has_name names) ns ≡ true
 served_kept g.none_served = refl

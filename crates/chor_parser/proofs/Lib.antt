@@ -20,4 +20,7 @@ pub mod Free
 pub mod KeptBlocks
 pub mod KeptFiles
 pub mod FirstFaults
+pub mod Decided
+pub mod DecidedBlocks
+pub mod Verdicts
 pub mod Ways

@@ -102,25 +102,25 @@ tail_alike blocks path = record {
 
 -- ---- what they begin with
 
-end_begins : {p : Place} → Begins (As (WordPart (codes "end")) (λ u. Ends p)) (AWord (codes "end"))
+pub end_begins : {p : Place} → Begins (As (WordPart (codes "end")) (λ u. Ends p)) (AWord (codes "end"))
 end_begins = as_begins (word_begins (codes "end"))
 
-call_begins : {p : Place} → Begins (After (WordPart (codes "call")) (λ u. CallTail p)) (AWord (codes "call"))
+pub call_begins : {p : Place} → Begins (After (WordPart (codes "call")) (λ u. CallTail p)) (AWord (codes "call"))
 call_begins = after_begins (word_begins (codes "call"))
 
-if_begins : {blocks path : ℕ} {p : Place} → Begins (After (WordPart (codes "if")) (λ u. IfTail blocks path p)) (AWord (codes "if"))
+pub if_begins : {blocks path : ℕ} {p : Place} → Begins (After (WordPart (codes "if")) (λ u. IfTail blocks path p)) (AWord (codes "if"))
 if_begins = after_begins (word_begins (codes "if"))
 
-later_begins : {blocks path : ℕ} {p : Place} → Begins (LaterAt blocks path p) (Or (AWord (codes "call")) (AWord (codes "if")))
+pub later_begins : {blocks path : ℕ} {p : Place} → Begins (LaterAt blocks path p) (Or (AWord (codes "call")) (AWord (codes "if")))
 later_begins = either_begins call_begins if_begins
 
-tail_at_begins : {blocks path : ℕ} (p : Place) → Begins (TailAt blocks path p) TailFirst
+pub tail_at_begins : {blocks path : ℕ} (p : Place) → Begins (TailAt blocks path p) TailFirst
 tail_at_begins p = either_begins end_begins later_begins
 
 pub tail_begins : (blocks path : ℕ) → Begins (TailPart blocks path) TailFirst
 tail_begins blocks path = same_begins (at_begins tail_at_begins) (tail_alike blocks path)
 
-line_at_begins : (blocks path : ℕ) (p : Place) → Begins (LineAt blocks path p) StatementFirst
+pub line_at_begins : (blocks path : ℕ) (p : Place) → Begins (LineAt blocks path p) StatementFirst
 line_at_begins blocks path p = after_begins statement_begins
 
 pub line_begins : (blocks path : ℕ) → Begins (LinePart blocks path) StatementFirst
@@ -129,10 +129,10 @@ line_begins blocks path = at_begins (line_at_begins blocks path)
 pub block_begins : (blocks path : ℕ) → Begins (BlockPart blocks path) (AMark OpenBrace)
 block_begins blocks path = same_begins (within_begins (after_begins (mark_begins OpenBrace))) (block_alike blocks path)
 
-end_no_later : AreDistinct (AWord (codes "end")) (Or (AWord (codes "call")) (AWord (codes "if")))
+pub end_no_later : AreDistinct (AWord (codes "end")) (Or (AWord (codes "call")) (AWord (codes "if")))
 end_no_later = distinct_or (words_differ (codes "end") (codes "call") refl refl) (words_differ (codes "end") (codes "if") refl refl)
 
-call_no_if : AreDistinct (AWord (codes "call")) (AWord (codes "if"))
+pub call_no_if : AreDistinct (AWord (codes "call")) (AWord (codes "if"))
 call_no_if = words_differ (codes "call") (codes "if") refl refl
 
 pub statement_no_tail : AreDistinct StatementFirst TailFirst
@@ -144,7 +144,7 @@ statement_no_tail =
 -- ---- what contains itself is a part
 
 -- what comes after a statement, an expression and what is passed
-semicolon_apart : {S : Unit {0} → Part Block} {D : Further} → Apart StatementMore (After (MarkPart Semicolon) S) D
+pub semicolon_apart : {S : Unit {0} → Part Block} {D : Further} → Apart StatementMore (After (MarkPart Semicolon) S) D
 semicolon_apart = begins_apart (after_begins (mark_begins Semicolon)) (distinct_or (distinct_or (distinct_or (marks_differ Semicolon Comma (λ e. absurd cc)) (nothing_distinct (AMark Semicolon))) (mark_not_word Semicolon (codes "new"))) (no_operator Semicolon refl))
 
 pub brace_apart : {blocks path : ℕ} {S : Block → Part Block} {D : Further} → Apart Operator (After (BlockPart blocks path) S) D
@@ -256,19 +256,19 @@ line_part blocks path = at_part (line_at blocks path) (line_at_begins blocks pat
 
 -- ---- what can be completed after its first token
 
-line_opens : (blocks path : ℕ) → Opens (LinePart blocks path) StatementFirst
+pub line_opens : (blocks path : ℕ) → Opens (LinePart blocks path) StatementFirst
 line_opens blocks path = at_opens (λ p. after_opens statement_opens (λ s. mark_then Semicolon (λ u. as_part (lines_part blocks (path - 1)))))
 
 later_opens : (blocks path : ℕ) (p : Place) → Opens (LaterAt blocks path p) (Or (AWord (codes "call")) (AWord (codes "if")))
 later_opens blocks path p = either_opens (after_opens (word_opens (codes "call")) (λ u. call_tail p)) (after_opens (word_opens (codes "if")) (λ u. if_tail blocks path p))
 
-tail_opens : (blocks path : ℕ) → Opens (TailPart blocks path) TailFirst
+pub tail_opens : (blocks path : ℕ) → Opens (TailPart blocks path) TailFirst
 tail_opens blocks path = same_opens (at_opens (λ p. either_opens (as_opens (word_opens (codes "end"))) (later_opens blocks path p))) (tail_alike blocks path)
 
-block_opens : (blocks path : ℕ) → Opens (After (MarkPart OpenBrace) (λ u. BlockTail blocks path)) (AMark OpenBrace)
+pub block_opens : (blocks path : ℕ) → Opens (After (MarkPart OpenBrace) (λ u. BlockTail blocks path)) (AMark OpenBrace)
 block_opens blocks path = after_opens (mark_opens OpenBrace) (λ u. block_tail blocks path)
 
-tail_first_stable : IsStable TailFirst
+pub tail_first_stable : IsStable TailFirst
 tail_first_stable = or_stable (word_stable (codes "end")) (or_stable (word_stable (codes "call")) (word_stable (codes "if")))
 
 -- ---- on the way through a block

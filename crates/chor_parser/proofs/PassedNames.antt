@@ -26,16 +26,16 @@ all_names_items = record { part = λ n. name_part; begins = λ n. name_begins; s
 pub all_names_part : IsPart AllNamesPart (OrComma Nothing)
 all_names_part = same_part (commas_part 0 all_names_items) (any_list_alike NameIs 0)
 
-all_names_begin : Begins AllNamesPart AName
+pub all_names_begin : Begins AllNamesPart AName
 all_names_begin = same_begins (commas_begins 0 all_names_items) (any_list_alike NameIs 0)
 
-abbrev these : Option (List Named) → List Named
+abbrev pub these : Option (List Named) → List Named
 these None = []
 these (Some ns) = ns
 
 -- ---- sessions
 
-abbrev Sessions : Part (Option (List Named))
+abbrev pub Sessions : Part (Option (List Named))
 Sessions = AtMost (After (MarkPart Semicolon) (λ u. AllNamesPart))
 
 sessions_to : {Q : Allowed} {names : List (List ℕ)} {ts rest : List Token} {ns : List Named} → PassedSessionsAre names ts ns rest → As Sessions these Q names ts ns rest
@@ -46,16 +46,16 @@ sessions_from : {Q : Allowed} {names : List (List ℕ)} {ts rest : List Token} {
 sessions_from without = no_session_passed
 sessions_from (with h) = sessions_passed h.first h.second
 
-sessions_alike : Alike PassedSessionsPart Sessions these
+pub sessions_alike : Alike PassedSessionsPart Sessions these
 sessions_alike = record { to = λ h. sessions_to h; from = λ h. sessions_from h }
 
-names_more : Among (OrComma Nothing) PassedSessionsMore
+pub names_more : Among (OrComma Nothing) PassedSessionsMore
 names_more names t h = inl h
 
-semicolon_more : Among (AMark Semicolon) PassedSessionsMore
+pub semicolon_more : Among (AMark Semicolon) PassedSessionsMore
 semicolon_more names t h = inr h
 
-sessions_stable : IsStable PassedSessionsMore
+pub sessions_stable : IsStable PassedSessionsMore
 sessions_stable = or_stable (or_stable (mark_stable Comma) nothing_stable) (mark_stable Semicolon)
 
 semicolon_no_comma : AreDistinct (AMark Semicolon) (OrComma Nothing)
@@ -75,10 +75,10 @@ no_passed_sessions n = same_reads sessions_alike (without_reads (after_begins (m
 
 -- ---- processes and sessions
 
-abbrev Both : Part (List Named × List Named)
+abbrev pub Both : Part (List Named × List Named)
 Both = Then AllNamesPart PassedSessionsPart
 
-abbrev passed : Option (List Named × List Named) → List Named × List Named
+abbrev pub passed : Option (List Named × List Named) → List Named × List Named
 passed None = ([], [])
 passed (Some v) = v
 
@@ -90,19 +90,19 @@ passed_from : {Q : Allowed} {names : List (List ℕ)} {ts rest : List Token} {v 
 passed_from without = nothing_passed
 passed_from (with h) = processes_passed h.first h.second
 
-passed_alike : Alike PassedPart (AtMost Both) passed
+pub passed_alike : Alike PassedPart (AtMost Both) passed
 passed_alike = record { to = λ h. passed_to h; from = λ h. passed_from h }
 
 both_part : IsPart Both PassedSessionsMore
 both_part = then_part all_names_part passed_sessions_part passed_sessions_apart
 
-sessions_more : Among PassedSessionsMore PassedMore
+pub sessions_more : Among PassedSessionsMore PassedMore
 sessions_more names t h = inl h
 
-name_more : Among AName PassedMore
+pub name_more : Among AName PassedMore
 name_more names t h = inr h
 
-passed_stable : IsStable PassedMore
+pub passed_stable : IsStable PassedMore
 passed_stable = or_stable sessions_stable name_stable
 
 pub passed_part : IsPart PassedPart PassedMore

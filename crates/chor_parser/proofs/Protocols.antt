@@ -7,7 +7,7 @@ use Rattle.chor_lexer.specs.declared.mark.Mark.TheVariants.{OpenBrace, CloseBrac
 use Rattle.chor_lexer.specs.declared.token.Token.{Token}
 use Rattle.chor_tree.specs.declared.file.Named.{Named}
 use Rattle.chor_tree.specs.declared.file.Service.{Service}
-use Rattle.chor_tree.specs.declared.protocol.Protocol.{Protocol}
+use Rattle.chor_tree.specs.Protocols.{Protocol}
 use Rattle.chor_tree.specs.declared.protocol.State.{State}
 use Rattle.chor_tree.specs.declared.protocol.ProtoStep.{ProtoStep}
 use Rattle.chor_tree.specs.declared.protocol.ProtoStep.TheVariants as step
@@ -164,7 +164,7 @@ sort_stable = or_stable (word_stable (codes "int")) (or_stable (word_stable (cod
 two_sorts : IsPart (OneOf (WordPart (codes "bool")) (WordPart (codes "text"))) Nothing
 two_sorts = choice_part (word_part bool_keyword) (word_part text_keyword) (word_begins (codes "bool")) (word_begins (codes "text")) (words_differ (codes "bool") (codes "text") refl refl)
 
-two_begin : Begins (OneOf (WordPart (codes "bool")) (WordPart (codes "text"))) (Or (AWord (codes "bool")) (AWord (codes "text")))
+pub two_begin : Begins (OneOf (WordPart (codes "bool")) (WordPart (codes "text"))) (Or (AWord (codes "bool")) (AWord (codes "text")))
 two_begin = choice_begins (word_begins (codes "bool")) (word_begins (codes "text"))
 
 pub sort_part : IsPart SortPart Nothing

@@ -75,10 +75,10 @@ pub roles_part : IsPart RolesPart (OrComma Nothing)
 roles_part = same_part (commas_part 0 part_items) (any_list_alike PartIs 0)
 
 -- [ "new" role { "," role } ]
-abbrev NewRoles : Part (Option (List Role))
+abbrev pub NewRoles : Part (Option (List Role))
 NewRoles = AtMost (After (WordPart (codes "new")) (λ u. RolesPart))
 
-abbrev these : Option (List Role) → List Role
+abbrev pub these : Option (List Role) → List Role
 these None = []
 these (Some ps) = ps
 
@@ -96,10 +96,10 @@ new_alike = record { to = λ h. new_to h; from = λ h. new_from h }
 pub role_more_stable : IsStable RoleMore
 role_more_stable = or_stable (or_stable (mark_stable Comma) nothing_stable) (word_stable (codes "new"))
 
-list_more : Among (OrComma Nothing) RoleMore
+pub list_more : Among (OrComma Nothing) RoleMore
 list_more names t h = inl h
 
-new_more : Among (AWord (codes "new")) RoleMore
+pub new_more : Among (AWord (codes "new")) RoleMore
 new_more names t h = inr h
 
 new_no_comma : AreDistinct (AWord (codes "new")) (OrComma Nothing)
@@ -177,7 +177,7 @@ start_more names t h = inl h
 pub name_more : Among Operator StatementMore
 name_more names t h = inr h
 
-host_no_expr : AreDistinct (AWord (codes "host")) (IsNoWord (codes "host"))
+pub host_no_expr : AreDistinct (AWord (codes "host")) (IsNoWord (codes "host"))
 host_no_expr names t h g = g h
 
 -- ---- what is left of a statement is a part
@@ -191,7 +191,7 @@ value_tail a = after_part expr_part (λ e. mark_then Arrow (λ u. role_then (λ 
 pub give_tail : (a b : Role) (k : Named) → IsPart (GiveTail a b k) Nothing
 give_tail a b k = mark_then OpenParen (λ u. role_then (λ h. as_part (mark_part CloseParen)))
 
-dot_no_paren : AreDistinct (AMark Dot) (AMark OpenParen)
+pub dot_no_paren : AreDistinct (AMark Dot) (AMark OpenParen)
 dot_no_paren = marks_differ Dot OpenParen (λ e. absurd cc)
 
 pub session_tail : (a b : Role) (k : Named) → IsPart (SessionTail a b k) Nothing
@@ -200,7 +200,7 @@ session_tail a b k = either_part (mark_then Dot (λ u. as_part name_part)) (give
 pub path_tail : (a : Role) → IsPart (PathTail a) Nothing
 path_tail a = role_then (λ b. mark_then Colon (λ u. name_then (λ k. session_tail a b k)))
 
-dot_no_arrow : AreDistinct (AMark Dot) (AMark Arrow)
+pub dot_no_arrow : AreDistinct (AMark Dot) (AMark Arrow)
 dot_no_arrow = marks_differ Dot Arrow (λ e. absurd cc)
 
 pub role_tail : (a : Role) → IsPart (RoleTail a) Nothing
@@ -218,16 +218,16 @@ set_tail p x = either_part (word_then host_keyword (λ u. more_further (host_tai
 pub setting_tail : (p : Named) → IsPart (SettingTail p) Operator
 setting_tail p = name_then (λ x. mark_then Becomes (λ u. set_tail p x))
 
-dot_no_show : AreDistinct (AMark Dot) (AWord (codes "show"))
+pub dot_no_show : AreDistinct (AMark Dot) (AWord (codes "show"))
 dot_no_show = mark_not_word Dot (codes "show")
 
 pub plain_tail : (p : Named) → IsPart (PlainTail p) Operator
 plain_tail p = either_part (mark_then Dot (λ u. setting_tail p)) (word_then show_keyword (λ u. as_part expr_part)) (after_begins (mark_begins Dot)) (after_begins (word_begins (codes "show"))) dot_no_show
 
-plain_begins : (p : Named) → Begins (PlainTail p) (Or (AMark Dot) (AWord (codes "show")))
+pub plain_begins : (p : Named) → Begins (PlainTail p) (Or (AMark Dot) (AWord (codes "show")))
 plain_begins p = either_begins (after_begins (mark_begins Dot)) (after_begins (word_begins (codes "show")))
 
-bracket_no_plain : AreDistinct (AMark OpenBracket) (Or (AMark Dot) (AWord (codes "show")))
+pub bracket_no_plain : AreDistinct (AMark OpenBracket) (Or (AMark Dot) (AWord (codes "show")))
 bracket_no_plain = distinct_or (marks_differ OpenBracket Dot (λ e. absurd cc)) (mark_not_word OpenBracket (codes "show"))
 
 pub name_tail : (p : Named) → IsPart (NameTail p) Operator

@@ -37,10 +37,10 @@ word_stays names words n w e = kept names words n (slice_get_within names n w e)
 
 -- ---- marks
 
-abbrev IsTheMark : Mark → Unit {0} → Further
+abbrev pub IsTheMark : Mark → Unit {0} → Further
 IsTheMark m x names t = HasMark m t
 
-mark_class : (m : Mark) → IsClass (IsTheMark m)
+pub mark_class : (m : Mark) → IsClass (IsTheMark m)
 mark_class m = record {
   stable = λ x. record { stays = λ names words t h. h; back = λ names words t k h. h };
   one = λ names t x y h k. refl;
@@ -48,7 +48,7 @@ mark_class m = record {
   some = λ p names. record { value = tt; token = record { kind = kind.Mark m; place = p }; there = refl; is = refl };
 }
 
-mark_alike : (m : Mark) → Alike (MarkPart m) (One (IsTheMark m)) (λ x. x)
+pub mark_alike : (m : Mark) → Alike (MarkPart m) (One (IsTheMark m)) (λ x. x)
 mark_alike m = record {
   to = λ {Q} {names} {ts} {x} h. record { value = tt; is = record { token = h.token; parts = h.parts; is = h.is }; same = refl };
   from = λ h. record { token = h.token; parts = h.parts; is = h.is };
@@ -77,7 +77,7 @@ mark_halts {m} n f = wrong_halts (mark_part m) (mark_begins m) (mark_stable m) (
 
 -- ---- words
 
-abbrev IsTheWord : List ℕ → Unit {0} → Further
+abbrev pub IsTheWord : List ℕ → Unit {0} → Further
 IsTheWord w x names t = HasWord names w t
 
 pub word_stable : (w : List ℕ) → IsStable (AWord w)
@@ -86,7 +86,7 @@ word_stable w = record {
   back = λ names words t k h. record { number = h.number; kind = h.kind; word = sym (kept names words h.number.0 (k h.number h.kind)) ∙ h.word };
 }
 
-word_class : {w : List ℕ} → IsKeyword w → IsClass (IsTheWord w)
+pub word_class : {w : List ℕ} → IsKeyword w → IsClass (IsTheWord w)
 word_class {w} k = record {
   stable = λ x. record { stays = (word_stable w).stays; back = (word_stable w).back };
   one = λ names t x y h l. refl;
@@ -96,7 +96,7 @@ word_class {w} k = record {
       record { value = tt; token = record { kind = kind.Word n; place = p }; there = refl; is = record { number = n; kind = refl; word = added names more_words k.index ∙ k.at } };
 }
 
-word_alike : (w : List ℕ) → Alike (WordPart w) (One (IsTheWord w)) (λ x. x)
+pub word_alike : (w : List ℕ) → Alike (WordPart w) (One (IsTheWord w)) (λ x. x)
 word_alike w = record {
   to = λ {Q} {names} {ts} {x} h. record { value = tt; is = record { token = h.token; parts = h.parts; is = h.is }; same = refl };
   from = λ h. record { token = h.token; parts = h.parts; is = h.is };
@@ -142,7 +142,7 @@ one_name names t m n h k =
     let p : m.place ≡ n.place = h.place ∙ sym k.place in
     λ i. record { name = x i; place = p i }
 
-name_class : IsClass IsTheName
+pub name_class : IsClass IsTheName
 unfolding name_stable
 name_class = record {
   stable = λ n. record {
@@ -161,7 +161,7 @@ name_class = record {
       };
 }
 
-name_alike : Alike NamePart (One IsTheName) (λ n. n)
+pub name_alike : Alike NamePart (One IsTheName) (λ n. n)
 name_alike = record {
   to = λ {Q} {names} {ts} {x} h. record { value = x; is = record { token = h.token; parts = h.parts; is = record { name = h.is; place = h.place } }; same = refl };
   from = λ h. record { token = h.token; parts = h.parts; is = h.is.name; place = h.is.place };
@@ -173,7 +173,7 @@ name_part = same_part (one_part name_class) name_alike
 pub name_begins : Begins NamePart AName
 name_begins = record { by = λ {Q} {names} {ts} {x} {rest} h. record { token = h.token; rest = rest; parts = h.parts; is = (x.name, h.is) } }
 
-said_name : (names : List (List ℕ)) (t : Token) → AName names t → Says IsTheName names t
+pub said_name : (names : List (List ℕ)) (t : Token) → AName names t → Says IsTheName names t
 said_name names t h = (record { name = h.0; place = t.place }, record { name = h.1; place = refl })
 
 pub name_opens : Opens NamePart AName

@@ -3,7 +3,7 @@ use Rattle.std.specs.Prelude.{List, ◌∷◌, codes}
 use Rattle.chor_lexer.specs.declared.mark.Mark.TheVariants.{OpenParen, CloseParen}
 use Rattle.chor_tree.specs.declared.file.Named.{Named}
 use Rattle.chor_tree.specs.declared.file.Service.{Service}
-use Rattle.chor_tree.specs.declared.protocol.Protocol.{Protocol}
+use Rattle.chor_tree.specs.Protocols.{Protocol}
 use Rattle.token_grammar.specs.Symbols.{Part, Further, Then, Choice, left, right, OneOf}
 use Rattle.chor_tree.specs.Source.{Block, Procedure, Items}
 use Rattle.chor_parser.specs.Grammar.{ProcedureIs, ItemsAre}

@@ -7,7 +7,8 @@ use Rattle.chor_tree.specs.declared.tree.Form.{Form}
 use Rattle.chor_tree.specs.declared.tree.Node.{Node}
 use Rattle.chor_tree.specs.declared.tree.NodeId.{NodeId}
 use Rattle.chor_tree.specs.Source.{Statement, Starts, Sends, Selects, Gives, Sets, Asks, Shows, Block, Then, Either, Calls, Ends, block_in, blocks_of}
-use Rattle.chor_tree.specs.Kept.{named_there, names_there, part_there, term_there, form_there, has_items, comes_after_items, form_filled, followers_in, times}
+use Rattle.chor_tree.specs.Protocols.{has_items}
+use Rattle.chor_tree.specs.Kept.{named_there, names_there, part_there, term_there, form_there, comes_after_items, form_filled, followers_in, times}
 use Rattle.chor_parser.specs.declared.source.Declared.{Declared}
 
 -- ---- numbers are in their tables, and lists have the items that they need

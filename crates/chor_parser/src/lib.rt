@@ -11,9 +11,7 @@ mod procedure;
 mod protocol;
 mod source;
 mod statement;
-#[cfg(test)]
-mod tests;
 
-pub use laws::{never_refused, one_source, one_way};
+pub use laws::{never_refused, one_fault, one_or_the_other, one_source, one_way};
 pub use name_resolution::resolve;
 pub use source::parse;

@@ -47,12 +47,12 @@ either_at depth head middle end first second =
     ∙ ap (λ (t : List ℕ). lines_at (depth + 1) first ++ (line_at depth middle ++ t)) closing)
 
 -- lines that are made of items
-mapped_lines : {A : Type 0} (depth : ℕ) (line : A → List ℕ) (xs : List A) → lines_at depth (map line xs) ≡ flat_map (λ x. line_at depth (line x)) xs
+pub mapped_lines : {A : Type 0} (depth : ℕ) (line : A → List ℕ) (xs : List A) → lines_at depth (map line xs) ≡ flat_map (λ x. line_at depth (line x)) xs
 mapped_lines depth line [] = refl
 mapped_lines depth line (x ∷ xs) = ap (λ t. line_at depth (line x) ++ t) (mapped_lines depth line xs)
 
 -- the same of units that are written between braces
-braced_lines : {A : Type 0} (head : A → List ℕ) (lines : A → List (List ℕ)) (xs : List A)
+pub braced_lines : {A : Type 0} (head : A → List ℕ) (lines : A → List (List ℕ)) (xs : List A)
     → lines_at 0 (flat_map (λ x. braced (head x) (lines x)) xs) ≡ flat_map (λ x. line_at 0 (head x) ++ body_text (lines x)) xs
 braced_lines head lines [] = refl
 braced_lines head lines (x ∷ xs) =

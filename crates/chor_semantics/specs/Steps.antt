@@ -113,16 +113,16 @@ abbrev pub procedure_named : List Procedure → NameId → Option Procedure
 procedure_named [] f = None
 procedure_named (p ∷ ps) f = if p.name.0 == f.0 then Some p else procedure_named ps f
 
--- the parameters stand for the arguments, in order
-abbrev pub bound_all : List NameId → List Ref → ℕ → Ref
-bound_all (x ∷ xs) (r ∷ rs) y = if x.0 == y then r else bound_all xs rs y
-bound_all (x ∷ xs) [] y = Named y 0
-bound_all [] rs y = Named y 0
+-- the parameters stand for the arguments, in order; any other name is one of the body's own, at its depth
+abbrev pub bound_all : ℕ → List NameId → List Ref → ℕ → Ref
+bound_all d (x ∷ xs) (r ∷ rs) y = if x.0 == y then r else bound_all d xs rs y
+bound_all d (x ∷ xs) [] y = Named y d
+bound_all d [] rs y = Named y d
 
 -- the body of a call that stands at depth d, one deeper, with its arguments
 abbrev pub body_of : Option Procedure → ℕ → List Ref → List Ref → Option Choreography
 body_of None d ps ss = None
-body_of (Some f) d ps ss = Some (instance_of (suc d) (bound_all f.params ps) (bound_all f.sessions ss) f.body)
+body_of (Some f) d ps ss = Some (instance_of (suc d) (bound_all (suc d) f.params ps) (bound_all (suc d) f.sessions ss) f.body)
 
 -- ---- the step
 

@@ -12,7 +12,7 @@ use Rattle.chor_tree.specs.declared.tree.Form.TheVariants.{Start, Value, Label, 
 use Rattle.chor_tree.specs.declared.tree.Node.{Node}
 use Rattle.chor_tree.specs.declared.tree.NodeId.{NodeId}
 use Rattle.chor_tree.specs.Children.{children_of, IsClosed}
-use Rattle.chor_tree.specs.Source.{Block, Then, Either, Calls, Ends, nowhere, block_in, block_of, grown, blocks_of}
+use Rattle.chor_tree.specs.Source.{Block, Then, Either, Calls, Ends, nowhere, block_in, block_of, grown, blocks_of, tails_of}
 use Rattle.chor_tree.specs.Same.{Same, all_same, same_named, same_term, same_statement, same_block}
 use Rattle.chor_tree.specs.Forms.{head_of}
 
@@ -76,12 +76,6 @@ pub block_past : (nodes : List Node) (id : NodeId) → length nodes ≤ id.0 →
 block_past nodes id h = get_or_past (blocks_of nodes) id.0 (Ends nowhere) (omega (arith, grown_length nodes [], h))
 
 -- ---- a block, and what follows its first statement
-
-abbrev pub tails_of : Block → List Block
-tails_of (Then p s next) = next ∷ []
-tails_of (Either p q e first second) = first ∷ second ∷ []
-tails_of (Calls p g ps ks) = []
-tails_of (Ends p) = []
 
 -- the block in which nothing follows it
 abbrev alone : Block → Block

@@ -4,11 +4,12 @@ use Rattle.chor_base.specs.declared.names.NameId.{NameId}
 use Rattle.chor_base.specs.declared.expr.Expr.{Expr}
 use Rattle.chor_base.specs.declared.rule.Rule.TheVariants.{N1, N2, N3}
 use Rattle.chor_base.specs.declared.rule.Place.{Place}
+use Rattle.chor_base.specs.Faults.{fault}
 use Rattle.chor_tree.specs.declared.file.Named.{Named}
 use Rattle.chor_tree.specs.declared.file.Service.{Service}
 use Rattle.chor_tree.specs.declared.file.File.{File}
 use Rattle.chor_tree.specs.declared.protocol.ProtoStep.TheVariants.{End as Last}
-use Rattle.chor_tree.specs.declared.protocol.Protocol.{Protocol}
+use Rattle.chor_tree.specs.Protocols.{Protocol}
 use Rattle.chor_tree.specs.declared.tree.NodeId.{NodeId}
 use Rattle.chor_tree.specs.declared.tree.Part.{Part}
 use Rattle.chor_tree.specs.declared.tree.Form.TheVariants.{Start, Host, Show}
@@ -28,18 +29,18 @@ named n col = record { name = record { 0 = n }; place = record { line = 1; col =
 module _ (f : File) (e : Expr) (next : NodeId) where
   -- main (p, p) { end }
   twice : (kept : Keeps f.names f.texts [] [] [] (named 0 7 ∷ named 0 10 ∷ []) f.tree.nodes f.body)
-      → declaration_faults (record f { protocols = []; services = []; procs = []; processes = named 0 7 ∷ named 0 10 ∷ []; kept = kept }) ≡ (N2, at 10) ∷ []
+      → declaration_faults (record f { protocols = []; services = []; procs = []; processes = named 0 7 ∷ named 0 10 ∷ []; kept = kept }) ≡ fault N2 (at 10) ∷ []
   unfolding named at
   twice kept = refl
 
   -- main (p) { q show 1; end }
-  not_in_scope : node_faults f [] (record { processes = record { 0 = 0 } ∷ []; sessions = [] }) (Show (named 1 12) e next) ≡ (N1, at 12) ∷ []
+  not_in_scope : node_faults f [] (record { processes = record { 0 = 0 } ∷ []; sessions = [] }) (Show (named 1 12) e next) ≡ fault N1 (at 12) ∷ []
   unfolding named at
   not_in_scope = refl
 
   -- main (p) { p.x := host far(3, 10); p show x; end }, with a function of another name
   no_function : (kept : Keeps ((112 ∷ []) ∷ (102 ∷ []) ∷ []) f.texts f.protocols f.services f.procs f.processes f.tree.nodes f.body)
-      → node_faults (record f { names = (112 ∷ []) ∷ (102 ∷ []) ∷ []; kept = kept }) ((103 ∷ []) ∷ []) (record { processes = record { 0 = 0 } ∷ []; sessions = [] }) (Host (named 0 12) (record { 0 = 2 }) (named 1 24) e e next) ≡ (N1, at 24) ∷ []
+      → node_faults (record f { names = (112 ∷ []) ∷ (102 ∷ []) ∷ []; kept = kept }) ((103 ∷ []) ∷ []) (record { processes = record { 0 = 0 } ∷ []; sessions = [] }) (Host (named 0 12) (record { 0 = 2 }) (named 1 24) e e next) ≡ fault N1 (at 24) ∷ []
   unfolding named at
   no_function kept = refl
 
@@ -67,7 +68,7 @@ module _ (f : File) (next : NodeId) where
   in_any_order kept = refl
 
   -- service a : P (A, B, A);
-  role_twice : (kept : IsKeptWith (named 11 46 ∷ named 12 49 ∷ named 11 52 ∷ []) []) → declaration_faults (with_service (named 11 46 ∷ named 12 49 ∷ named 11 52 ∷ []) [] kept) ≡ (N3, at 39) ∷ []
+  role_twice : (kept : IsKeptWith (named 11 46 ∷ named 12 49 ∷ named 11 52 ∷ []) []) → declaration_faults (with_service (named 11 46 ∷ named 12 49 ∷ named 11 52 ∷ []) [] kept) ≡ fault N3 (at 39) ∷ []
   unfolding with_service service one_protocol named at
   role_twice kept = refl
 
@@ -79,6 +80,6 @@ module _ (f : File) (next : NodeId) where
   -- start a(a): p[A], r[B] new k[B], q[B]; where q is there, and a is P (A | B)
   ill_started : (kept : IsKeptWith (named 11 46 ∷ []) (named 12 50 ∷ [])) → node_faults (with_service (named 11 46 ∷ []) (named 12 50 ∷ []) kept) [] (record { processes = record { 0 = 0 } ∷ record { 0 = 1 } ∷ []; sessions = [] })
       (Start (named 20 86) (named 20 88) (part (named 0 92) (named 11 94) ∷ part (named 3 98) (named 12 100) ∷ []) (part (named 2 107) (named 12 109) ∷ part (named 1 113) (named 12 115) ∷ []) next)
-      ≡ (N3, at 86) ∷ (N1, at 98) ∷ (N2, at 88) ∷ (N2, at 113) ∷ []
+      ≡ fault N3 (at 86) ∷ fault N1 (at 98) ∷ fault N2 (at 88) ∷ fault N2 (at 113) ∷ []
   unfolding with_service service one_protocol named part at
   ill_started kept = refl

@@ -578,13 +578,13 @@ module _ {n m l : Same NameId} {t u w : Same ℕ} (name_joined : Joined n m l) (
 words_turned : (names names' : List (List ℕ)) → Turned (same_words names names') (same_words names' names)
 words_turned names names' x y h = equal_turned bytes_own same_bytes (name_in names x) (name_in names' y) h
 
-words_joined : (names names' names'' : List (List ℕ)) → Joined (same_words names names') (same_words names' names'') (same_words names names'')
+pub words_joined : (names names' names'' : List (List ℕ)) → Joined (same_words names names') (same_words names' names'') (same_words names names'')
 words_joined names names' names'' x y z h j = equal_joined bytes_own same_bytes (name_in names x) (name_in names' y) (name_in names'' z) h j
 
 texts_turned : (texts texts' : List (List ℕ)) → Turned (same_texts texts texts') (same_texts texts' texts)
 texts_turned texts texts' x y h = equal_turned found_own found_tells (slice_get texts x) (slice_get texts' y) h
 
-texts_joined : (texts texts' texts'' : List (List ℕ)) → Joined (same_texts texts texts') (same_texts texts' texts'') (same_texts texts texts'')
+pub texts_joined : (texts texts' texts'' : List (List ℕ)) → Joined (same_texts texts texts') (same_texts texts' texts'') (same_texts texts texts'')
 texts_joined texts texts' texts'' x y z h j = equal_joined found_own found_tells (slice_get texts x) (slice_get texts' y) (slice_get texts'' z) h j
 
 -- each file says the same as itself

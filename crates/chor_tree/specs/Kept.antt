@@ -1,6 +1,6 @@
 -- What each file keeps (this project's own): its numbers are in its tables, the lists of which the grammar asks at least one item
 -- have one, and no node is reached twice. `n` tells which names are in the table, and `t` which texts.
-use Rattle.std.specs.Prelude.{ℕ, ◌≡◌, ◌≤◌, ◌==◌, ◌&&◌, ◌||◌, Bool, true, not, List, ◌∷◌, ◌++◌, map, length, nat_lt}
+use Rattle.std.specs.Prelude.{ℕ, ◌≡◌, ◌≤◌, ◌==◌, ◌&&◌, ◌||◌, Bool, true, false, not, List, ◌∷◌, ◌++◌, map, length, nat_lt}
 use Rattle.std.specs.List.{flat_map, list_all, count_by}
 use Rattle.chor_base.specs.declared.names.NameId.{NameId}
 use Rattle.chor_base.specs.declared.value.Value.{Value as Literal}
@@ -16,7 +16,7 @@ use Rattle.chor_tree.specs.declared.protocol.Payload.TheVariants.{Plain, Endpoin
 use Rattle.chor_tree.specs.declared.protocol.ProtoArm.{ProtoArm}
 use Rattle.chor_tree.specs.declared.protocol.ProtoStep.{ProtoStep}
 use Rattle.chor_tree.specs.declared.protocol.ProtoStep.TheVariants.{End as Last, Value as Exchange, Choice}
-use Rattle.chor_tree.specs.declared.protocol.Protocol.{Protocol}
+use Rattle.chor_tree.specs.Protocols.{Protocol, has_items}
 use Rattle.chor_tree.specs.declared.tree.NodeId.{NodeId}
 use Rattle.chor_tree.specs.declared.tree.Node.{Node}
 use Rattle.chor_tree.specs.declared.tree.Part.{Part}
@@ -63,11 +63,12 @@ session_param_there n k =
 abbrev pub proc_there : (NameId → Bool) → Proc → Bool
 proc_there n p = named_there n p.name && list_all (process_param_there n) p.params && list_all (session_param_there n) p.sessions
 
+-- no endpoint stands as a literal
 abbrev pub value_there : (NameId → Bool) → (ℕ → Bool) → Literal → Bool
 value_there n t (Int z) = true
 value_there n t (Truth b) = true
 value_there n t (Text x) = t x
-value_there n t (Held s r) = n r
+value_there n t (Held s r) = false
 
 abbrev pub term_there : (NameId → Bool) → (ℕ → Bool) → Term → Bool
 term_there n t (Constant v) = value_there n t v
@@ -89,20 +90,9 @@ form_there n t End = true
 
 -- ---- the lists that have at least one item
 
-abbrev pub has_items : {A : Type 0} → List A → Bool
-has_items xs = not (length xs == 0)
-
 -- items of the second list stand only after some of the first
 abbrev pub comes_after_items : {A B : Type 0} → List A → List B → Bool
 comes_after_items xs ys = has_items xs || not (has_items ys)
-
-abbrev pub step_filled : ProtoStep → Bool
-step_filled Last = true
-step_filled (Exchange a b p next) = true
-step_filled (Choice a b arms) = has_items arms
-
-abbrev pub protocol_filled : Protocol → Bool
-protocol_filled p = has_items p.roles && has_items p.states && list_all (λ s. step_filled s.step) p.states
 
 abbrev pub proc_filled : Proc → Bool
 proc_filled p = comes_after_items p.params p.sessions && list_all (λ k. has_items k.holders) p.sessions
@@ -148,10 +138,10 @@ is_numbered f =
     && list_all (proc_there (has_name f.names)) f.procs && names_there (has_name f.names) f.processes
     && list_all (λ o. form_there (has_name f.names) (has_text f.texts) o.form) f.nodes
 
--- no list is empty of which the grammar asks one item
+-- no list is empty of which the grammar asks one item; a protocol keeps this by itself
 abbrev pub is_filled : Contents → Bool
 is_filled f =
-    list_all protocol_filled f.protocols && list_all (λ s. has_items s.active) f.services && list_all proc_filled f.procs
+    list_all (λ s. has_items s.active) f.services && list_all proc_filled f.procs
     && list_all (λ o. form_filled o.form) f.nodes
 
 -- where bodies begin

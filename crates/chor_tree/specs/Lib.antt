@@ -7,3 +7,4 @@ pub mod Same
 pub mod Both
 pub mod Forms
 pub mod Followers
+pub mod Protocols

@@ -1,10 +1,11 @@
 -- What is declared in a file and what is in scope, and the faults of its names (rules N1 to N3), each with its place.
-use Rattle.std.specs.Prelude.{ℕ, ◌≡◌, ◌==◌, ◌&&◌, ◌||◌, Bool, true, false, not, List, [], ◌∷◌, ◌++◌, map, length, Option, Some, None, nat_lt, slice_get, Contains, bytes_eq, if◌then◌else◌}
+use Rattle.std.specs.Prelude.{ℕ, ◌≡◌, ◌==◌, ◌&&◌, ◌||◌, Bool, true, false, not, List, [], ◌∷◌, ◌++◌, map, length, Option, Some, None, slice_get, Contains, bytes_eq, if◌then◌else◌}
 use Rattle.std.specs.List.{flat_map, list_any, list_all, count_by}
 use Rattle.chor_base.specs.declared.names.NameId.{NameId}
 use Rattle.chor_base.specs.declared.rule.Rule.{Rule}
 use Rattle.chor_base.specs.declared.rule.Rule.TheVariants.{N1, N2, N3}
-use Rattle.chor_base.specs.declared.rule.Place.{Place}
+use Rattle.chor_base.specs.declared.fault.Fault.{Fault}
+use Rattle.chor_base.specs.Faults.{fault_if}
 use Rattle.chor_base.specs.Writing.{name_in}
 use Rattle.chor_tree.specs.declared.file.Named.{Named}
 use Rattle.chor_tree.specs.declared.file.Service.{Service}
@@ -15,7 +16,7 @@ use Rattle.chor_tree.specs.declared.protocol.Payload.{Payload}
 use Rattle.chor_tree.specs.declared.protocol.Payload.TheVariants.{Plain, Endpoint}
 use Rattle.chor_tree.specs.declared.protocol.ProtoStep.{ProtoStep}
 use Rattle.chor_tree.specs.declared.protocol.ProtoStep.TheVariants.{End as Last, Value as Exchange, Choice}
-use Rattle.chor_tree.specs.declared.protocol.Protocol.{Protocol}
+use Rattle.chor_tree.specs.Protocols.{Protocol}
 use Rattle.chor_tree.specs.declared.tree.NodeId.{NodeId}
 use Rattle.chor_tree.specs.declared.tree.Node.{Node}
 use Rattle.chor_tree.specs.declared.tree.Part.{Part}
@@ -23,12 +24,9 @@ use Rattle.chor_tree.specs.declared.tree.Form.{Form}
 use Rattle.chor_tree.specs.declared.tree.Form.TheVariants.{Start, Value, Label, Give, Set, Host, Show, If, Call, End}
 use Rattle.chor_tree.specs.Children.{children_of}
 
-abbrev pub NameFault : Type 0
-NameFault = Rule × Place
-
--- a rule that is violated at a name, where the test says so
-abbrev pub fault_if : Bool → Rule → Named → List NameFault
-fault_if b rule x = if b then (rule, x.place) ∷ [] else []
+-- a fault at a name, where the test says so
+abbrev pub fault_at : Bool → Rule → Named → List Fault
+fault_at b rule x = fault_if b rule x.place
 
 -- ---- names
 
@@ -39,13 +37,13 @@ abbrev pub is_among : List NameId → NameId → Bool
 is_among xs x = list_any (λ y. y.0 == x.0) xs
 
 -- N1, at a name that isn't among the known ones
-abbrev pub unknown : List NameId → Named → List NameFault
-unknown known x = fault_if (not (is_among known x.name)) N1 x
+abbrev pub unknown : List NameId → Named → List Fault
+unknown known x = fault_at (not (is_among known x.name)) N1 x
 
 -- N2, at each name of a list that is known already, or stands before in the list
-abbrev pub repeated : List NameId → List Named → List NameFault
+abbrev pub repeated : List NameId → List Named → List Fault
 repeated known [] = []
-repeated known (x ∷ xs) = fault_if (is_among known x.name) N2 x ++ repeated (x.name ∷ known) xs
+repeated known (x ∷ xs) = fault_at (is_among known x.name) N2 x ++ repeated (x.name ∷ known) xs
 
 -- two lists have the same names in the same order
 abbrev pub are_same : List NameId → List NameId → Bool
@@ -74,8 +72,11 @@ channels_of f = map (λ s. s.name.name) f.services
 abbrev pub procedures_of : File → List NameId
 procedures_of f = map (λ p. p.name.name) f.procs
 
+abbrev pub protocol_named : List Protocol → NameId → Option Protocol
+protocol_named ps x = first_named (λ p. p.name) ps x
+
 abbrev pub protocol_of : File → NameId → Option Protocol
-protocol_of f x = first_named (λ p. p.name) f.protocols x
+protocol_of f x = protocol_named f.protocols x
 
 abbrev pub channel_of : File → NameId → Option Service
 channel_of f x = first_named (λ s. s.name) f.services x
@@ -84,54 +85,54 @@ abbrev pub procedure_of : File → NameId → Option Proc
 procedure_of f x = first_named (λ p. p.name) f.procs x
 
 -- N1, at a role that a protocol hasn't. Roles of a protocol that isn't declared have no fault
-abbrev pub unknown_role : Option Protocol → Named → List NameFault
+abbrev pub unknown_role : Option Protocol → Named → List Fault
 unknown_role None r = []
 unknown_role (Some p) r = unknown (names_in p.roles) r
 
 -- ---- protocols and channels
 
-abbrev pub payload_faults : File → Payload → List NameFault
+abbrev pub payload_faults : File → Payload → List Fault
 payload_faults f (Plain s) = []
 payload_faults f (Endpoint p s r) = unknown (protocols_of f) p ++ unknown_role (protocol_of f p.name) r
 
-abbrev pub step_faults : File → Protocol → ProtoStep → List NameFault
+abbrev pub step_faults : File → Protocol → ProtoStep → List Fault
 step_faults f p Last = []
 step_faults f p (Exchange a b c next) = unknown (names_in p.roles) a ++ unknown (names_in p.roles) b ++ payload_faults f c
 step_faults f p (Choice a b arms) = unknown (names_in p.roles) a ++ unknown (names_in p.roles) b ++ repeated [] (map (λ arm. arm.label) arms)
 
-abbrev pub protocol_faults : File → Protocol → List NameFault
+abbrev pub protocol_faults : File → Protocol → List Fault
 protocol_faults f p = repeated [] p.roles ++ repeated [] (map (λ s. s.name) p.states) ++ flat_map (λ s. step_faults f p s.step) p.states
 
 -- N3, at the name of a channel whose roles, active ones and service roles together, aren't its protocol's roles, each once.
 -- So a role that the protocol hasn't, or one that stands twice, is told at the channel's name
-abbrev pub wrong_roles : Option Protocol → Service → List NameFault
+abbrev pub wrong_roles : Option Protocol → Service → List Fault
 wrong_roles None s = []
-wrong_roles (Some p) s = fault_if (not (has_each_once (names_in p.roles) (names_in (s.active ++ s.serve)))) N3 s.name
+wrong_roles (Some p) s = fault_at (not (has_each_once (names_in p.roles) (names_in (s.active ++ s.serve)))) N3 s.name
 
-abbrev pub channel_faults : File → Service → List NameFault
+abbrev pub channel_faults : File → Service → List Fault
 channel_faults f s = unknown (protocols_of f) s.protocol ++ wrong_roles (protocol_of f s.protocol.name) s
 
 -- ---- procedures
 
 -- N2, at a session name that is also a channel's name
-abbrev pub named_as_channel : File → Named → List NameFault
-named_as_channel f k = fault_if (is_among (channels_of f) k.name) N2 k
+abbrev pub named_as_channel : File → Named → List Fault
+named_as_channel f k = fault_at (is_among (channels_of f) k.name) N2 k
 
 -- a session parameter of a procedure with these process parameters: `k : P.s {A = p, ..}`
-abbrev pub session_faults : File → List NameId → SessionParam → List NameFault
+abbrev pub session_faults : File → List NameId → SessionParam → List Fault
 session_faults f params k =
     named_as_channel f k.name ++ unknown (protocols_of f) k.protocol
     ++ flat_map (λ h. unknown_role (protocol_of f k.protocol.name) h.0 ++ unknown params h.1) k.holders
     ++ repeated [] (map (λ h. h.0) k.holders)
 
-abbrev pub procedure_faults : File → Proc → List NameFault
+abbrev pub procedure_faults : File → Proc → List Fault
 procedure_faults f p =
     repeated [] (map (λ q. q.name) p.params ++ map (λ k. k.name) p.sessions)
     ++ flat_map (λ q. repeated [] (map (λ v. v.0) q.vars)) p.params
     ++ flat_map (session_faults f (map (λ q. q.name.name) p.params)) p.sessions
 
 -- the faults outside of bodies
-abbrev pub declaration_faults : File → List NameFault
+abbrev pub declaration_faults : File → List Fault
 declaration_faults f =
     repeated [] (map (λ p. p.name) f.protocols) ++ flat_map (protocol_faults f) f.protocols
     ++ repeated [] (map (λ s. s.name) f.services) ++ flat_map (channel_faults f) f.services
@@ -158,32 +159,32 @@ scope_after s (Start c k active serve next) =
     record { processes = s.processes ++ map (λ q. q.process.name) serve; sessions = s.sessions ++ k.name ∷ [] }
 scope_after s _ = s
 
-abbrev pub unknown_process : Scope → Named → List NameFault
+abbrev pub unknown_process : Scope → Named → List Fault
 unknown_process s x = unknown s.processes x
 
-abbrev pub unknown_session : Scope → Named → List NameFault
+abbrev pub unknown_session : Scope → Named → List Fault
 unknown_session s x = unknown s.sessions x
 
 -- N3, at the channel of a start whose roles aren't the channel's active roles in order and, after `new`, its service roles in order
-abbrev pub wrong_parts : Option Service → Named → List Part → List Part → List NameFault
+abbrev pub wrong_parts : Option Service → Named → List Part → List Part → List Fault
 wrong_parts None c active serve = []
 wrong_parts (Some s) c active serve =
-    fault_if (not (are_same (map (λ q. q.role.name) active) (names_in s.active) && are_same (map (λ q. q.role.name) serve) (names_in s.serve))) N3 c
+    fault_at (not (are_same (map (λ q. q.role.name) active) (names_in s.active) && are_same (map (λ q. q.role.name) serve) (names_in s.serve))) N3 c
 
 -- N3, at the procedure of a call with another number of processes or sessions
-abbrev pub wrong_numbers : Option Proc → Named → List Named → List Named → List NameFault
+abbrev pub wrong_numbers : Option Proc → Named → List Named → List Named → List Fault
 wrong_numbers None g ps ks = []
-wrong_numbers (Some p) g ps ks = fault_if (not ((length ps == length p.params) && (length ks == length p.sessions))) N3 g
+wrong_numbers (Some p) g ps ks = fault_at (not ((length ps == length p.params) && (length ks == length p.sessions))) N3 g
 
 -- N1, at a host function that isn't among those with these names
-abbrev pub unknown_function : File → List (List ℕ) → Named → List NameFault
-unknown_function f hosts x = fault_if (not (list_any (bytes_eq (name_in f.names x.name)) hosts)) N1 x
+abbrev pub unknown_function : File → List (List ℕ) → Named → List Fault
+unknown_function f hosts x = fault_at (not (list_any (bytes_eq (name_in f.names x.name)) hosts)) N1 x
 
-abbrev pub message_faults : Scope → Part → Part → Named → List NameFault
+abbrev pub message_faults : Scope → Part → Part → Named → List Fault
 message_faults s a b k = unknown_process s a.process ++ unknown_process s b.process ++ unknown_session s k
 
 -- The faults of a node. A start binds its session and then its new processes, and may use none of these
-abbrev pub node_faults : File → List (List ℕ) → Scope → Form → List NameFault
+abbrev pub node_faults : File → List (List ℕ) → Scope → Form → List Fault
 node_faults f hosts s (Start c k active serve next) =
     unknown (channels_of f) c ++ wrong_parts (channel_of f c.name) c active serve
     ++ flat_map (λ q. unknown_process s q.process) active
@@ -201,7 +202,7 @@ node_faults f hosts s (Call g ps ks) =
 node_faults f hosts s End = []
 
 -- a fault of the node at a number, or of one that follows it, where these names are in scope
-pub data IsBodyFault (f : File) (hosts : List (List ℕ)) (x : NameFault) : Scope → NodeId → Type 0 where
+pub data IsBodyFault (f : File) (hosts : List (List ℕ)) (x : Fault) : Scope → NodeId → Type 0 where
   here : {s : Scope} {id : NodeId} {n : Node}
       → slice_get f.tree.nodes id.0 ≡ Some n → Contains (node_faults f hosts s n.form) x
       → IsBodyFault f hosts x s id
@@ -210,27 +211,7 @@ pub data IsBodyFault (f : File) (hosts : List (List ℕ)) (x : NameFault) : Scop
       → IsBodyFault f hosts x s id
 
 -- A fault of the names of a file, where the host functions have these names
-pub data IsNameFault (f : File) (hosts : List (List ℕ)) (x : NameFault) : Type 0 where
+pub data IsNameFault (f : File) (hosts : List (List ℕ)) (x : Fault) : Type 0 where
   in_a_declaration : Contains (declaration_faults f) x → IsNameFault f hosts x
   in_main : IsBodyFault f hosts x (scope_of_main f) f.body → IsNameFault f hosts x
   in_a_procedure : {p : Proc} → Contains f.procs p → IsBodyFault f hosts x (scope_of_procedure p) p.body → IsNameFault f hosts x
-
--- ---- the first of them
-
-abbrev pub rank : Rule → ℕ
-rank N1 = 1
-rank N2 = 2
-rank _ = 3
-
--- whether a fault comes before another: at an earlier place, or at the same place by a rule of smaller number
-abbrev pub comes_before : NameFault → NameFault → Bool
-comes_before x y =
-    nat_lt x.1.line y.1.line
-    || ((x.1.line == y.1.line)
-    && (nat_lt x.1.col y.1.col
-    || ((x.1.col == y.1.col) && nat_lt (rank x.0) (rank y.0))))
-
--- x is a fault of the names, and none comes before it
-pub record IsFirstNameFault (f : File) (hosts : List (List ℕ)) (x : NameFault) : Type 0 where
-  pub fault : IsNameFault f hosts x
-  pub first : (y : NameFault) → IsNameFault f hosts y → comes_before y x ≡ false

@@ -23,7 +23,7 @@ use Rattle.chor_tree.specs.declared.protocol.ProtoArm.{ProtoArm}
 use Rattle.chor_tree.specs.declared.protocol.ProtoStep.{ProtoStep}
 use Rattle.chor_tree.specs.declared.protocol.ProtoStep.TheVariants as step
 use Rattle.chor_tree.specs.declared.protocol.State.{State}
-use Rattle.chor_tree.specs.declared.protocol.Protocol.{Protocol}
+use Rattle.chor_tree.specs.Protocols.{Protocol}
 use Rattle.chor_tree.specs.declared.tree.Part.{Part}
 use Rattle.chor_tree.specs.Source.{Statement, Starts, Sends, Selects, Gives, Sets, Asks, Shows, Block, Then, Either, Calls, Ends, Procedure, Source, source_of}
 

@@ -9,7 +9,7 @@ use Rattle.chor_tree.specs.declared.file.Service.{Service}
 use Rattle.chor_tree.specs.declared.file.Proc.{Proc}
 use Rattle.chor_tree.specs.declared.file.ProcParam.{ProcParam}
 use Rattle.chor_tree.specs.declared.file.SessionParam.{SessionParam}
-use Rattle.chor_tree.specs.declared.protocol.Protocol.{Protocol}
+use Rattle.chor_tree.specs.Protocols.{Protocol}
 use Rattle.chor_tree.specs.declared.tree.Part.{Part}
 use Rattle.chor_tree.specs.declared.tree.NodeId.{NodeId}
 use Rattle.chor_tree.specs.declared.tree.Node.{Node}
@@ -33,6 +33,20 @@ pub data Block : Type 0 where
   Either : (place : Place) (process : Named) (expr : Term) (first second : Block) → Block
   Calls : (place : Place) (procedure : Named) (processes sessions : List Named) → Block
   Ends : (place : Place) → Block
+
+-- where a block begins
+abbrev pub place_of : Block → Place
+place_of (Then p s next) = p
+place_of (Either p q e first second) = p
+place_of (Calls p g ps ks) = p
+place_of (Ends p) = p
+
+-- the blocks after its first statement or its condition
+abbrev pub tails_of : Block → List Block
+tails_of (Then p s next) = next ∷ []
+tails_of (Either p q e first second) = first ∷ second ∷ []
+tails_of (Calls p g ps ks) = []
+tails_of (Ends p) = []
 
 -- a procedure with its body
 pub record Procedure : Type 0 where
@@ -92,6 +106,10 @@ procedure_of nodes p = record {
   sessions = p.sessions;
   body = block_in (blocks_of nodes) p.body;
 }
+
+-- the block that begins at a node of a file
+abbrev pub body_of : File → NodeId → Block
+body_of f id = block_in (blocks_of f.tree.nodes) id
 
 -- The source that a file is
 abbrev pub source_of : File → Source

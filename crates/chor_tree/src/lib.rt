@@ -5,8 +5,6 @@ mod comparison;
 mod file;
 mod laws;
 mod protocol;
-#[cfg(test)]
-mod tests;
 mod tree;
 
 pub use comparison::same;

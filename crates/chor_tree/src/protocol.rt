@@ -2,13 +2,26 @@
 
 use crate::file::Named;
 use chor_base::{List, Sort};
+use std::marker::Model;
 
-/// A protocol with its roles and its states. The first state is the initial one.
+/// A protocol with its roles and its states. The first state is the initial one. It has a role and a
+/// state, and each choice of it has a label.
 #[derive(Drop)]
 pub struct Protocol {
     pub name: Named,
     pub roles: List<Named>,
     pub states: List<State>,
+}
+
+impl Model for Protocol {
+    ghost use Rattle.std.specs.Prelude.{◌≡◌, true};
+    ghost use Rattle.chor_tree.specs.Protocols.{Protocol as ProtocolIs, are_filled};
+
+    ghost Value = { ProtocolIs };
+
+    ghost view = { λ p. record { name = p.name; roles = p.roles; states = p.states } };
+
+    ghost invariant = { λ p. are_filled p.roles p.states ≡ true };
 }
 
 /// A state and the step that is taken in it.

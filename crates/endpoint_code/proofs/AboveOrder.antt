@@ -23,12 +23,12 @@ mutual
   above_self (Calls f p ss) = calls
   above_self Ends = ends
 
-  arms_self : (arms : Arms) → AreAbove arms arms
+  pub arms_self : (arms : Arms) → AreAbove arms arms
   arms_self NoArms = no_arm
   arms_self (Arm l c arms) = one_arm (first (above_self c)) (more_above (arms_self arms))
 
 -- an arm's code above another, where all that is above the one is above the other
-has_more : {rs : Arms} {l : NameId} {q p : CodeTree} → HasAbove rs l q → ((r : CodeTree) → IsAbove r q → IsAbove r p) → HasAbove rs l p
+pub has_more : {rs : Arms} {l : NameId} {q p : CodeTree} → HasAbove rs l q → ((r : CodeTree) → IsAbove r q → IsAbove r p) → HasAbove rs l p
 has_more (first b) f = first (f _ b)
 has_more (later g) f = later (has_more g f)
 
@@ -40,35 +40,35 @@ mutual
   above_trans calls calls = calls
   above_trans ends ends = ends
 
-  arms_trans : {rs qs ps : Arms} → AreAbove rs qs → AreAbove qs ps → AreAbove rs ps
+  pub arms_trans : {rs qs ps : Arms} → AreAbove rs qs → AreAbove qs ps → AreAbove rs ps
   arms_trans b no_arm = no_arm
   arms_trans b (one_arm h a) = one_arm (has_trans b h) (arms_trans b a)
 
-  has_trans : {rs qs : Arms} {l : NameId} {p : CodeTree} → AreAbove rs qs → HasAbove qs l p → HasAbove rs l p
+  pub has_trans : {rs qs : Arms} {l : NameId} {p : CodeTree} → AreAbove rs qs → HasAbove qs l p → HasAbove rs l p
   has_trans no_arm h = elim h [ ]
   has_trans (one_arm g b) (first a) = has_more g (λ r c. above_trans c a)
   has_trans (one_arm g b) (later h) = has_trans b h
 
 -- ---- one arm more, wherever it stands
 
-has_within : {l k : NameId} {c p : CodeTree} {others qs : Arms} → ArmIsIn l c others qs → HasAbove others k p → HasAbove qs k p
+pub has_within : {l k : NameId} {c p : CodeTree} {others qs : Arms} → ArmIsIn l c others qs → HasAbove others k p → HasAbove qs k p
 has_within here h = later h
 has_within (there i) (first a) = first a
 has_within (there i) (later h) = later (has_within i h)
 
-above_within : {l : NameId} {c : CodeTree} {others qs ps : Arms} → ArmIsIn l c others qs → AreAbove others ps → AreAbove qs ps
+pub above_within : {l : NameId} {c : CodeTree} {others qs ps : Arms} → ArmIsIn l c others qs → AreAbove others ps → AreAbove qs ps
 above_within i no_arm = no_arm
 above_within i (one_arm h r) = one_arm (has_within i h) (above_within i r)
 
-has_there : {l : NameId} {q p : CodeTree} {others qs : Arms} → ArmIsIn l q others qs → IsAbove q p → HasAbove qs l p
+pub has_there : {l : NameId} {q p : CodeTree} {others qs : Arms} → ArmIsIn l q others qs → IsAbove q p → HasAbove qs l p
 has_there here a = first a
 has_there (there i) a = later (has_there i a)
 
-one_more : {l : NameId} {p : CodeTree} {qs others ps : Arms} → ArmIsIn l p others ps → HasAbove qs l p → AreAbove qs others → AreAbove qs ps
+pub one_more : {l : NameId} {p : CodeTree} {qs others ps : Arms} → ArmIsIn l p others ps → HasAbove qs l p → AreAbove qs others → AreAbove qs ps
 one_more here h a = one_arm h a
 one_more (there i) h (one_arm g a) = one_arm g (one_more i h a)
 
-one_less : {l : NameId} {p : CodeTree} {qs others ps : Arms} → ArmIsIn l p others ps → AreAbove qs ps → HasAbove qs l p × AreAbove qs others
+pub one_less : {l : NameId} {p : CodeTree} {qs others ps : Arms} → ArmIsIn l p others ps → AreAbove qs ps → HasAbove qs l p × AreAbove qs others
 one_less here (one_arm h a) = (h, a)
 one_less (there i) (one_arm g a) = let b = one_less i a in (b.0, one_arm g b.1)
 
@@ -101,52 +101,52 @@ mutual
 -- ---- antisymmetric up to that order
 
 -- a test of two that fails fails for both
-neither : (a b : Bool) → (a || b) ≡ false → (a ≡ false) × (b ≡ false)
+pub neither : (a b : Bool) → (a || b) ≡ false → (a ≡ false) × (b ≡ false)
 neither true b h = absurd cc
 neither false b h = (refl, h)
 
-same : (n : ℕ) → (n == n) ≡ false → ⊥
+pub same : (n : ℕ) → (n == n) ≡ false → ⊥
 same n h = absurd (grind (arith, nat_tests))
 
 module _ (l : NameId) where
   -- what stands above a code without this label doesn't use an arm with it
-  has_elsewhere : {k : NameId} {c p : CodeTree} {others qs : Arms} → ArmIsIn l c others qs → (l.0 == k.0) ≡ false → HasAbove qs k p → HasAbove others k p
+  pub has_elsewhere : {k : NameId} {c p : CodeTree} {others qs : Arms} → ArmIsIn l c others qs → (l.0 == k.0) ≡ false → HasAbove qs k p → HasAbove others k p
   has_elsewhere here n (first a) = absurd (same l.0 n)
   has_elsewhere here n (later h) = h
   has_elsewhere (there i) n (first a) = first a
   has_elsewhere (there i) n (later h) = later (has_elsewhere i n h)
 
-  above_elsewhere : {c : CodeTree} {others qs : Arms} → ArmIsIn l c others qs → (ps : Arms) → has_label l ps ≡ false → AreAbove qs ps → AreAbove others ps
+  pub above_elsewhere : {c : CodeTree} {others qs : Arms} → ArmIsIn l c others qs → (ps : Arms) → has_label l ps ≡ false → AreAbove qs ps → AreAbove others ps
   above_elsewhere i NoArms n a = no_arm
   above_elsewhere i (Arm k p ps) n (one_arm h a) = let b = neither (l.0 == k.0) (has_label l ps) n in one_arm (has_elsewhere i b.0 h) (above_elsewhere i ps b.1 a)
 
 -- where a label stands above a code
-record Found (qs : Arms) (l : NameId) (p : CodeTree) : Type 0 where
-  code : CodeTree
-  others : Arms
-  at : ArmIsIn l code others qs
-  above : IsAbove code p
+pub record Found (qs : Arms) (l : NameId) (p : CodeTree) : Type 0 where
+  pub code : CodeTree
+  pub others : Arms
+  pub at : ArmIsIn l code others qs
+  pub above : IsAbove code p
 
-found : {qs : Arms} {l : NameId} {p : CodeTree} → HasAbove qs l p → Found qs l p
+pub found : {qs : Arms} {l : NameId} {p : CodeTree} → HasAbove qs l p → Found qs l p
 found (first a) = record { code = _; others = _; at = here; above = a }
 found (later h) = let f = found h in record { code = f.code; others = _; at = there f.at; above = f.above }
 
-record Apart (l : NameId) (c : CodeTree) (others : Arms) : Type 0 where
-  label : has_label l others ≡ false
-  code : HasDistinctLabels c
-  rest : AreDistinctArms others
+pub record Apart (l : NameId) (c : CodeTree) (others : Arms) : Type 0 where
+  pub label : has_label l others ≡ false
+  pub code : HasDistinctLabels c
+  pub rest : AreDistinctArms others
 
-label_kept : (k : NameId) {l : NameId} {c : CodeTree} {others arms : Arms} → ArmIsIn l c others arms → has_label k arms ≡ false → ((k.0 == l.0) ≡ false) × (has_label k others ≡ false)
+pub label_kept : (k : NameId) {l : NameId} {c : CodeTree} {others arms : Arms} → ArmIsIn l c others arms → has_label k arms ≡ false → ((k.0 == l.0) ≡ false) × (has_label k others ≡ false)
 label_kept k {l = l} (here {rest = rest}) n = neither (k.0 == l.0) (has_label k rest) n
 label_kept k (there {k = m} {rest = rest} {arms = arms} i) n =
     let b = neither (k.0 == m.0) (has_label k arms) n in
     let r = label_kept k i b.1 in
     (r.0, ap (λ t. t || has_label k rest) b.0 ∙ r.1)
 
-flip : (m n : ℕ) → (m == n) ≡ false → (n == m) ≡ false
+pub flip : (m n : ℕ) → (m == n) ≡ false → (n == m) ≡ false
 flip m n h = grind (arith, nat_tests)
 
-apart : {l : NameId} {c : CodeTree} {others arms : Arms} → ArmIsIn l c others arms → AreDistinctArms arms → Apart l c others
+pub apart : {l : NameId} {c : CodeTree} {others arms : Arms} → ArmIsIn l c others arms → AreDistinctArms arms → Apart l c others
 apart here d = record { label = d.0; code = d.1; rest = d.2 }
 apart {l = l} (there {k = k} {rest = rest} i) d =
     let b = apart i d.2 in
@@ -154,22 +154,22 @@ apart {l = l} (there {k = k} {rest = rest} i) d =
     record { label = ap (λ t. t || has_label l rest) (flip k.0 l.0 r.0) ∙ b.label; code = b.code; rest = (r.1, d.1, b.rest) }
 
 -- what is above parts
-does_rest : {a b : Action} {q p : CodeTree} → IsAbove (Does a q) (Does b p) → IsAbove q p
+pub does_rest : {a b : Action} {q p : CodeTree} → IsAbove (Does a q) (Does b p) → IsAbove q p
 does_rest (does x) = x
 
-offers_arms : {k h a b : NameId} {qs ps : Arms} → IsAbove (Offers k a qs) (Offers h b ps) → AreAbove qs ps
+pub offers_arms : {k h a b : NameId} {qs ps : Arms} → IsAbove (Offers k a qs) (Offers h b ps) → AreAbove qs ps
 offers_arms (offers x) = x
 
-tests_both : {e f : Term} {q q' p p' : CodeTree} → IsAbove (Tests e q q') (Tests f p p') → IsAbove q p × IsAbove q' p'
+pub tests_both : {e f : Term} {q q' p p' : CodeTree} → IsAbove (Tests e q q') (Tests f p p') → IsAbove q p × IsAbove q' p'
 tests_both (tests x x') = (x, x')
 
 -- no arm has a label that isn't there
-absent : {l : NameId} {p : CodeTree} {qs : Arms} → has_label l qs ≡ false → HasAbove qs l p → ⊥
+pub absent : {l : NameId} {p : CodeTree} {qs : Arms} → has_label l qs ≡ false → HasAbove qs l p → ⊥
 absent {l = l} n (first {qs = qs} a) = same l.0 (neither (l.0 == l.0) (has_label l qs) n).0
 absent {l = l} n (later {k = k} {qs = qs} h) = absent (neither (l.0 == k.0) (has_label l qs) n).1 h
 
 -- the one arm of a label
-its_arm : {k l : NameId} {q p : CodeTree} {qs : Arms} → has_label l qs ≡ false → HasAbove (Arm k q qs) l p → IsAbove q p
+pub its_arm : {k l : NameId} {q p : CodeTree} {qs : Arms} → has_label l qs ≡ false → HasAbove (Arm k q qs) l p → IsAbove q p
 its_arm n (first a) = a
 its_arm n (later h) = absurd (absent n h)
 

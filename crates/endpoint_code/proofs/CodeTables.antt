@@ -12,20 +12,20 @@ use Rattle.endpoint_code.specs.Code.{children_of, IsClosed}
 use Rattle.endpoint_code.specs.Trees.{CodeTree, Ends, arms_in, node_tree, grown, trees_of, code_at}
 
 -- what is known stays
-grown-old : (ns : List CodeNode) (ts : List CodeTree) (j : ℕ) → j < length ts → slice_index_or (grown ts ns) j Ends ≡ slice_index_or ts j Ends
+pub grown-old : (ns : List CodeNode) (ts : List CodeTree) (j : ℕ) → j < length ts → slice_index_or (grown ts ns) j Ends ≡ slice_index_or ts j Ends
 grown-old [] ts j lt = refl
 grown-old (n ∷ ns) ts j lt =
     grown-old ns (ts ++ node_tree ts n ∷ []) j (omega (arith, length-append ts (node_tree ts n ∷ []))) ∙ get_or-append ts (node_tree ts n ∷ []) Ends j lt
 
 -- all of these children come before i
-abbrev Before : ℕ → List CodeId → Type 0
+abbrev pub Before : ℕ → List CodeId → Type 0
 Before i cs = All (λ c. c.0 < i) cs
 
 module _ (ts us : List CodeTree) (i : ℕ) (h : (j : ℕ) → j < i → slice_index_or us j Ends ≡ slice_index_or ts j Ends) where
   at_head : (c : CodeId) (cs : List CodeId) → Before i (c ∷ cs) → slice_index_or us c.0 Ends ≡ slice_index_or ts c.0 Ends
   at_head c cs a = h c.0 (All-head (λ d. d.0 < i) c cs a)
 
-  arms_same : (arms : List (NameId × CodeId)) → Before i (map (λ arm. arm.1) arms) → arms_in us arms ≡ arms_in ts arms
+  pub arms_same : (arms : List (NameId × CodeId)) → Before i (map (λ arm. arm.1) arms) → arms_in us arms ≡ arms_in ts arms
   arms_same [] a = refl
   arms_same (arm ∷ arms) a =
       let here = at_head arm.1 (map (λ b. b.1) arms) a in
@@ -66,3 +66,27 @@ pub code_at-node : (nodes : List CodeNode) (id : CodeId) (n : CodeNode) → IsCl
 code_at-node nodes id n closed h =
     let z : length {A = CodeTree} [] + id.0 ≡ id.0 = omega arith in
     ap (λ j. slice_index_or (trees_of nodes) j Ends) (sym z) ∙ grown-at nodes [] id.0 n h (subst (λ (j : ℕ). Before j (children_of n)) (sym z) (closed id.0 n h))
+
+-- ---- a table with more nodes keeps what it has
+
+pub grown-append : (ns ms : List CodeNode) (ts : List CodeTree) → grown ts (ns ++ ms) ≡ grown (grown ts ns) ms
+grown-append [] ms ts = refl
+grown-append (n ∷ ns) ms ts = grown-append ns ms (ts ++ node_tree ts n ∷ [])
+
+length-grown : (ns : List CodeNode) (ts : List CodeTree) → length (grown ts ns) ≡ length ts + length ns
+length-grown [] ts = omega arith
+length-grown (n ∷ ns) ts = omega (arith, length-grown ns (ts ++ node_tree ts n ∷ []), length-append ts (node_tree ts n ∷ []))
+
+pub length-trees_of : (ns : List CodeNode) → length (trees_of ns) ≡ length ns
+length-trees_of ns = omega (arith, length-grown ns [])
+
+pub code_at-kept : (old new more : List CodeNode) (id : CodeId) → new ≡ old ++ more → id.0 < length old → code_at new id ≡ code_at old id
+code_at-kept old new more id e h =
+    ap (λ ns. code_at ns id) e ∙ ap (λ ts. slice_index_or ts id.0 Ends) (grown-append old more [])
+    ∙ grown-old more (trees_of old) id.0 (omega (arith, length-trees_of old))
+
+pub code_at-pushed : (old new : List CodeNode) (n : CodeNode) (id : CodeId) → new ≡ old ++ n ∷ [] → id.0 ≡ length old → code_at new id ≡ node_tree (trees_of old) n
+code_at-pushed old new n id e i =
+    ap (λ ns. code_at ns id) e ∙ ap (λ ts. slice_index_or ts id.0 Ends) (grown-append old (n ∷ []) [])
+    ∙ ap (λ k. slice_index_or (trees_of old ++ node_tree (trees_of old) n ∷ []) k Ends) (i ∙ sym (length-trees_of old))
+    ∙ get_or-append_seam (trees_of old) (node_tree (trees_of old) n) [] Ends

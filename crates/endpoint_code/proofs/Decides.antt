@@ -1,7 +1,8 @@
 -- What decides whether codes are above each other, form by form.
-use Rattle.std.proofs.Common.{◌≡◌, ℕ, ◌+◌, ◌-◌, ◌<◌, ◌≤◌, Bool, true, false, IsTrue, ◌↔◌, List, [], ◌∷◌, length, ◌==◌, subst, sym, ap, ◌∙◌, refl, arith, Some, None}
+use Rattle.std.proofs.Common.{◌≡◌, ℕ, ◌+◌, ◌<◌, ◌≤◌, Bool, true, false, IsTrue, ◌↔◌, List, [], ◌∷◌, length, ◌==◌, subst, sym, ap, ◌∙◌, refl, arith, Some, None, ◌⊎◌, inl, inr, ◌++◌, zero, suc}
 use Rattle.std.proofs.lemmas.Bool.Decides.{nat_tests}
-use Rattle.std.specs.Prelude.{take, drop, slice_index_or, All, map}
+use Rattle.std.specs.Prelude.{take, slice_index_or, All, map}
+use Rattle.std.proofs.lemmas.List.{take_more}
 use Rattle.std.proofs.lemmas.List.Elements.{All-nil, All-cons, All-head, All-tail}
 use Rattle.chor_base.specs.declared.names.NameId.{NameId}
 use Rattle.chor_base.specs.declared.expr.Expr.{Expr}
@@ -15,23 +16,6 @@ use Rattle.endpoint_code.proofs.Sizes.{size, size_of_arms}
 use Rattle.endpoint_code.specs.Heads.{Head, Acts, Branches, Decides, GoesTo, Stops, head_of, next_of}
 use Rattle.endpoint_code.specs.Above.{IsAbove, does, offers, tests, calls, ends, AreAbove, no_arm, one_arm, HasAbove, first, later}
 
--- ---- arms
-
-pub no_arms : (ts : List CodeTree) (arms : List (NameId × CodeId)) → length arms < 1 → arms_in ts arms ≡ NoArms
-no_arms ts [] h = refl
-no_arms ts (arm ∷ arms) h = absurd (omega arith)
-
-take_all : {X : Type 0} (xs : List X) → take (length xs) xs ≡ xs
-take_all [] = refl
-take_all (x ∷ xs) = ap (λ ys. x ∷ ys) (take_all xs)
-
-pub some_arms : (ts : List CodeTree) (arms : List (NameId × CodeId)) (d : NameId × CodeId) → 1 ≤ length arms
-    → arms_in ts arms ≡ Arm (slice_index_or arms 0 d).0 (tree_in ts (slice_index_or arms 0 d).1) (arms_in ts (take (length arms - 1) (drop 1 arms)))
-some_arms ts [] d h = absurd (omega arith)
-some_arms ts (arm ∷ arms) d h =
-    let n : length (arm ∷ arms) - 1 ≡ length arms = omega arith in
-    ap (λ as'. Arm arm.0 (tree_in ts arm.1) (arms_in ts as')) (sym (ap (λ i. take i arms) n ∙ take_all arms))
-
 -- names by their numbers
 pub name_same : {r : Bool} (k l : NameId) → r ≡ (k.0 == l.0) → r ≡ true → k ≡ l
 name_same k l h t =
@@ -39,61 +23,17 @@ name_same k l h t =
     let e : k.0 ≡ l.0 = grind (arith, nat_tests) in
     let f : ℕ → NameId = λ n. record { 0 = n } in ap f e
 
-pub name_apart : {r : Bool} (k l : NameId) → r ≡ (k.0 == l.0) → r ≡ false → k ≡ l → ⊥
-name_apart k l h t e =
-    let both : (k.0 == l.0) ≡ false = sym h ∙ t in
-    let n : k.0 ≡ l.0 = ap (λ m. m.0) e in absurd (grind (arith, nat_tests))
-
-module _ (xs : Arms) {ys : Arms} where
-  pub above_none : ys ≡ NoArms → IsTrue true ↔ AreAbove xs ys
-  above_none e = ((λ t. subst (AreAbove xs) (sym e) no_arm), (λ a. refl))
-
-  pub above_more : {r : Bool} {l : NameId} {p : CodeTree} {ps : Arms} → ys ≡ Arm l p ps → HasAbove xs l p → (IsTrue r ↔ AreAbove xs ps) → IsTrue r ↔ AreAbove xs ys
-  above_more e g h = ((λ t. subst (AreAbove xs) (sym e) (one_arm g (h.0 t))), (λ a. h.1 (rest (subst (AreAbove xs) e a))))
-    where
-      rest : {l : NameId} {p : CodeTree} {ps : Arms} → AreAbove xs (Arm l p ps) → AreAbove xs ps
-      rest (one_arm g a) = a
-
--- the arms of qs and one more, that is xs
-module _ (l : NameId) (p : CodeTree) where
-  abbrev Has : Arms → Type 0
-  Has ys = HasAbove ys l p
-
-  pub in_none : {xs : Arms} → xs ≡ NoArms → IsTrue false ↔ Has xs
-  in_none e = ((λ t. absurd cc), (λ a. absurd (none (subst Has e a))))
-    where
-      none : Has NoArms → ⊥
-      none h = elim h [ ]
-
-  module _ {xs : Arms} {k : NameId} {q : CodeTree} {qs : Arms} (e : xs ≡ Arm k q qs) where
-    pub in_rest : {r : Bool} → r ≡ true → Has qs → IsTrue r ↔ Has xs
-    in_rest i h = ((λ t. subst Has (sym e) (later h)), (λ a. i))
-
-    pub not_first : {r : Bool} → r ≡ false → (k ≡ l → ⊥) → (Has qs → ⊥) → IsTrue r ↔ Has xs
-    not_first i n m = ((λ t. absurd cc), (λ a. absurd (none refl (subst Has e a))))
-      where
-        none : {j : NameId} → j ≡ k → HasAbove (Arm j q qs) l p → ⊥
-        none g (first a) = n (sym g)
-        none g (later h) = m h
-
-    pub in_first : {r : Bool} → k ≡ l → (Has qs → ⊥) → (IsTrue r ↔ IsAbove q p) → IsTrue r ↔ Has xs
-    in_first {r = r} i m h = ((λ t. subst Has (sym e) (subst (λ (j : NameId). HasAbove (Arm j q qs) l p) (sym i) (first (h.0 t)))), (λ a. h.1 (alone (subst Has e a))))
-      where
-        alone : {j : NameId} → HasAbove (Arm j q qs) l p → IsAbove q p
-        alone (first a) = a
-        alone (later g) = absurd (m g)
-
 -- ---- nodes
 
 -- the head of a code without its table
-abbrev tree_head : CodeTree → Head
+abbrev pub tree_head : CodeTree → Head
 tree_head (Does a rest) = Acts a
 tree_head (Offers k a arms) = Branches k a
 tree_head (Tests e f g) = Decides e
 tree_head (Calls f p ss) = GoesTo f p ss
 tree_head Ends = Stops
 
-node_head : (ts : List CodeTree) (n : CodeNode) → tree_head (node_tree ts n) ≡ head_of n
+pub node_head : (ts : List CodeTree) (n : CodeNode) → tree_head (node_tree ts n) ≡ head_of n
 node_head ts (Join c r k next) = refl
 node_head ts (Send k b e next) = refl
 node_head ts (Recv k a x next) = refl
@@ -108,7 +48,7 @@ node_head ts (If e f g) = refl
 node_head ts (Call f p ss) = refl
 node_head ts End = refl
 
-above_head : {q p : CodeTree} → IsAbove q p → tree_head q ≡ tree_head p
+pub above_head : {q p : CodeTree} → IsAbove q p → tree_head q ≡ tree_head p
 above_head (does a) = refl
 above_head (offers a) = refl
 above_head (tests a b) = refl
@@ -121,12 +61,12 @@ differs ts n m {x = x} {y = y} i e f apart =
     ((λ t. absurd cc), (λ a. absurd (apart (sym (node_head ts n) ∙ sym (ap tree_head e) ∙ above_head a ∙ ap tree_head f ∙ node_head ts m))))
 
 -- an action and what follows it
-record Acting (ts : List CodeTree) (n : CodeNode) (q : CodeId) : Type 0 where
-  action : Action
-  head : head_of n ≡ Acts action
-  tree : node_tree ts n ≡ Does action (tree_in ts q)
+pub record Acting (ts : List CodeTree) (n : CodeNode) (q : CodeId) : Type 0 where
+  pub action : Action
+  pub head : head_of n ≡ Acts action
+  pub tree : node_tree ts n ≡ Does action (tree_in ts q)
 
-acting : (ts : List CodeTree) (n : CodeNode) (q : CodeId) → next_of n ≡ Some q → Acting ts n q
+pub acting : (ts : List CodeTree) (n : CodeNode) (q : CodeId) → next_of n ≡ Some q → Acting ts n q
 acting ts (Join c r k next) q h = record { action = _; head = refl; tree = cc }
 acting ts (Send k b e next) q h = record { action = _; head = refl; tree = cc }
 acting ts (Recv k a x next) q h = record { action = _; head = refl; tree = cc }
@@ -182,14 +122,14 @@ module _ (ts : List CodeTree) (n m : CodeNode) (r : Bool) (same : head_of n ≡ 
       second : {e f : Term} {q q' p p' : CodeTree} → IsAbove (Tests e q q') (Tests f p p') → IsAbove q' p'
       second (tests a b) = b
 
-calls_of : {f p : NameId} {ss : List NameId} (t : CodeTree) → tree_head t ≡ GoesTo f p ss → t ≡ Calls f p ss
+pub calls_of : {f p : NameId} {ss : List NameId} (t : CodeTree) → tree_head t ≡ GoesTo f p ss → t ≡ Calls f p ss
 calls_of (Does a rest) h = absurd cc
 calls_of (Offers k a arms) h = absurd cc
 calls_of (Tests e f g) h = absurd cc
 calls_of (Calls f p ss) h = cc
 calls_of Ends h = absurd cc
 
-ends_of : (t : CodeTree) → tree_head t ≡ Stops → t ≡ Ends
+pub ends_of : (t : CodeTree) → tree_head t ≡ Stops → t ≡ Ends
 ends_of (Does a rest) h = absurd cc
 ends_of (Offers k a arms) h = absurd cc
 ends_of (Tests e f g) h = absurd cc
@@ -272,3 +212,71 @@ branch_smaller ts n {arms = arms} {xs = xs} e f =
     let here : size (node_tree ts n) ≡ size_of_arms (arms_in ts arms) + 1 = ap (λ m. size (node_tree ts m)) e in
     let same : size_of_arms (arms_in ts xs) ≡ size_of_arms (arms_in ts arms) = ap (λ ys. size_of_arms (arms_in ts ys)) f in
     omega arith
+
+-- ---- arms one after another
+
+-- an arm's code is smaller than all arms
+pub arm_smaller : (ts : List CodeTree) (arms : List (NameId × CodeId)) (k : ℕ) (d : NameId × CodeId) → k < length arms → size (tree_in ts (slice_index_or arms k d).1) + 2 ≤ size_of_arms (arms_in ts arms)
+arm_smaller ts [] k d h = absurd (omega arith)
+arm_smaller ts (arm ∷ arms) zero d h = omega arith
+arm_smaller ts (arm ∷ arms) (suc k) d h = let i = arm_smaller ts arms k d (omega arith) in omega arith
+
+all_of : {X : Type 0} (xs : List X) (k : ℕ) → length xs ≤ k → take k xs ≡ xs
+all_of [] zero h = refl
+all_of [] (suc k) h = refl
+all_of (x ∷ xs) zero h = absurd (omega arith)
+all_of (x ∷ xs) (suc k) h = ap (λ ys. x ∷ ys) (all_of xs k (omega arith))
+
+module _ (ts : List CodeTree) (l : NameId) (p : CodeTree) where
+  -- the arm at a place has this label, and code above p
+  abbrev HasHere : NameId × CodeId → Type 0
+  HasHere arm = (arm.0 ≡ l) × IsAbove (tree_in ts arm.1) p
+
+  pub has_at : (arms : List (NameId × CodeId)) (k : ℕ) (d : NameId × CodeId) → k < length arms → HasHere (slice_index_or arms k d) → HasAbove (arms_in ts arms) l p
+  has_at [] k d h a = absurd (omega arith)
+  has_at (arm ∷ arms) zero d h a = subst (λ (j : NameId). HasAbove (Arm j (tree_in ts arm.1) (arms_in ts arms)) l p) (sym a.0) (first a.1)
+  has_at (arm ∷ arms) (suc k) d h a = later (has_at arms k d (omega arith) a)
+
+  split : {j : NameId} {q : CodeTree} {us : Arms} → HasAbove (Arm j q us) l p → ((j ≡ l) × IsAbove q p) ⊎ HasAbove us l p
+  split (first a) = inl (refl, a)
+  split (later h) = inr h
+
+  nothing : HasAbove NoArms l p → ⊥
+  nothing h = elim h [ ]
+
+  none_more : (arms : List (NameId × CodeId)) (arm : NameId × CodeId) → (HasAbove (arms_in ts arms) l p → ⊥) → (HasHere arm → ⊥) → HasAbove (arms_in ts (arms ++ arm ∷ [])) l p → ⊥
+  none_more [] arm n m h = go (split h)
+    where
+      go : ((arm.0 ≡ l) × IsAbove (tree_in ts arm.1) p) ⊎ HasAbove NoArms l p → ⊥
+      go (inl a) = m a
+      go (inr g) = nothing g
+  none_more (x ∷ arms) arm n m h = go (split h) (λ g. none_more arms arm (λ k. n (later k)) m g)
+    where
+      go : ((x.0 ≡ l) × IsAbove (tree_in ts x.1) p) ⊎ HasAbove (arms_in ts (arms ++ arm ∷ [])) l p → (HasAbove (arms_in ts (arms ++ arm ∷ [])) l p → ⊥) → ⊥
+      go (inl a) ih = n (has_at (x ∷ arms) 0 x (omega arith) a)
+      go (inr g) ih = ih g
+
+  pub none_next : (arms : List (NameId × CodeId)) (k : ℕ) (d : NameId × CodeId) → k < length arms → (HasAbove (arms_in ts (take k arms)) l p → ⊥) → (HasHere (slice_index_or arms k d) → ⊥)
+      → HasAbove (arms_in ts (take (k + 1) arms)) l p → ⊥
+  none_next arms k d h n m g =
+      none_more (take k arms) (slice_index_or arms k d) n m (subst (λ (ys : List (NameId × CodeId)). HasAbove (arms_in ts ys) l p) (take_more arms k d h) g)
+
+  pub none_at_all : (arms : List (NameId × CodeId)) (k : ℕ) → length arms ≤ k → (HasAbove (arms_in ts (take k arms)) l p → ⊥) → HasAbove (arms_in ts arms) l p → ⊥
+  none_at_all arms k h n g = n (subst (λ (ys : List (NameId × CodeId)). HasAbove (arms_in ts ys) l p) (sym (all_of arms k h)) g)
+
+module _ (ts : List CodeTree) (us : Arms) where
+  pub above_here : (arms : List (NameId × CodeId)) (k : ℕ) (d : NameId × CodeId) → k < length arms → AreAbove us (arms_in ts arms) → HasAbove us (slice_index_or arms k d).0 (tree_in ts (slice_index_or arms k d).1)
+  above_here [] k d h a = absurd (omega arith)
+  above_here (arm ∷ arms) zero d h (one_arm g a) = g
+  above_here (arm ∷ arms) (suc k) d h (one_arm g a) = above_here arms k d (omega arith) a
+
+  above_last : (arms : List (NameId × CodeId)) (arm : NameId × CodeId) → AreAbove us (arms_in ts arms) → HasAbove us arm.0 (tree_in ts arm.1) → AreAbove us (arms_in ts (arms ++ arm ∷ []))
+  above_last [] arm a h = one_arm h no_arm
+  above_last (x ∷ arms) arm (one_arm g a) h = one_arm g (above_last arms arm a h)
+
+  pub above_next : (arms : List (NameId × CodeId)) (k : ℕ) (d : NameId × CodeId) → k < length arms → AreAbove us (arms_in ts (take k arms)) → HasAbove us (slice_index_or arms k d).0 (tree_in ts (slice_index_or arms k d).1)
+      → AreAbove us (arms_in ts (take (k + 1) arms))
+  above_next arms k d h a g = subst (λ (ys : List (NameId × CodeId)). AreAbove us (arms_in ts ys)) (sym (take_more arms k d h)) (above_last (take k arms) (slice_index_or arms k d) a g)
+
+  pub above_all : (arms : List (NameId × CodeId)) (k : ℕ) → length arms ≤ k → AreAbove us (arms_in ts (take k arms)) → AreAbove us (arms_in ts arms)
+  above_all arms k h a = subst (λ (ys : List (NameId × CodeId)). AreAbove us (arms_in ts ys)) (all_of arms k h) a

@@ -18,7 +18,7 @@ use Rattle.endpoint_code.specs.Network.{Machine, NetworkState, Place, Sessions, 
 use Rattle.endpoint_code.specs.NetworkRuns.{NetworkLeads, IsNetworkRun}
 use Rattle.endpoint_code.proofs.Queues.{loads-same, loads-other}
 
-same_triple : (t u : Triple) → triple_eq t u ≡ true → t ≡ u
+pub same_triple : (t u : Triple) → triple_eq t u ≡ true → t ≡ u
 same_triple t u h =
     let a : t.0 ≡ u.0 = grind (arith, nat_tests) in
     let b : t.1.0 ≡ u.1.0 = grind (arith, nat_tests) in
@@ -49,7 +49,7 @@ take_one qs t u l rest h = go (triple_eq t u) refl
     go false e = rw e (loads-other qs u t rest (turned t u e))
 
 -- what a step does to each queue
-abbrev Keeps : NetworkState → Event → NetworkState → Triple → Type 0
+abbrev pub Keeps : NetworkState → Event → NetworkState → Triple → Type 0
 Keeps n x m t = received_by t x ++ queue_of m t ≡ queue_of n t ++ sent_by t x
 
 alone : (n m : NetworkState) (x : Event) (t : Triple) → m.queues ≡ n.queues → received_by t x ≡ [] → sent_by t x ≡ [] → Keeps n x m t
@@ -133,12 +133,12 @@ module _ (t : Triple) (x : Event) (m : NetworkState) where
       at_channel None i = absurd cc
       at_channel (Some k) i = at_pairs k (paired k.active ps) i
 
-step_keeps : (e : Endpoints) (hosts : Hosts) (cap : Option ℕ) (n : NetworkState) (x : Event) (m : NetworkState) (t : Triple) → NetworkSteps e hosts cap n x m → Keeps n x m t
+pub step_keeps : (e : Endpoints) (hosts : Hosts) (cap : Option ℕ) (n : NetworkState) (x : Event) (m : NetworkState) (t : Triple) → NetworkSteps e hosts cap n x m → Keeps n x m t
 step_keeps e hosts cap n x m t (acts p v a h) = act_keeps t x m e cap n p v h
 step_keeps e hosts cap n x m t (begins c ps h) = start_keeps t x m e n c ps h
 
 -- what a run does to each queue
-leads_keep : (e : Endpoints) (hosts : Hosts) (cap : Option ℕ) (t : Triple) (h : List Event) (n m : NetworkState) → NetworkLeads e hosts cap n h m → received_on t h ++ queue_of m t ≡ queue_of n t ++ sent_on t h
+pub leads_keep : (e : Endpoints) (hosts : Hosts) (cap : Option ℕ) (t : Triple) (h : List Event) (n m : NetworkState) → NetworkLeads e hosts cap n h m → received_on t h ++ queue_of m t ≡ queue_of n t ++ sent_on t h
 leads_keep e hosts cap t [] n m l = ap (λ w. queue_of w t) (sym l) ∙ sym (append-nil (queue_of n t))
 leads_keep e hosts cap t (x ∷ xs) n m l =
     let one : received_by t x ++ queue_of l.0 t ≡ queue_of n t ++ sent_by t x = step_keeps e hosts cap n x l.0 t l.1 in

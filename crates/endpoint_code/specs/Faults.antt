@@ -1,6 +1,9 @@
 -- What an endpoint program must keep so that its network always knows what a name stands for (rules E2 and E3).
-use Rattle.std.specs.Prelude.{◌≡◌, ◌==◌, ◌&&◌, ◌||◌, Bool, true, false, List, [], ◌∷◌, ◌++◌, length, map, Option, Some, if◌then◌else◌, All}
+use Rattle.std.specs.Prelude.{ℕ, ◌≡◌, ◌==◌, ◌&&◌, ◌||◌, Bool, true, false, List, [], ◌∷◌, ◌++◌, length, map, Option, Some, if◌then◌else◌, All, is_some, bytes_eq}
+use Rattle.std.specs.List.{list_any}
 use Rattle.chor_base.specs.declared.names.NameId.{NameId}
+use Rattle.chor_base.specs.Writing.{name_in}
+use Rattle.chor_base.specs.Meaning.{Hosts, meaning_named}
 use Rattle.endpoint_code.specs.declared.code.CodeId.{CodeId}
 use Rattle.endpoint_code.specs.declared.code.CodeNode.{CodeNode}
 use Rattle.endpoint_code.specs.declared.code.CodeNode.TheVariants.{Join, Send, Recv, Pick, Branch, Throw, Catch, Set, Show, Host, If, Call, End}
@@ -92,13 +95,14 @@ pub data AreSingle : List ServiceCode → Type 0 where
 abbrev pub IsServed : Endpoints → ServiceCode → Type 0
 IsServed e s = (k : Channel) × (channel_of e.channels s.channel ≡ Some k) × (is_among s.role k.serve ≡ true)
 
--- No fault of E2 (host functions aside): names of channels and processes, roles of a channel, units of procedures and
--- services stand once; each service belongs to a channel, and each service role has one; each body is scoped
+-- No fault of E2, host functions aside: names of channels and processes, roles of a channel, units of procedures, their
+-- sessions and services stand once; each service belongs to a channel, and each service role has one; each body is scoped
 pub record HasNoNameFault (e : Endpoints) : Type 0 where
   pub channels : AreDistinct (map (λ k. k.name) e.channels)
   pub roles : All (λ k. AreDistinct (k.active ++ k.serve)) e.channels
   pub processes : AreDistinct (map (λ p. p.name) e.processes)
   pub procedures : AreApart e.procedures
+  pub sessions : All (λ q. AreDistinct q.sessions) e.procedures
   pub services : AreSingle e.services
   pub served : All (IsServed e) e.services
   pub provided : All (λ k. All (λ r. has_service k.name r e.services ≡ true) k.serve) e.channels
@@ -114,7 +118,30 @@ begins_with_call _ = false
 abbrev pub HasNoCallFault : Endpoints → Type 0
 HasNoCallFault e = All (λ q. begins_with_call (node_at e q.body) ≡ false) e.procedures
 
--- An endpoint program without a fault of its names and calls
+-- An endpoint program without a fault of its names and calls, host functions aside
 pub record IsFaultless (e : Endpoints) : Type 0 where
   pub names : HasNoNameFault e
   pub calls : HasNoCallFault e
+
+-- ---- host functions
+
+-- the host functions that have these words as names
+abbrev pub is_listed : List (List ℕ) → Endpoints → NameId → Bool
+is_listed words e f = list_any (bytes_eq (name_in e.names f)) words
+
+-- the host functions that have a meaning
+abbrev pub has_meaning : Hosts → NameId → Bool
+has_meaning hosts f = is_some (meaning_named hosts f)
+
+abbrev pub asks_known : (NameId → Bool) → CodeNode → Bool
+asks_known known (Host x f a b next) = known f
+asks_known known _ = true
+
+-- No fault of E2 of host functions, of which these are known: the code asks no other
+abbrev pub AsksKnown : (NameId → Bool) → Endpoints → Type 0
+AsksKnown known e = All (λ n. asks_known known n ≡ true) e.code.nodes
+
+-- An endpoint program without a fault, where the host functions have these names
+pub record IsFaultlessWith (words : List (List ℕ)) (e : Endpoints) : Type 0 where
+  pub faultless : IsFaultless e
+  pub hosts : AsksKnown (is_listed words e) e

@@ -1,5 +1,6 @@
 pub mod Code
 pub mod Bodies
+pub mod Kept
 pub mod Network
 pub mod NetworkRuns
 pub mod Scheduled
@@ -9,3 +10,5 @@ pub mod Above
 pub mod Labels
 pub mod Heads
 pub mod LeastAbove
+pub mod Covers
+pub mod SameState

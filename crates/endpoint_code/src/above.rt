@@ -40,8 +40,8 @@ fn are_same(left: &List<NameId>, right: &List<NameId>) -> bool
     left.as_slice() == right.as_slice()
 }
 
-// Whether two nodes do the same, whatever follows them.
-fn have_same_head(left: &CodeNode, right: &CodeNode) -> bool
+/// Whether two nodes do the same, whatever follows them.
+pub fn have_same_head(left: &CodeNode, right: &CodeNode) -> bool
     ensures { IsTrue result ↔ (head_of left.now ≡ head_of right.now) }
 {
     use CodeNode::*;
@@ -65,8 +65,8 @@ fn have_same_head(left: &CodeNode, right: &CodeNode) -> bool
     }
 }
 
-// The node after an action.
-fn next_of(node: &CodeNode) -> Option<CodeId>
+/// The node after an action.
+pub fn next_of(node: &CodeNode) -> Option<CodeId>
     ensures { result ≡ next_of node.now }
 {
     use CodeNode::*;
@@ -85,11 +85,12 @@ fn next_of(node: &CodeNode) -> Option<CodeId>
 }
 
 impl Code {
-    // The node of a number: the tree there is made of the trees of those that follow it.
-    fn node_at(&self, id: CodeId) -> &CodeNode
+    /// The node of a number: the tree there is made of the trees of those that follow it.
+    pub fn node_at(&self, id: CodeId) -> &CodeNode
         requires { id.0 < length self.now.nodes }
         ensures tree { code_at self.now.nodes id ≡ node_tree (trees_of self.now.nodes) result.now }
         ensures below { All (λ c. c.0 < length self.now.nodes) (children_of result.now) }
+        ensures before { All (λ c. c.0 < id.0) (children_of result.now) }
     {
         self.nodes.at(id.0 as usize)
     }
@@ -135,10 +136,12 @@ impl Code {
         requires ps { All (λ arm. arm.1.0 < length self.now.nodes) ps.now }
         ensures { IsTrue result ↔ AreAbove (arms_in (trees_of self.now.nodes) qs.now) (arms_in (trees_of self.now.nodes) ps.now) }
     {
-        match ps {
-            [] => true,
-            [(label, p), rest @ ..] => self.has_above(qs, *label, *p) && self.are_above(qs, rest),
+        for arm in ps {
+            if !self.has_above(qs, arm.0, arm.1) {
+                return false;
+            }
         }
+        true
     }
 
     // Whether an arm of qs has this label, and code above p.
@@ -148,38 +151,21 @@ impl Code {
         requires p { p.0 < length self.now.nodes }
         ensures { IsTrue result ↔ HasAbove (arms_in (trees_of self.now.nodes) qs.now) label (code_at self.now.nodes p) }
     {
-        match qs {
-            [] => false,
-            [(other, q), rest @ ..] => {
-                self.has_above(rest, label, p) || (*other == label && self.is_above(*q, p))
+        for arm in qs {
+            if self.is_arm_above(*arm, label, p) {
+                return true;
             }
         }
+        false
     }
-}
 
-#[cfg(test)]
-mod tests {
-    use super::*;
-    use std::test::Fail;
-
-    // An arm more is above; the order of arms doesn't count.
-    #[test]
-    fn more_arms_are_above(rt: HostRuntime) -> Result<(), Fail> {
-        let alloc = rt.alloc();
-        let (session, from) = (NameId(0), NameId(1));
-        let (ok, ko) = (NameId(2), NameId(3));
-        let mut code = Code::new(alloc);
-        let end = code.push(CodeNode::End)?;
-        let one = List::from_vec([(ok, end)].to_vec(alloc)?);
-        let one = code.push(CodeNode::Branch(session, from, one))?;
-        let two = List::from_vec([(ok, end), (ko, end)].to_vec(alloc)?);
-        let two = code.push(CodeNode::Branch(session, from, two))?;
-        let turned = List::from_vec([(ko, end), (ok, end)].to_vec(alloc)?);
-        let turned = code.push(CodeNode::Branch(session, from, turned))?;
-        assert!(rt; code.is_above(two, one));
-        assert!(rt; !code.is_above(one, two));
-        assert!(rt; code.is_above(two, turned));
-        assert!(rt; code.is_above(turned, two));
-        Ok(())
+    // Whether an arm has this label, and code above p.
+    #[cycle(above)]
+    fn is_arm_above(&self, arm: (NameId, CodeId), label: NameId, p: CodeId) -> bool
+        requires arm { arm.1.0 < length self.now.nodes }
+        requires p { p.0 < length self.now.nodes }
+        ensures { IsTrue result ↔ ((arm.0 ≡ label) × IsAbove (code_at self.now.nodes arm.1) (code_at self.now.nodes p)) }
+    {
+        arm.0 == label && self.is_above(arm.1, p)
     }
 }

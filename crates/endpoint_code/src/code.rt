@@ -74,28 +74,3 @@ impl Code {
         Ok(CodeId(number))
     }
 }
-
-#[cfg(test)]
-mod tests {
-    use super::*;
-    use chor_base::Value;
-    use std::test::Fail;
-
-    #[test]
-    fn an_offer_of_two_labels(rt: HostRuntime) -> Result<(), Fail> {
-        let alloc = rt.alloc();
-        let mut code = Code::new(alloc);
-        let ended = code.push(CodeNode::End)?;
-        let shown = code.push(CodeNode::Show(Expr::Lit(Value::Int(1)), ended))?;
-        let mut arms = List::new(alloc);
-        arms.push((NameId(2), ended))?;
-        arms.push((NameId(3), shown))?;
-        let offer = code.push(CodeNode::Branch(NameId(0), NameId(1), arms))?;
-        let root = code.push(CodeNode::Join(NameId(4), NameId(5), NameId(0), offer))?;
-        assert!(rt; ended == CodeId(0));
-        assert!(rt; offer == CodeId(2));
-        assert!(rt; root == CodeId(3));
-        assert_eq!(rt; code.nodes.len(), 4);
-        Ok(())
-    }
-}

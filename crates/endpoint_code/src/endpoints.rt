@@ -1,6 +1,7 @@
 //! Whole endpoint programs.
 
 ghost use Rattle.endpoint_code.specs.Bodies.{AreInside};
+ghost use Rattle.endpoint_code.specs.Kept.{AreNumbered};
 
 use crate::code::{Code, CodeId};
 use chor_base::{List, NameId, Names, Texts};
@@ -50,4 +51,5 @@ pub struct Endpoints {
     pub processes: List<Process>,
     pub code: Code,
     ghost inside: { AreInside code.nodes procedures services processes },
+    ghost numbered: { AreNumbered names texts channels procedures services processes code.nodes },
 }

@@ -5,8 +5,6 @@ mod arms;
 mod code;
 mod laws;
 mod print;
-#[cfg(test)]
-mod tests;
 mod words;
 
 pub use laws::labels_ascend;

@@ -1,12 +1,9 @@
 -- The faults of a file's protocols (rules G1 to G3), each with its place.
-use Rattle.std.specs.Prelude.{ℕ, ◌≡◌, ◌==◌, ◌&&◌, ◌||◌, Bool, false, List, [], ◌∷◌, ◌++◌, Option, Some, None, nat_lt, is_some, if◌then◌else◌}
+use Rattle.std.specs.Prelude.{◌==◌, not, List, [], ◌++◌, Option, Some, None, is_some}
 use Rattle.std.specs.List.{flat_map, list_any}
-use Rattle.chor_base.specs.declared.names.NameId.{NameId}
-use Rattle.chor_base.specs.declared.rule.Rule.{Rule}
+use Rattle.chor_base.specs.declared.fault.Fault.{Fault}
 use Rattle.chor_base.specs.declared.rule.Rule.TheVariants.{G1, G2, G3}
-use Rattle.chor_base.specs.declared.rule.Place.{Place}
-use Rattle.chor_base.specs.declared.rule.Denied.{Denied}
-use Rattle.chor_base.specs.declared.rule.Denied.TheVariants.{Refused, Memory}
+use Rattle.chor_base.specs.Faults.{fault_if}
 use Rattle.chor_tree.specs.declared.file.Named.{Named}
 use Rattle.chor_tree.specs.declared.file.File.{File}
 use Rattle.chor_tree.specs.declared.file.Proc.{Proc}
@@ -14,22 +11,14 @@ use Rattle.chor_tree.specs.declared.protocol.Payload.{Payload}
 use Rattle.chor_tree.specs.declared.protocol.Payload.TheVariants.{Plain, Endpoint}
 use Rattle.chor_tree.specs.declared.protocol.ProtoStep.{ProtoStep}
 use Rattle.chor_tree.specs.declared.protocol.ProtoStep.TheVariants.{End, Value, Choice}
-use Rattle.chor_tree.specs.declared.protocol.Protocol.{Protocol}
+use Rattle.chor_tree.specs.Protocols.{Protocol}
 use Rattle.chor_tree.specs.declared.protocol.State.{State}
-use Rattle.global_types.specs.declared.fault.Fault.{Fault}
-use Rattle.global_types.specs.Moves.{IsIn, state_named, is_named}
-
-abbrev pub fault : Rule → Place → Fault
-fault r p = record { rule = r; place = p }
+use Rattle.chor_tree.specs.Names.{protocol_named}
+use Rattle.global_types.specs.Moves.{state_named, is_named}
 
 -- G1, at a name that none of these states has
 abbrev pub unknown_state : List State → Named → List Fault
-unknown_state ss n = if is_some (state_named ss n.name) then [] else fault G1 n.place ∷ []
-
--- the first protocol of that name
-abbrev pub protocol_named : List Protocol → NameId → Option Protocol
-protocol_named [] n = None
-protocol_named (p ∷ ps) n = if p.name.name.0 == n.0 then Some p else protocol_named ps n
+unknown_state ss n = fault_if (not (is_some (state_named ss n.name))) G1 n.place
 
 -- G1, at a state that is told with its protocol; where there is no such protocol, there is no fault of this rule
 abbrev pub unknown_state_in : Option Protocol → Named → List Fault
@@ -42,7 +31,7 @@ payload_faults ps (Endpoint q s r) = unknown_state_in (protocol_named ps q.name)
 
 -- G2, at a receiver that is the sender
 abbrev pub own_receiver : Named → Named → List Fault
-own_receiver a b = if a.name.0 == b.name.0 then fault G2 b.place ∷ [] else []
+own_receiver a b = fault_if (a.name.0 == b.name.0) G2 b.place
 
 abbrev pub step_faults : List Protocol → List State → ProtoStep → List Fault
 step_faults ps ss End = []
@@ -51,7 +40,7 @@ step_faults ps ss (Choice a b arms) = own_receiver a b ++ flat_map (λ arm. unkn
 
 -- G3, at a role that no step names
 abbrev pub unused_role : List State → Named → List Fault
-unused_role ss r = if list_any (λ s. is_named r.name s.step) ss then [] else fault G3 r.place ∷ []
+unused_role ss r = fault_if (not (list_any (λ s. is_named r.name s.step) ss)) G3 r.place
 
 abbrev pub protocol_faults : List Protocol → Protocol → List Fault
 protocol_faults ps p = flat_map (unused_role p.states) p.roles ++ flat_map (λ s. step_faults ps p.states s.step) p.states
@@ -62,28 +51,3 @@ procedure_faults ps f = flat_map (λ k. unknown_state_in (protocol_named ps k.pr
 -- All faults of the protocols of a file, and of what its procedures say of them
 abbrev pub faults_of : File → List Fault
 faults_of f = flat_map (protocol_faults f.protocols) f.protocols ++ flat_map (procedure_faults f.protocols) f.procs
-
--- ---- the first of them
-
-abbrev pub rank : Rule → ℕ
-rank G1 = 1
-rank G2 = 2
-rank _ = 3
-
--- whether a fault comes before another: at an earlier place, or at the same place by a rule of smaller number
-abbrev pub comes_before : Fault → Fault → Bool
-comes_before x y =
-    nat_lt x.place.line y.place.line
-    || ((x.place.line == y.place.line)
-    && (nat_lt x.place.col y.place.col
-    || ((x.place.col == y.place.col) && nat_lt (rank x.rule) (rank y.rule))))
-
--- x is among these faults, and none comes before it
-pub record IsFirst (xs : List Fault) (x : Fault) : Type 0 where
-  pub among : IsIn x xs
-  pub first : (y : Fault) → IsIn y xs → comes_before y x ≡ false
-
--- the answer where a fault is there: the first of all, with no name
-abbrev pub IsDenial : File → Denied → Type 0
-IsDenial f (Refused r) = IsFirst (faults_of f) (fault r.rule r.place) × (r.who ≡ None)
-IsDenial f Memory = ⊥

@@ -2,4 +2,3 @@ pub mod Moves
 pub mod Paths
 pub mod Views
 pub mod Faults
-pub mod First

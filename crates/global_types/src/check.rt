@@ -1,23 +1,24 @@
 //! The rules that protocols keep, in themselves and where procedures speak of them.
 
-ghost use Rattle.std.specs.Prelude.{◌≡◌, [], OnOk, IfErr};
+ghost use Rattle.std.specs.Prelude.{◌≡◌, ◌≢◌, [], OnOk, IfErr, Contains};
 ghost use Rattle.std.specs.List.{flat_map};
-ghost use Rattle.global_types.specs.Faults.{unknown_state, unknown_state_in, protocol_named, payload_faults, own_receiver, step_faults, unused_role, protocol_faults, procedure_faults, faults_of, IsDenial};
-ghost use Rattle.global_types.specs.First.{first_of_all};
+ghost use Rattle.chor_tree.specs.Names.{protocol_named};
+ghost use Rattle.global_types.specs.Faults.{unknown_state, unknown_state_in, payload_faults, own_receiver, step_faults, unused_role, protocol_faults, procedure_faults, faults_of};
+ghost use Rattle.chor_base.specs.Faults.{first_of_all, IsDenial};
 ghost use Rattle.global_types.specs.Moves.{state_named};
 
-use crate::fault::{Fault, earlier, fault_if};
 use crate::states::{has_state, is_used};
-use chor_base::{Denied, NameId, Refusal, Rule};
+use chor_base::{Denied, Fault, NameId, Rule, earlier, fault_if};
 use chor_tree::{File, Named, Payload, Proc, ProtoArm, ProtoStep, Protocol, SessionParam, State};
 
 /// Checks the protocols of a file. A state that isn't there is refused by G1, a receiver that is
 /// the sender by G2, and a role that no step names by G3; the first fault of the file decides. It
 /// takes no memory.
-#[tactic(auto, using(crate::proofs::Firsts::first_append, crate::proofs::Firsts::none_is_empty, crate::proofs::Firsts::first_is_first))]
+#[tactic(auto, using(chor_base::proofs::Faults::first_append, chor_base::proofs::Faults::none_is_empty, chor_base::proofs::Faults::first_is_first))]
 pub fn check_protocols(file: &File) -> Result<(), Denied>
     ensures ok { OnOk result (faults_of file.now ≡ []) }
-    ensures refused { IfErr result (IsDenial file.now) }
+    ensures refused { IfErr result (IsDenial (Contains (faults_of file.now))) }
+    ensures decided { result ≢ Err Denied.Memory }
 {
     let protocols = file.protocols.as_slice();
     let first = earlier(
@@ -26,15 +27,11 @@ pub fn check_protocols(file: &File) -> Result<(), Denied>
     );
     match first {
         None => Ok(()),
-        Some(fault) => Err(Denied::Refused(Refusal {
-            rule: fault.rule,
-            place: fault.place,
-            who: None,
-        })),
+        Some(fault) => Err(fault.denied()),
     }
 }
 
-#[tactic(auto, using(crate::proofs::Firsts::earlier_none))]
+#[tactic(auto, using(chor_base::proofs::Faults::earlier_none))]
 fn first_in_protocols(protocols: &[Protocol]) -> Option<Fault>
     ensures { result ≡ first_of_all (flat_map (protocol_faults protocols.now) protocols.now) }
 {
@@ -45,7 +42,7 @@ fn first_in_protocols(protocols: &[Protocol]) -> Option<Fault>
     first
 }
 
-#[tactic(auto, using(crate::proofs::Firsts::earlier_none))]
+#[tactic(auto, using(chor_base::proofs::Faults::earlier_none))]
 fn first_in_procedures(protocols: &[Protocol], procs: &[Proc]) -> Option<Fault>
     ensures { result ≡ first_of_all (flat_map (procedure_faults protocols.now) procs.now) }
 {
@@ -59,7 +56,7 @@ fn first_in_procedures(protocols: &[Protocol], procs: &[Proc]) -> Option<Fault>
     first
 }
 
-#[tactic(auto, using(crate::proofs::Firsts::first_append))]
+#[tactic(auto, using(chor_base::proofs::Faults::first_append))]
 fn first_in_protocol(protocols: &[Protocol], protocol: &Protocol) -> Option<Fault>
     ensures { result ≡ first_of_all (protocol_faults protocols.now protocol.now) }
 {
@@ -70,7 +67,7 @@ fn first_in_protocol(protocols: &[Protocol], protocol: &Protocol) -> Option<Faul
     )
 }
 
-#[tactic(auto, using(crate::proofs::Firsts::earlier_none))]
+#[tactic(auto, using(chor_base::proofs::Faults::earlier_none))]
 fn first_in_roles(states: &[State], roles: &[Named]) -> Option<Fault>
     ensures { result ≡ first_of_all (flat_map (unused_role states.now) roles.now) }
 {
@@ -81,7 +78,7 @@ fn first_in_roles(states: &[State], roles: &[Named]) -> Option<Fault>
     first
 }
 
-#[tactic(auto, using(crate::proofs::Firsts::earlier_none))]
+#[tactic(auto, using(chor_base::proofs::Faults::earlier_none))]
 fn first_in_states(protocols: &[Protocol], states: &[State]) -> Option<Fault>
     ensures { result ≡ first_of_all (flat_map (λ s. step_faults protocols.now states.now s.step) states.now) }
 {
@@ -92,7 +89,7 @@ fn first_in_states(protocols: &[Protocol], states: &[State]) -> Option<Fault>
     first
 }
 
-#[tactic(auto, using(crate::proofs::Firsts::first_append))]
+#[tactic(auto, using(chor_base::proofs::Faults::first_append))]
 fn first_in_step(protocols: &[Protocol], states: &[State], step: &ProtoStep) -> Option<Fault>
     ensures { result ≡ first_of_all (step_faults protocols.now states.now step.now) }
 {
@@ -117,7 +114,7 @@ fn first_in_step(protocols: &[Protocol], states: &[State], step: &ProtoStep) -> 
     }
 }
 
-#[tactic(auto, using(crate::proofs::Firsts::earlier_none))]
+#[tactic(auto, using(chor_base::proofs::Faults::earlier_none))]
 fn first_in_arms(states: &[State], arms: &[ProtoArm]) -> Option<Fault>
     ensures { result ≡ first_of_all (flat_map (λ arm. unknown_state states.now arm.next) arms.now) }
 {
@@ -141,7 +138,7 @@ fn first_in_payload(protocols: &[Protocol], payload: &Payload) -> Option<Fault>
     }
 }
 
-#[tactic(auto, using(crate::proofs::Firsts::earlier_none))]
+#[tactic(auto, using(chor_base::proofs::Faults::earlier_none))]
 fn first_in_sessions(protocols: &[Protocol], sessions: &[SessionParam]) -> Option<Fault>
     ensures { result ≡ first_of_all (flat_map (λ k. unknown_state_in (protocol_named protocols.now k.protocol.name) k.state) sessions.now) }
 {

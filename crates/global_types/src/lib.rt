@@ -2,10 +2,7 @@
 #![tactic(auto)]
 
 mod check;
-mod fault;
 mod states;
-#[cfg(test)]
-mod tests;
 
 pub use check::check_protocols;
 pub use states::{is_named, step_at};

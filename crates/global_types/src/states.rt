@@ -10,13 +10,13 @@ use chor_tree::{ProtoStep, Protocol, State};
 /// The place of the first state of a name in its protocol, counted from 0.
 #[tactic(auto, using(crate::proofs::Names::later_one, crate::proofs::Names::later_none))]
 pub fn step_at(protocol: &Protocol, state: NameId) -> Option<u32>
-    requires { length protocol.now.states ≤ 2 ^ 32 }
     ensures { result ≡ state_named protocol.now.states state }
 {
+    let count = protocol.states.count();
     let states = protocol.states.as_slice();
-    for (index, candidate) in states.iter().enumerate() {
-        if candidate.name.name == state {
-            return Some(index as u32);
+    for index in 0..count {
+        if states[index as usize].name.name == state {
+            return Some(index);
         }
     }
     None

@@ -1,5 +1,5 @@
--- Words in ascending order.
-use Rattle.std.proofs.Common.{ℕ, ◌≡◌, ◌+◌, ◌<◌, List, [], ◌∷◌, ◌++◌, map, Bool, false, ap, sym, subst, ◌∙◌, arith, inl, inr, suc, length, drop, append_assoc}
+-- Words in ascending order, and acts that are apart.
+use Rattle.std.proofs.Common.{ℕ, ◌≡◌, ◌≢◌, ◌+◌, ◌<◌, List, [], ◌∷◌, ◌++◌, map, Bool, false, ap, sym, subst, ◌∙◌, arith, inl, inr, suc, length, drop, append_assoc}
 use Rattle.std.specs.Prelude.{◌⊎◌, slice_index_or}
 use denote.Ref.{Bor}
 use denote.Param.Members.{Mut}
@@ -16,8 +16,12 @@ use Rattle.global_types.specs.Moves.{IsIn}
 use Rattle.local_types.specs.declared.graph.Group.{Group}
 use Rattle.local_types.specs.declared.table.Arm.{Arm}
 use Rattle.local_types.specs.Reading.{Ascend}
-use Rattle.local_types.specs.Table.{act_word, group_words, arm_words}
+use Rattle.local_types.specs.declared.act.Act.{Act}
+use Rattle.local_types.specs.Moves.{action_of}
+use Rattle.local_types.specs.Graph.{AreApart, group_acts}
+use Rattle.local_types.specs.Table.{act_word, group_words, arm_acts, arm_words}
 use Rattle.local_types.proofs.Lists.{in_left, in_right, in_either, in_map_back}
+use Rattle.local_types.proofs.Pairs.{pairs_without, pairs_front}
 
 -- ---- after a sort
 
@@ -51,7 +55,7 @@ module _ {A : Type 0} (word : A → List ℕ) where
       → Ascend (map word xs)
   ascend_from_sort {g = g} {f = f} xs up h = ascend_sorted xs (up less order (always_returns_same g (λ a r. is_lt r ≡ is_lt (slice_cmp nat_cmp (word a.0.now) (word a.1.0.now))) f (λ a r f' k. (ap is_lt (h a r f' k).0, (h a r f' k).1))))
 
--- ---- some of the words
+-- ---- the arms of some groups, in their order
 
 ascend_without : (xs : List (List ℕ)) (w : List ℕ) (ys : List (List ℕ)) → Ascend (xs ++ w ∷ ys) → Ascend (xs ++ ys)
 ascend_without [] w ys up = up.1
@@ -61,31 +65,55 @@ ascend_without (x ∷ xs) w ys up = ((λ v m. up.0 v (more v (in_either v xs ys 
     more v (inl m) = in_left v xs (w ∷ ys) m
     more v (inr m) = in_right v xs (w ∷ ys) (inr m)
 
+ascend_front : (xs ys : List (List ℕ)) → Ascend (xs ++ ys) → Ascend xs
+ascend_front [] ys up = tt
+ascend_front (x ∷ xs) ys up = ((λ v m. up.0 v (in_left v xs ys m)), ascend_front xs ys up.1)
+
+-- B is what an act is seen as, and what P says of a list stays true where an item is left out
+module _ {B : Type 0} (f : Act → B) (P : List B → Type 0) where
+  kept_in : (gs : List Group) (i : ℕ) (g : Group) (arms : List Arm) (arm : Arm) → i < length gs → g ≡ slice_index_or gs i g → arm.act ≡ g.act
+      → P (map (λ x. f x.act) arms ++ map (λ k. f k.act) (drop i gs)) → P (map (λ x. f x.act) (arms ++ arm ∷ []) ++ map (λ k. f k.act) (drop (i + 1) gs))
+  kept_in gs i g arms arm h is act kept = subst P (front ∙ back) kept
+    where
+      rest : List B
+      rest = map (λ (k : Group). f k.act) (drop (i + 1) gs)
+
+      done : List B
+      done = map (λ (x : Arm). f x.act) arms
+
+      front : done ++ map (λ (k : Group). f k.act) (drop i gs) ≡ done ++ f arm.act ∷ rest
+      front = ap (λ l. done ++ map (λ (k : Group). f k.act) l) (drop_more gs i g h) ∙ ap (λ (v : Group). done ++ f v.act ∷ rest) (sym is) ∙ ap (λ b. done ++ f b ∷ rest) (sym act)
+
+      back : done ++ f arm.act ∷ rest ≡ map (λ (x : Arm). f x.act) (arms ++ arm ∷ []) ++ rest
+      back = sym (append_assoc done (f arm.act ∷ []) rest) ∙ ap (λ l. l ++ rest) (sym (map-append (λ (x : Arm). f x.act) arms (arm ∷ [])))
+
+  kept_out : ((xs : List B) (w : B) (ys : List B) → P (xs ++ w ∷ ys) → P (xs ++ ys)) → (gs : List Group) (i : ℕ) (g : Group) (arms : List Arm) → i < length gs
+      → P (map (λ x. f x.act) arms ++ map (λ k. f k.act) (drop i gs)) → P (map (λ x. f x.act) arms ++ map (λ k. f k.act) (drop (i + 1) gs))
+  kept_out without gs i g arms h kept =
+      without (map (λ (x : Arm). f x.act) arms) (f (slice_index_or gs i g).act) (map (λ (k : Group). f k.act) (drop (i + 1) gs))
+      (subst P (ap (λ l. map (λ (x : Arm). f x.act) arms ++ map (λ (k : Group). f k.act) l) (drop_more gs i g h)) kept)
+
 pub arms_ascend_begin : (names : List (List ℕ)) (gs : List Group) → Ascend (group_words names gs) → Ascend (arm_words names [] ++ group_words names (drop 0 gs))
 arms_ascend_begin names gs up = up
 
 pub arms_ascend_in : (names : List (List ℕ)) (gs : List Group) (i : ℕ) (g : Group) (arms : List Arm) (arm : Arm) → i < length gs → g ≡ slice_index_or gs i g → arm.act ≡ g.act
     → Ascend (arm_words names arms ++ group_words names (drop i gs)) → Ascend (arm_words names (arms ++ arm ∷ []) ++ group_words names (drop (i + 1) gs))
-arms_ascend_in names gs i g arms arm h is act up = subst Ascend (front ∙ back) up
-  where
-    rest : List (List ℕ)
-    rest = group_words names (drop (i + 1) gs)
-
-    front : arm_words names arms ++ group_words names (drop i gs) ≡ arm_words names arms ++ act_word names arm.act ∷ rest
-    front = ap (λ l. arm_words names arms ++ group_words names l) (drop_more gs i g h) ∙ ap (λ (v : Group). arm_words names arms ++ act_word names v.act ∷ rest) (sym is) ∙ ap (λ b. arm_words names arms ++ act_word names b ∷ rest) (sym act)
-
-    back : arm_words names arms ++ act_word names arm.act ∷ rest ≡ arm_words names (arms ++ arm ∷ []) ++ rest
-    back = sym (append_assoc (arm_words names arms) (act_word names arm.act ∷ []) rest) ∙ ap (λ l. l ++ rest) (sym (map-append (λ (x : Arm). act_word names x.act) arms (arm ∷ [])))
+arms_ascend_in names gs i g arms arm h is act up = kept_in (act_word names) Ascend gs i g arms arm h is act up
 
 pub arms_ascend_out : (names : List (List ℕ)) (gs : List Group) (i : ℕ) (g : Group) (arms : List Arm) → i < length gs
     → Ascend (arm_words names arms ++ group_words names (drop i gs)) → Ascend (arm_words names arms ++ group_words names (drop (i + 1) gs))
-arms_ascend_out names gs i g arms h up =
-    ascend_without (arm_words names arms) (act_word names (slice_index_or gs i g).act) (group_words names (drop (i + 1) gs))
-    (subst Ascend (ap (λ l. arm_words names arms ++ group_words names l) (drop_more gs i g h)) up)
-
-ascend_front : (xs ys : List (List ℕ)) → Ascend (xs ++ ys) → Ascend xs
-ascend_front [] ys up = tt
-ascend_front (x ∷ xs) ys up = ((λ v m. up.0 v (in_left v xs ys m)), ascend_front xs ys up.1)
+arms_ascend_out names gs i g arms h up = kept_out (act_word names) Ascend ascend_without gs i g arms h up
 
 pub arms_ascend_end : (names : List (List ℕ)) (gs : List Group) (i : ℕ) (arms : List Arm) → Ascend (arm_words names arms ++ group_words names (drop i gs)) → Ascend (arm_words names arms)
 arms_ascend_end names gs i arms up = ascend_front (arm_words names arms) (group_words names (drop i gs)) up
+
+pub arms_apart_in : (gs : List Group) (i : ℕ) (g : Group) (arms : List Arm) (arm : Arm) → i < length gs → g ≡ slice_index_or gs i g → arm.act ≡ g.act
+    → AreApart (arm_acts arms ++ group_acts (drop i gs)) → AreApart (arm_acts (arms ++ arm ∷ []) ++ group_acts (drop (i + 1) gs))
+arms_apart_in gs i g arms arm h is act apart = kept_in (λ a. a) AreApart gs i g arms arm h is act apart
+
+pub arms_apart_out : (gs : List Group) (i : ℕ) (g : Group) (arms : List Arm) → i < length gs
+    → AreApart (arm_acts arms ++ group_acts (drop i gs)) → AreApart (arm_acts arms ++ group_acts (drop (i + 1) gs))
+arms_apart_out gs i g arms h apart = kept_out (λ a. a) AreApart (λ xs w ys. pairs_without (λ a b. action_of a ≢ action_of b) xs w ys) gs i g arms h apart
+
+pub arms_apart_end : (gs : List Group) (i : ℕ) (arms : List Arm) → AreApart (arm_acts arms ++ group_acts (drop i gs)) → AreApart (arm_acts arms)
+arms_apart_end gs i arms apart = pairs_front (λ a b. action_of a ≢ action_of b) (arm_acts arms) (group_acts (drop i gs)) apart

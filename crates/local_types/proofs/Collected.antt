@@ -160,6 +160,7 @@ acts_are ss r ms gs moves groups = record {
   sound = λ g among e m. sound_at g e ((groups.edges g among).sound e m);
   whole = λ g among e x l d. (groups.edges g among).complete e (whole_at g e x l d);
   covers = λ i j x a l d. covers_at i j x a l d;
+  apart = groups.apart;
 }
   where
     sound_at : (g : Group) (e : Edge) → HasMove ms e.from (action_of g.act ∷ []) e.to → (x : Exchange) × Leads ss e.from x e.to × (action_in r x ≡ action_of g.act ∷ [])

@@ -23,7 +23,7 @@ counts_append c d e [] ys h k = subst (λ m. Counts m ys e) (sym h) k
 counts_append c d e (x ∷ xs) ys (inl h) k = inl (h.0, counts_append c d e xs ys h.1 k)
 counts_append c d e (x ∷ xs) ys (inr h) k = inr (h.0, counts_append (suc c) d e xs ys h.1 k)
 
-counts_split : (c e : ℕ) (xs ys : List ℕ) → Counts c (xs ++ ys) e → (d : ℕ) × Counts c xs d × Counts d ys e
+pub counts_split : (c e : ℕ) (xs ys : List ℕ) → Counts c (xs ++ ys) e → (d : ℕ) × Counts c xs d × Counts d ys e
 counts_split c e [] ys h = (c, refl, h)
 counts_split c e (x ∷ xs) ys (inl h) = let p = counts_split c e xs ys h.1 in (p.0, inl (h.0, p.1), p.2)
 counts_split c e (x ∷ xs) ys (inr h) = let p = counts_split (suc c) e xs ys h.1 in (p.0, inr (h.0, p.1), p.2)

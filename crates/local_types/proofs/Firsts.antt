@@ -7,7 +7,7 @@ use Rattle.std.proofs.lemmas.Bool.Decides.{nat_tests}
 use Rattle.chor_base.specs.declared.rule.Denied.{Denied}
 use Rattle.chor_base.specs.declared.rule.Denied.TheVariants.{Refused, Memory}
 use Rattle.chor_tree.specs.declared.file.Named.{Named}
-use Rattle.chor_tree.specs.declared.protocol.Protocol.{Protocol}
+use Rattle.chor_tree.specs.Protocols.{Protocol}
 use Rattle.global_types.specs.Moves.{IsIn}
 use Rattle.global_types.specs.Views.{HasNoViewFault}
 use Rattle.local_types.specs.Reading.{role_place, IsRefusal, HasFineRoles, IsFirstRole, IsFirstRefusal}

@@ -1,7 +1,7 @@
 -- The acts of a role and their edges, found move by move.
 use Rattle.std.proofs.Common.{ℕ, ◌≡◌, ◌+◌, ◌<◌, ◌≤◌, List, [], ◌∷◌, ◌++◌, Bool, true, false, refl, ap, sym, subst, ◌∙◌, inl, inr, length, take}
 use Rattle.std.specs.Prelude.{◌⊎◌, Some, slice_index_or, slice_set, MatchBool}
-use Rattle.std.proofs.lemmas.List.{take_all}
+use Rattle.std.proofs.lemmas.List.{take_all, take_more, map-append}
 use Rattle.global_types.specs.Moves.{IsIn}
 use Rattle.global_types.specs.Paths.{Action}
 use Rattle.local_types.specs.declared.act.Act.{Act}
@@ -10,19 +10,19 @@ use Rattle.local_types.specs.declared.graph.Group.{Group}
 use Rattle.local_types.specs.declared.moves.Move.{Move}
 use Rattle.local_types.specs.Moves.{action_of, actions_in}
 use Rattle.local_types.specs.Sets.{IsSetFor}
-use Rattle.local_types.specs.Graph.{HasMove, AreEdges, Covers, IsActOf, AreActsOf, AreGroups, AreWithin}
+use Rattle.local_types.specs.Graph.{HasMove, AreEdges, Knows, AreApart, Covers, IsActOf, AreActsOf, group_acts, AreGroups, AreWithin}
 use Rattle.std.proofs.lemmas.Option.{slice_get-get_or}
-use Rattle.local_types.proofs.Lists.{in_of_at, in_more, in_kept, in_new, in_push, in_left, in_last}
+use Rattle.local_types.proofs.Lists.{in_of_at, in_more, in_kept, in_new, in_push, in_left, in_last, in_map, in_map_back}
 use Rattle.local_types.proofs.Sets.{set_put, set_same}
 
 -- ---- acts
 
 pub covers_more : (ms : List Move) (i : ℕ) (d : Move) (old new : List Act) → i < length ms → Covers (take i ms) old
     → ((b : Act) → IsIn b old → IsIn b new)
-    → ((a : Act) → (slice_index_or ms i d).act ≡ Some a → (b : Act) × IsIn b new × (action_of b ≡ action_of a))
+    → ((a : Act) → (slice_index_or ms i d).act ≡ Some a → Knows new a)
     → Covers (take (i + 1) ms) new
 covers_more ms i d old new h was kept added m a among is = go (in_more m ms i d h among) where
-  go : IsIn m (take i ms) ⊎ (slice_index_or ms i d ≡ m) → (b : Act) × IsIn b new × (action_of b ≡ action_of a)
+  go : IsIn m (take i ms) ⊎ (slice_index_or ms i d ≡ m) → Knows new a
   go (inl o) = let p = was m a o is in (p.0, kept p.0 p.1, p.2)
   go (inr e) = added a (ap (λ (v : Move). v.act) e ∙ is)
 
@@ -36,11 +36,6 @@ own_more ms i d old new h was added b among = go (added b among) where
   go : IsIn b old ⊎ ((slice_index_or ms i d).act ≡ Some b) → IsActOf ms b
   go (inl o) = was b o
   go (inr e) = (slice_index_or ms i d, in_of_at (slice_index_or ms i d) ms i (slice_get-get_or ms i d h), e)
-
-pub added_known : (acts : List Act) (act : Act) (b : Bool) → MatchBool b ((k : Act) × IsIn k acts × (action_of k ≡ action_of act)) (Unit {0}) → b ≡ true
-    → (a : Act) → Some act ≡ Some a → (k : Act) × IsIn k acts × (action_of k ≡ action_of a)
-added_known acts act true m e a is = let same : act ≡ a = cc in (m.0, m.1, m.2 ∙ ap action_of same)
-added_known acts act false m e a is = absurd (cc)
 
 -- ---- moves in a front
 
@@ -156,39 +151,32 @@ direct_whole n ms i s marks h was = subst (λ l. IsSetFor n (λ j. (s ≡ j) ⊎
 
 pub groups_more : (ms : List Move) (acts : List Act) (i : ℕ) (d : Act) (old new : List Group) (g : Group) → i < length acts
     → ((k : Group) → IsIn k old → AreEdges ms (action_of k.act) k.edges.items)
-    → ((k : Group) → IsIn k old → IsIn k.act acts)
-    → ((a : Act) → IsIn a (take i acts) → (k : Group) × IsIn k old × (k.act ≡ a))
+    → group_acts old ≡ take i acts
     → g.act ≡ slice_index_or acts i d → AreEdges ms (action_of g.act) g.edges.items
     → new ≡ old ++ g ∷ []
-    → record { edges : (k : Group) → IsIn k new → AreEdges ms (action_of k.act) k.edges.items; among : (k : Group) → IsIn k new → IsIn k.act acts; covers : (a : Act) → IsIn a (take (i + 1) acts) → (k : Group) × IsIn k new × (k.act ≡ a) }
-groups_more ms acts i d old new g h edges among covers act own is = rw is (record {
+    → record { edges : (k : Group) → IsIn k new → AreEdges ms (action_of k.act) k.edges.items; acts : group_acts new ≡ take (i + 1) acts }
+groups_more ms acts i d old new g h edges first act own is = rw is (record {
   edges = λ k o. edges_at k (in_push k g old o);
-  among = λ k o. among_at k (in_push k g old o);
-  covers = λ a o. covers_at a (in_more a acts i d h o);
+  acts = map-append (λ (k : Group). k.act) old (g ∷ []) ∙ ap (λ l. l ++ g.act ∷ []) first ∙ ap (λ b. take i acts ++ b ∷ []) act ∙ sym (take_more acts i d h);
 })
   where
     edges_at : (k : Group) → IsIn k old ⊎ (g ≡ k) → AreEdges ms (action_of k.act) k.edges.items
     edges_at k (inl o) = edges k o
     edges_at k (inr e) = subst (λ (v : Group). AreEdges ms (action_of v.act) v.edges.items) e own
 
-    among_at : (k : Group) → IsIn k old ⊎ (g ≡ k) → IsIn k.act acts
-    among_at k (inl o) = among k o
-    among_at k (inr e) = subst (λ (v : Group). IsIn v.act acts) e (subst (λ b. IsIn b acts) (sym act) (in_of_at (slice_index_or acts i d) acts i (slice_get-get_or acts i d h)))
-
-    covers_at : (a : Act) → IsIn a (take i acts) ⊎ (slice_index_or acts i d ≡ a) → (k : Group) × IsIn k (old ++ g ∷ []) × (k.act ≡ a)
-    covers_at a (inl o) = let p = covers a o in (p.0, in_left p.0 old (g ∷ []) p.1, p.2)
-    covers_at a (inr e) = (g, in_last g old, act ∙ e)
-
 pub groups_whole : (ms : List Move) (acts : List Act) (i : ℕ) (gs : List Group) → length acts ≤ i → AreActsOf ms acts
     → ((k : Group) → IsIn k gs → AreEdges ms (action_of k.act) k.edges.items)
-    → ((k : Group) → IsIn k gs → IsIn k.act acts)
-    → ((a : Act) → IsIn a (take i acts) → (k : Group) × IsIn k gs × (k.act ≡ a))
+    → group_acts gs ≡ take i acts
     → AreGroups ms gs
-groups_whole ms acts i gs h of edges among covers = record {
-  own = λ g o. of.own g.act (among g o);
+groups_whole ms acts i gs h of edges are = record {
+  own = λ g o. of.own g.act (subst (λ l. IsIn g.act l) all (in_map (λ (k : Group). k.act) g gs o));
   edges = edges;
-  covers = λ m a o is. let p = of.covers m a o is in let q = covers p.0 (subst (λ l. IsIn p.0 l) (sym (take_all i acts h)) p.1) in (q.0, q.1, ap action_of q.2 ∙ p.2);
+  covers = λ m a o is. let p = of.covers m a o is in let q = in_map_back (λ (k : Group). k.act) p.0 gs (subst (λ l. IsIn p.0 l) (sym all) p.1) in (q.0, q.1, ap action_of q.2 ∙ p.2);
+  apart = subst AreApart (sym all) of.apart;
 }
+  where
+    all : group_acts gs ≡ acts
+    all = are ∙ take_all i acts h
 
 -- ---- tests
 

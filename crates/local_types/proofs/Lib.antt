@@ -1,6 +1,7 @@
 pub mod Walks
 pub mod Sets
 pub mod Lists
+pub mod Pairs
 pub mod Silence
 pub mod Groups
 pub mod Tables
@@ -12,6 +13,7 @@ pub mod States
 pub mod Kin
 pub mod Readings
 pub mod Numbers
+pub mod Texts
 pub mod Counts
 pub mod Parts
 pub mod Ascents

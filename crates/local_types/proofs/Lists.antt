@@ -89,6 +89,13 @@ none_more P xs i x h is none not a among p = go (in_more a xs i x h among) where
   go (inl m) = none a m p
   go (inr e) = not (subst P (sym (is ∙ e)) p)
 
+-- the same, where the item is read at its place
+pub none_at : {A : Type 0} (P : A → Type 0) (xs : List A) (i : ℕ) (d : A) → i < length xs → ((a : A) → IsIn a (take i xs) → P a → ⊥) → (P (slice_index_or xs i d) → ⊥) → (a : A) → IsIn a (take (i + 1) xs) → P a → ⊥
+none_at P xs i d h none not a among p = go (in_more a xs i d h among) where
+  go : IsIn a (take i xs) ⊎ (slice_index_or xs i d ≡ a) → ⊥
+  go (inl m) = none a m p
+  go (inr e) = not (subst P (sym e) p)
+
 pub none_whole : {A : Type 0} (P : A → Type 0) (xs : List A) (i : ℕ) → length xs ≤ i → ((a : A) → IsIn a (take i xs) → P a → ⊥) → (a : A) → IsIn a xs → P a → ⊥
 none_whole {A} P xs i h none a among = none a (let Q : List A → Type 0 = λ l. IsIn a l in subst Q (sym (take_all i xs h)) among)
 

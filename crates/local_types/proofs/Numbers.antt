@@ -11,7 +11,7 @@ use Rattle.local_types.specs.Numbers.{AreMatched, IsCarriedOver}
 
 -- ---- lists of actions one after the other
 
-leads_append : (ts : List LocalState) (n m k : ℕ) (v w : List Action) → LeadsTo ts n v m → LeadsTo ts m w k → LeadsTo ts n (v ++ w) k
+pub leads_append : (ts : List LocalState) (n m k : ℕ) (v w : List Action) → LeadsTo ts n v m → LeadsTo ts m w k → LeadsTo ts n (v ++ w) k
 leads_append ts n m k [] w p q = subst (λ l. LeadsTo ts l w k) (sym p) q
 leads_append ts n m k (a ∷ v) w p q = (p.0, p.1, p.2, p.3, leads_append ts p.2 m k v w p.4 q)
 

@@ -1,12 +1,12 @@
 -- Moves cut into parts, so that acts are compared with few others.
-use Rattle.std.proofs.Common.{ℕ, ◌≡◌, ◌+◌, ◌<◌, ◌≤◌, List, [], ◌∷◌, ◌++◌, true, false, refl, ap, sym, subst, ◌∙◌, arith, inl, inr, length, take}
+use Rattle.std.proofs.Common.{ℕ, ◌≡◌, ◌≢◌, ◌+◌, ◌<◌, ◌≤◌, List, [], ◌∷◌, ◌++◌, true, false, refl, ap, sym, subst, ◌∙◌, arith, inl, inr, length, take}
 use Rattle.std.specs.Prelude.{◌⊎◌, ◌==◌, Option, Some, None, slice_index_or}
 use Rattle.std.specs.List.Sorted.{IsPermutation}
 use Rattle.std.proofs.lemmas.Bool.{cases_lt}
 use Rattle.std.proofs.lemmas.Bool.Decides.{nat_tests}
 use Rattle.std.proofs.lemmas.Nat.{mod_below}
-use Rattle.std.proofs.lemmas.List.{take_all}
-use Rattle.std.proofs.lemmas.List.Sorted.{IsPermutation-sym}
+use Rattle.std.proofs.lemmas.List.{take_all, map-append}
+use Rattle.std.proofs.lemmas.List.Sorted.{IsPermutation-sym, IsPermutation-map}
 use Rattle.global_types.specs.Moves.{IsIn}
 use Rattle.global_types.specs.Paths.{Action}
 use Rattle.local_types.specs.declared.act.Act.{Act}
@@ -15,8 +15,9 @@ use Rattle.local_types.specs.declared.graph.Edge.{Edge}
 use Rattle.local_types.specs.declared.graph.Group.{Group}
 use Rattle.local_types.specs.declared.moves.Move.{Move}
 use Rattle.local_types.specs.Moves.{action_of, actions_in}
-use Rattle.local_types.specs.Graph.{HasMove, AreEdges, IsActOf, AreGroups, part_number, falls, IsPart}
-use Rattle.local_types.proofs.Lists.{in_more, in_kept, in_new, in_push, in_left, in_right, in_either, in_last, in_permuted}
+use Rattle.local_types.specs.Graph.{HasMove, AreEdges, IsActOf, AreApart, group_acts, AreGroups, part_number, falls, IsPart}
+use Rattle.local_types.proofs.Lists.{in_more, in_kept, in_new, in_push, in_left, in_right, in_either, in_last, in_map_back, in_permuted}
+use Rattle.local_types.proofs.Pairs.{pairs_append, pairs_permuted}
 
 -- ---- the moves of a part
 
@@ -84,19 +85,33 @@ pub record GroupsSoFar (ms : List Move) (n : ℕ) (gs : List Group) : Type 0 whe
   pub own : (g : Group) → IsIn g gs → IsActOf ms g.act
   pub edges : (g : Group) → IsIn g gs → AreEdges ms (action_of g.act) g.edges.items
   pub covers : (m : Move) (a : Act) → IsIn m ms → m.act ≡ Some a → part_number a < n → (g : Group) × IsIn g gs × (action_of g.act ≡ action_of a)
+  pub below : (a : Act) → IsIn a (group_acts gs) → part_number a < n
+  pub apart : AreApart (group_acts gs)
 
 pub groups_begin : (ms : List Move) (gs : List Group) → gs ≡ [] → GroupsSoFar ms 0 gs
-groups_begin ms gs e = rw e (record { own = λ g o. absurd o; edges = λ g o. absurd o; covers = λ m a o is h. absurd (omega (arith, h)) })
+groups_begin ms gs e = rw e (record { own = λ g o. absurd o; edges = λ g o. absurd o; covers = λ m a o is h. absurd (omega (arith, h)); below = λ a o. absurd o; apart = λ i j d less within. absurd (omega (arith, less, within)) })
 
 pub groups_add : (ms : List Move) (n : ℕ) (part seen : List Move) (old more new : List Group) → GroupsSoFar ms n old → IsPart ms n part → seen ≡ part → AreGroups seen more → new ≡ old ++ more → GroupsSoFar ms (n + 1) new
 groups_add ms n part seen old more new was cut same found is = rw is (record {
   own = λ g o. own_at g (in_either g old more o);
   edges = λ g o. edges_at g (in_either g old more o);
   covers = λ m a o e h. covers_at m a o e h (cases_lt (part_number a) n);
+  below = λ a o. below_at a (in_either a (group_acts old) (group_acts more) (subst (λ l. IsIn a l) acts o));
+  apart = subst AreApart (sym acts) (pairs_append (λ a b. action_of a ≢ action_of b) (group_acts old) (group_acts more) was.apart are.apart (λ a b o m e. let p = was.below a o in let q = number_of b m in let s = same_part a b e in omega (arith, p, q, s)));
 })
   where
     are : AreGroups part more
     are = subst (λ l. AreGroups l more) same found
+
+    acts : group_acts (old ++ more) ≡ group_acts old ++ group_acts more
+    acts = map-append (λ (g : Group). g.act) old more
+
+    number_of : (a : Act) → IsIn a (group_acts more) → part_number a ≡ n
+    number_of a m = let g = in_map_back (λ (k : Group). k.act) a more m in let p = are.own g.0 g.1 in fell_into n a p.0.act (p.2 ∙ ap (λ (v : Act). Some v) g.2) (cut.sound p.0 p.1).1
+
+    below_at : (a : Act) → IsIn a (group_acts old) ⊎ IsIn a (group_acts more) → part_number a < n + 1
+    below_at a (inl o) = let p = was.below a o in omega (arith, p)
+    below_at a (inr o) = let p = number_of a o in omega (arith, p)
 
     own_at : (g : Group) → IsIn g old ⊎ IsIn g more → IsActOf ms g.act
     own_at g (inl o) = was.own g o
@@ -135,6 +150,7 @@ groups_all ms n gs sorted h was order = record {
   own = λ g o. was.own g (back g o);
   edges = λ g o. was.edges g (back g o);
   covers = λ m a o e. let p = was.covers m a o e (let b = number_below a in omega (arith, b, h)) in (p.0, in_permuted p.0 gs sorted order p.1, p.2);
+  apart = pairs_permuted (λ a b. action_of a ≢ action_of b) (λ a b h e. h (sym e)) (group_acts gs) (group_acts sorted) (IsPermutation-map (λ (g : Group). g.act) gs sorted order) was.apart;
 }
   where
     back : (g : Group) → IsIn g sorted → IsIn g gs

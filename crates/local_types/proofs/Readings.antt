@@ -10,7 +10,7 @@ use Rattle.global_types.specs.Moves.{IsIn}
 use Rattle.global_types.specs.Paths.{Action, At}
 use Rattle.local_types.specs.declared.local_type.LocalState.{LocalState}
 use Rattle.local_types.specs.declared.table.Row.{Row}
-use Rattle.local_types.specs.Reading.{acts_of, LeadsTo, IsRead, AreSame, IsTypeOf, HasAscendingLabels}
+use Rattle.local_types.specs.Reading.{acts_of, LeadsTo, IsRead, AreSame, IsTypeOf, HasAscendingLabels, HasDistinctLabels}
 use Rattle.local_types.specs.Sets.{Has, IsSetFor}
 use Rattle.local_types.specs.States.{IsStateOf, AreStatesOf}
 use Rattle.local_types.specs.Table.{Target, IsTable, HasAscendingArms, IsWhole}
@@ -145,6 +145,13 @@ type_of ss r n rows ts whole are = record {
         let g = set_of f.actions p.0 p.1 in
         let same : g.word ≡ s.0 = set_alone n (At ss r f.actions) (At ss r f.actions) g.word s.0 g.set f.set (λ i x. x) (λ i x. x) in
         (f.actions, subst (λ l. LeadsTo ts 0 f.actions l) (one_number p.0 m g.word s.0 g.at s.1 same) p.1)
+
+-- no two labels of a state are the same
+pub labels_distinct : (ss : List State) (r : NameId) (n : ℕ) (rows : List Row) (ts : List LocalState) → IsWhole ss r n rows → AreStatesOf rows ts → HasDistinctLabels ts
+labels_distinct ss r n rows ts whole are k t at =
+    let row = get_some rows k (let b = slice_get_within ts k t at in let e = are.size in omega (arith, b, e)) in
+    let set = get_some whole.sets k (let b = slice_get_within rows k row.0 row.1 in let e = whole.whole in omega (arith, b, e)) in
+    (are.state k row.0 t row.1 at).distinct (whole.table.follows k set.0 row.0 row.1 set.1).arms.apart
 
 -- the labels of a state stand as the arms do
 pub labels_ascend : (names : List (List ℕ)) (rows : List Row) (ts : List LocalState) → AreStatesOf rows ts → HasAscendingArms names rows → HasAscendingLabels names ts

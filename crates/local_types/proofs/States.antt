@@ -1,6 +1,6 @@
 -- States of types made from arms.
-use Rattle.std.proofs.Common.{ℕ, ◌≡◌, List, [], ◌∷◌, ◌++◌, map, refl, ap, sym, subst, ◌∙◌, inl, inr}
-use Rattle.std.specs.Prelude.{◌⊎◌}
+use Rattle.std.proofs.Common.{ℕ, ◌≡◌, ◌≢◌, List, [], ◌∷◌, ◌++◌, map, refl, ap, sym, subst, ◌∙◌, inl, inr, arith}
+use Rattle.std.specs.Prelude.{◌⊎◌, AllPairs}
 use Rattle.chor_base.specs.declared.names.NameId.{NameId}
 use Rattle.chor_base.specs.Writing.{name_in}
 use Rattle.chor_tree.specs.declared.protocol.Payload.{Payload}
@@ -11,14 +11,19 @@ use Rattle.local_types.specs.declared.act.Act.TheVariants.{Send, Recv, Pick, Bra
 use Rattle.local_types.specs.declared.local_type.LocalState.TheVariants as state
 use Rattle.local_types.specs.declared.table.Arm.{Arm}
 use Rattle.local_types.specs.Moves.{action_of}
-use Rattle.local_types.specs.Reading.{acts_of, nexts_of, Ascend, label_words}
-use Rattle.local_types.specs.Table.{Counts, nexts, act_word, arm_words}
+use Rattle.local_types.specs.Graph.{AreApart}
+use Rattle.local_types.specs.Reading.{acts_of, nexts_of, Ascend, labels_in, label_words}
+use Rattle.local_types.specs.Table.{Counts, nexts, act_word, arm_acts, arm_words}
 use Rattle.local_types.specs.States.{IsKin, AreKin, labelled_act, labelled, IsStateOf}
 use Rattle.local_types.proofs.Counts.{counts_once}
+use Rattle.local_types.proofs.Pairs.{pairs_first, pairs_rest, pairs_cons}
 use Rattle.local_types.proofs.Lists.{in_left, in_right, in_either, in_map, in_map_back}
 
+none_apart : AllPairs (λ k l. k ≢ l) (labels_in state.End)
+none_apart i j d less within = absurd (omega (arith, less, within))
+
 pub state_end : IsStateOf [] state.End
-state_end = record { sound = λ a n h. absurd h; complete = λ x h. absurd h; ends = (λ e. refl, λ e. refl); labels = λ names up. tt; numbered = λ c d h. h }
+state_end = record { sound = λ a n h. absurd h; complete = λ x h. absurd h; ends = (λ e. refl, λ e. refl); labels = λ names up. tt; distinct = λ h. none_apart; numbered = λ c d h. h }
 
 not_empty : {A : Type 0} (v : A) (xs : List A) → IsIn v xs → xs ≡ [] → ⊥
 not_empty v [] h e = h
@@ -56,6 +61,7 @@ state_send arms x b c kin among is = record {
   complete = λ y h. send_complete b c x.next y.act y.next (subst (λ v. IsKin v x.next y.act y.next) is (kin x y among h));
   ends = (λ e. absurd (cc), λ e. absurd (cc));
   labels = λ names up. tt;
+  distinct = λ h. none_apart;
   numbered = λ i d h. counts_once i d x.next (nexts arms) (λ m p. one_next m (in_map_back (λ (y : Arm). y.next) m arms p)) (in_map (λ (y : Arm). y.next) x arms among) h;
 }
   where
@@ -72,6 +78,7 @@ state_recv arms x b c kin among is = record {
   complete = λ y h. recv_complete b c x.next y.act y.next (subst (λ v. IsKin v x.next y.act y.next) is (kin x y among h));
   ends = (λ e. absurd (cc), λ e. absurd (cc));
   labels = λ names up. tt;
+  distinct = λ h. none_apart;
   numbered = λ i d h. counts_once i d x.next (nexts arms) (λ m p. one_next m (in_map_back (λ (y : Arm). y.next) m arms p)) (in_map (λ (y : Arm). y.next) x arms among) h;
 }
   where
@@ -128,6 +135,38 @@ branch_label b l n (Recv a c) m k = absurd k
 branch_label b l n (Pick b' l') m k = absurd k
 branch_label b l n (Branch a l') m k = ((l', m), inl refl, ap (λ (v : NameId). (offers v l', m)) k)
 
+-- arms with labels of their own
+labels_apart : (sel : NameId → Action) (arms : List Arm) → ((y : Arm) → IsIn y arms → (k : NameId) × (action_of y.act ≡ sel k) × (labelled_act y.act y.next ≡ (k, y.next) ∷ []))
+    → AreApart (arm_acts arms) → AllPairs (λ k l. k ≢ l) (map (λ q. q.0) (labelled arms))
+labels_apart sel [] has apart = λ i j d less within. absurd (omega (arith, less, within))
+labels_apart sel (x ∷ xs) has apart =
+    let h = has x (inl refl) in
+    subst (λ (v : List (NameId × ℕ)). AllPairs (λ k l. k ≢ l) (map (λ q. q.0) (v ++ labelled xs))) (sym h.2)
+    (pairs_cons (λ k l. k ≢ l) h.0 (map (λ q. q.0) (labelled xs)) (λ y m e. first h.0 h.1 y e (in_map_back (λ (q : NameId × ℕ). q.0) y (labelled xs) m)) (labels_apart sel xs (λ y m. has y (inr m)) (pairs_rest (λ a b. action_of a ≢ action_of b) x.act (arm_acts xs) apart)))
+  where
+    of_one : (p q : NameId × ℕ) → IsIn p (q ∷ []) → q.0 ≡ p.0
+    of_one p q (inl e) = ap (λ (v : NameId × ℕ). v.0) e
+    of_one p q (inr h) = absurd h
+
+    first : (k : NameId) → action_of x.act ≡ sel k → (y : NameId) → k ≡ y → (q : NameId × ℕ) × IsIn q (labelled xs) × (q.0 ≡ y) → ⊥
+    first k is y e q =
+        let z = labelled_back xs q.0 q.1 in
+        let g = has z.arm (inr z.among) in
+        let own : g.0 ≡ q.0.0 = of_one q.0 (g.0, z.arm.next) (subst (λ v. IsIn q.0 v) g.2 z.label) in
+        pairs_first (λ a b. action_of a ≢ action_of b) x.act (arm_acts xs) apart z.arm.act (in_map (λ (v : Arm). v.act) z.arm xs z.among) (is ∙ ap sel (e ∙ sym q.2 ∙ sym own) ∙ sym g.1)
+
+pick_has : (b l : NameId) (n : ℕ) (act : Act) (m : ℕ) → IsKin (Pick b l) n act m → (k : NameId) × (action_of act ≡ selects b k) × (labelled_act act m ≡ (k, m) ∷ [])
+pick_has b l n (Send b' c) m k = absurd k
+pick_has b l n (Recv a c) m k = absurd k
+pick_has b l n (Pick b' l') m k = (l', ap (λ (v : NameId). selects v l') (sym k), refl)
+pick_has b l n (Branch a l') m k = absurd k
+
+branch_has : (b l : NameId) (n : ℕ) (act : Act) (m : ℕ) → IsKin (Branch b l) n act m → (k : NameId) × (action_of act ≡ offers b k) × (labelled_act act m ≡ (k, m) ∷ [])
+branch_has b l n (Send b' c) m k = absurd k
+branch_has b l n (Recv a c) m k = absurd k
+branch_has b l n (Pick b' l') m k = absurd k
+branch_has b l n (Branch a l') m k = (l', ap (λ (v : NameId). offers v l') (sym k), refl)
+
 pick_one : (b l : NameId) (n : ℕ) (act : Act) (m : ℕ) (rest : List (NameId × ℕ)) → IsKin (Pick b l) n act m → map (λ (p : Action × ℕ). p.1) (map (λ (q : NameId × ℕ). (selects b q.0, q.1)) (labelled_act act m ++ rest)) ≡ m ∷ map (λ (p : Action × ℕ). p.1) (map (λ (q : NameId × ℕ). (selects b q.0, q.1)) rest)
 pick_one b l n (Send b' c) m rest k = absurd k
 pick_one b l n (Recv a c) m rest k = absurd k
@@ -138,7 +177,7 @@ pick_nexts : (b l : NameId) (n : ℕ) (arms : List Arm) → ((y : Arm) → IsIn 
 pick_nexts b l n [] kin = refl
 pick_nexts b l n (x ∷ xs) kin = pick_one b l n x.act x.next (labelled xs) (kin x (inl refl)) ∙ ap (λ t. x.next ∷ t) (pick_nexts b l n xs (λ y h. kin y (inr h)))
 
-pick_word : (names : List (List ℕ)) (b l : NameId) (n : ℕ) (act : Act) (m : ℕ) (rest : List (NameId × ℕ)) → IsKin (Pick b l) n act m → map (λ (q : NameId × ℕ). name_in names q.0) (labelled_act act m ++ rest) ≡ act_word names act ∷ map (λ (q : NameId × ℕ). name_in names q.0) rest
+pick_word : (names : List (List ℕ)) (b l : NameId) (n : ℕ) (act : Act) (m : ℕ) (rest : List (NameId × ℕ)) → IsKin (Pick b l) n act m → map (name_in names) (map (λ q. q.0) (labelled_act act m ++ rest)) ≡ act_word names act ∷ map (name_in names) (map (λ q. q.0) rest)
 pick_word names b l n (Send b' c) m rest k = absurd k
 pick_word names b l n (Recv a c) m rest k = absurd k
 pick_word names b l n (Pick b' l') m rest k = refl
@@ -154,6 +193,7 @@ state_pick arms x b l ls kin among is all = record {
   complete = λ y h. complete_at y h;
   ends = (λ e. absurd (cc), λ e. absurd (not_empty _ _ (complete_at x among) e));
   labels = λ names up. subst Ascend (sym (ap (λ (v : List (NameId × ℕ)). label_words names (state.Pick b v)) all ∙ pick_words names b l x.next arms kin_to)) up;
+  distinct = λ apart. subst (λ (v : List (NameId × ℕ)). AllPairs (λ k l. k ≢ l) (map (λ q. q.0) v)) (sym all) (labels_apart (λ k. selects b k) arms (λ y h. pick_has b l x.next y.act y.next (kin_to y h)) apart);
   numbered = λ i d h. subst (λ v. Counts i v d) (sym (ap (λ (v : List (NameId × ℕ)). nexts_of (state.Pick b v)) all ∙ pick_nexts b l x.next arms kin_to)) h;
 }
   where
@@ -182,7 +222,7 @@ branch_nexts : (b l : NameId) (n : ℕ) (arms : List Arm) → ((y : Arm) → IsI
 branch_nexts b l n [] kin = refl
 branch_nexts b l n (x ∷ xs) kin = branch_one b l n x.act x.next (labelled xs) (kin x (inl refl)) ∙ ap (λ t. x.next ∷ t) (branch_nexts b l n xs (λ y h. kin y (inr h)))
 
-branch_word : (names : List (List ℕ)) (b l : NameId) (n : ℕ) (act : Act) (m : ℕ) (rest : List (NameId × ℕ)) → IsKin (Branch b l) n act m → map (λ (q : NameId × ℕ). name_in names q.0) (labelled_act act m ++ rest) ≡ act_word names act ∷ map (λ (q : NameId × ℕ). name_in names q.0) rest
+branch_word : (names : List (List ℕ)) (b l : NameId) (n : ℕ) (act : Act) (m : ℕ) (rest : List (NameId × ℕ)) → IsKin (Branch b l) n act m → map (name_in names) (map (λ q. q.0) (labelled_act act m ++ rest)) ≡ act_word names act ∷ map (name_in names) (map (λ q. q.0) rest)
 branch_word names b l n (Send b' c) m rest k = absurd k
 branch_word names b l n (Recv a c) m rest k = absurd k
 branch_word names b l n (Pick b' l') m rest k = absurd k
@@ -198,6 +238,7 @@ state_branch arms x b l ls kin among is all = record {
   complete = λ y h. complete_at y h;
   ends = (λ e. absurd (cc), λ e. absurd (not_empty _ _ (complete_at x among) e));
   labels = λ names up. subst Ascend (sym (ap (λ (v : List (NameId × ℕ)). label_words names (state.Branch b v)) all ∙ branch_words names b l x.next arms kin_to)) up;
+  distinct = λ apart. subst (λ (v : List (NameId × ℕ)). AllPairs (λ k l. k ≢ l) (map (λ q. q.0) v)) (sym all) (labels_apart (λ k. offers b k) arms (λ y h. branch_has b l x.next y.act y.next (kin_to y h)) apart);
   numbered = λ i d h. subst (λ v. Counts i v d) (sym (ap (λ (v : List (NameId × ℕ)). nexts_of (state.Branch b v)) all ∙ branch_nexts b l x.next arms kin_to)) h;
 }
   where

@@ -16,10 +16,10 @@ use Rattle.local_types.specs.declared.table.Arm.{Arm}
 use Rattle.local_types.specs.declared.table.Row.{Row}
 use Rattle.local_types.specs.Moves.{action_of}
 use Rattle.local_types.specs.Sets.{Has, row_at, IsSetFor}
-use Rattle.local_types.specs.Graph.{AreRowsFor}
-use Rattle.local_types.specs.Table.{Silent, AreActs, Target, IsNext, Keeps, HasGrown, IsArm, AreArms, IsRow, IsFound, IsTable, AreTooMany, IsWhole, nexts, all_nexts, Counts, group_words, arm_words, HasAscendingArms}
+use Rattle.local_types.specs.Graph.{AreApart, group_acts, AreRowsFor}
+use Rattle.local_types.specs.Table.{Silent, AreActs, Target, IsNext, Keeps, HasGrown, IsArm, AreArms, IsRow, IsFound, IsTable, AreTooMany, IsWhole, nexts, all_nexts, Counts, group_words, arm_acts, arm_words, HasAscendingArms}
 use Rattle.local_types.specs.Reading.{Ascend}
-use Rattle.local_types.proofs.Ascents.{arms_ascend_begin, arms_ascend_in, arms_ascend_out}
+use Rattle.local_types.proofs.Ascents.{arms_ascend_begin, arms_ascend_in, arms_ascend_out, arms_apart_in, arms_apart_out, arms_apart_end}
 use Rattle.local_types.proofs.Counts.{counts_arm, counts_row}
 use Rattle.local_types.proofs.Lists.{in_more, in_kept, in_new, in_push, in_left, in_last, in_of_at}
 use Rattle.local_types.proofs.Sets.{set_put, set_same, has_within}
@@ -161,8 +161,9 @@ arm_of ss r gs g n still word sets arm acts among p was act at =
 pub arms_whole : (ss : List State) (r : NameId) (gs : List Group) (n i : ℕ) (sets : List (List ℕ)) (still : List ℕ) (arms : List Arm) → AreActs ss r gs → length gs ≤ i
     → ((arm : Arm) → IsIn arm arms → IsArm ss r n sets still arm)
     → ((g : Group) → IsIn g (take i gs) → (e : Edge) → IsIn e g.edges.items → Has still e.from → (arm : Arm) × IsIn arm arms × (arm.act ≡ g.act))
+    → AreApart (arm_acts arms)
     → AreArms ss r n sets still arms
-arms_whole ss r gs n i sets still arms acts h sound complete = record { sound = sound; complete = complete_at }
+arms_whole ss r gs n i sets still arms acts h sound complete apart = record { sound = sound; complete = complete_at; apart = apart }
   where
     complete_at : (a : Action) (j : ℕ) → Target ss r still a j → (arm : Arm) × IsIn arm arms × (action_of arm.act ≡ a)
     complete_at a j t =
@@ -264,7 +265,7 @@ table_more ss r n old new rows more word row was at after grown arms is = rw is 
         let o = old_at k p.1 in
         let same = same_word k v e o.0 o.1 in
         let f = was.follows k v one p.0 (subst (λ u. slice_get old k ≡ Some u) same o.1) in
-        record { still = f.still; arms = record { sound = λ arm m. arm_kept ss r n old new one.still.items arm grown.kept (f.arms.sound arm m); complete = f.arms.complete } }
+        record { still = f.still; arms = record { sound = λ arm m. arm_kept ss r n old new one.still.items arm grown.kept (f.arms.sound arm m); complete = f.arms.complete; apart = f.arms.apart } }
     follows_at k v one (inr p) e =
         let same : word ≡ v = same_word k v e word (subst (λ m. slice_get old m ≡ Some word) (sym p.0) at) in
         subst (λ (o : Row). IsRow ss r n new v o) p.1 (subst (λ u. IsRow ss r n new u row) same (record { still = after; arms = arms }))
@@ -299,6 +300,7 @@ pub record ArmsSoFar (gs : List Group) (still : List ℕ) (first : List (List �
   pub complete : (g : Group) → IsIn g (take i gs) → (e : Edge) → IsIn e g.edges.items → Has still e.from → (arm : Arm) × IsIn arm arms × (arm.act ≡ g.act)
   pub numbered : Counts (length first) (nexts arms) (length sets)
   pub ascend : (names : List (List ℕ)) → Ascend (group_words names gs) → Ascend (arm_words names arms ++ group_words names (drop i gs))
+  pub apart : AreApart (group_acts gs) → AreApart (arm_acts arms ++ group_acts (drop i gs))
 
 pub arms_begin : (gs : List Group) (still : List ℕ) (sets : List (List ℕ)) → length sets ≤ 1024 → AllDistinct sets → ArmsSoFar gs still sets 0 sets []
 arms_begin gs still sets few distinct = record {
@@ -311,6 +313,7 @@ arms_begin gs still sets few distinct = record {
   complete = λ g m. absurd m;
   numbered = refl;
   ascend = λ names up. arms_ascend_begin names gs up;
+  apart = λ h. h;
 }
 
 pub group_among : (gs : List Group) (i : ℕ) (g : Group) → i < length gs → g ≡ slice_index_or gs i g → IsIn g gs
@@ -351,6 +354,7 @@ arms_in gs still first i sets arms g word new arm more was h is allowed set adde
   complete = λ k m e o p. complete_at k e o p (in_more k gs i g h m);
   numbered = counts_arm (length first) arms arm sets new word was.numbered added distinct at;
   ascend = λ names up. arms_ascend_in names gs i g arms arm h is act (was.ascend names up);
+  apart = λ all. arms_apart_in gs i g arms arm h is act (was.apart all);
 })
   where
     keeps : Keeps sets new
@@ -378,6 +382,7 @@ arms_out gs still first i sets arms g was h is not = record {
   complete = λ k m e o p. complete_at k e o p (in_more k gs i g h m);
   numbered = was.numbered;
   ascend = λ names up. arms_ascend_out names gs i g arms h (was.ascend names up);
+  apart = λ all. arms_apart_out gs i g arms h (was.apart all);
 }
   where
     complete_at : (k : Group) (e : Edge) → IsIn e k.edges.items → Has still e.from → IsIn k (take i gs) ⊎ (slice_index_or gs i g ≡ k) → (a : Arm) × IsIn a arms × (a.act ≡ k.act)
@@ -386,7 +391,7 @@ arms_out gs still first i sets arms g was h is not = record {
 
 pub arms_end : (gs : List Group) (still : List ℕ) (first : List (List ℕ)) (i : ℕ) (sets : List (List ℕ)) (arms : List Arm) → ArmsSoFar gs still first i sets arms → length gs ≤ i
     → (ss : List State) (r : NameId) → AreActs ss r gs → AreArms ss r (length still) sets still arms
-arms_end gs still first i sets arms was h ss r acts = arms_whole ss r gs (length still) i sets still arms acts h (was.sound ss r acts) was.complete
+arms_end gs still first i sets arms was h ss r acts = arms_whole ss r gs (length still) i sets still arms acts h (was.sound ss r acts) was.complete (arms_apart_end gs i arms (was.apart acts.apart))
 
 -- a test with its cases
 pub is_true : (b : Bool) (P Q : Type 0) → MatchBool b P Q → b ≡ true → P

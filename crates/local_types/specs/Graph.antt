@@ -1,5 +1,5 @@
 -- What a role's view is made from: where silent exchanges lead, and where the role's own acts lead.
-use Rattle.std.specs.Prelude.{ℕ, Bool, true, false, ◌%◌, ◌==◌, Option, None, ◌≡◌, ◌<◌, ◌⊎◌, List, [], ◌∷◌, Some, length, Vec}
+use Rattle.std.specs.Prelude.{ℕ, Bool, true, false, ◌%◌, ◌==◌, Option, None, ◌≡◌, ◌≢◌, ◌<◌, ◌⊎◌, List, [], ◌∷◌, map, Some, length, Vec, AllPairs}
 use Rattle.std.specs.declared.alloc.Global.{Global}
 use Rattle.global_types.specs.Moves.{IsIn}
 use Rattle.global_types.specs.Paths.{Action}
@@ -34,23 +34,36 @@ pub record AreEdges (ms : List Move) (a : Action) (es : List Edge) : Type 0 wher
   pub sound : (e : Edge) → IsIn e es → HasMove ms e.from (a ∷ []) e.to
   pub complete : (e : Edge) → HasMove ms e.from (a ∷ []) e.to → IsIn e es
 
+-- an act is the same as one of these
+abbrev pub Knows : List Act → Act → Type 0
+Knows acts a = (b : Act) × IsIn b acts × (action_of b ≡ action_of a)
+
+-- no two of the acts are the same
+abbrev pub AreApart : List Act → Type 0
+AreApart acts = AllPairs (λ a b. action_of a ≢ action_of b) acts
+
 -- each act of the moves is the same as one of these
 abbrev pub Covers : List Move → List Act → Type 0
-Covers ms acts = (m : Move) (a : Act) → IsIn m ms → m.act ≡ Some a → (b : Act) × IsIn b acts × (action_of b ≡ action_of a)
+Covers ms acts = (m : Move) (a : Act) → IsIn m ms → m.act ≡ Some a → Knows acts a
 
 -- the act is that of one of the moves
 abbrev pub IsActOf : List Move → Act → Type 0
 IsActOf ms b = (m : Move) × IsIn m ms × (m.act ≡ Some b)
 
--- these are the acts of the moves, and there is no other one
+-- these are the acts of the moves, each once, and there is no other one
 pub record AreActsOf (ms : List Move) (acts : List Act) : Type 0 where
   pub own : (b : Act) → IsIn b acts → IsActOf ms b
   pub covers : Covers ms acts
+  pub apart : AreApart acts
+
+abbrev pub group_acts : List Group → List Act
+group_acts gs = map (λ g. g.act) gs
 
 pub record AreGroups (ms : List Move) (gs : List Group) : Type 0 where
   pub own : (g : Group) → IsIn g gs → IsActOf ms g.act
   pub edges : (g : Group) → IsIn g gs → AreEdges ms (action_of g.act) g.edges.items
   pub covers : (m : Move) (a : Act) → IsIn m ms → m.act ≡ Some a → (g : Group) × IsIn g gs × (action_of g.act ≡ action_of a)
+  pub apart : AreApart (group_acts gs)
 
 -- the part into which an act falls, by the number of its label
 abbrev pub part_number : Act → ℕ

@@ -1,5 +1,5 @@
 -- What a role's type says: the lists of actions that can be read from it.
-use Rattle.std.specs.Prelude.{false, take, Option, None, ◌==◌, if◌then◌else◌, ℕ, ◌<◌, ◌≤◌, ◌^◌, length, ◌≡◌, ◌↔◌, List, [], ◌∷◌, map, Some, slice_get}
+use Rattle.std.specs.Prelude.{false, take, Option, None, ◌==◌, if◌then◌else◌, ℕ, ◌<◌, ◌≤◌, ◌^◌, length, ◌≡◌, ◌≢◌, ◌↔◌, List, [], ◌∷◌, map, Some, slice_get, AllPairs}
 use Rattle.std.specs.List.{flat_map}
 use Rattle.std.specs.Ordering.{is_lt, nat_cmp}
 use Rattle.std.specs.Cmp.Lexicographic.{slice_cmp}
@@ -10,7 +10,7 @@ use Rattle.chor_base.specs.declared.rule.Rule.{Rule}
 use Rattle.chor_base.specs.declared.rule.Denied.{Denied}
 use Rattle.chor_base.specs.declared.rule.Denied.TheVariants.{Refused, Memory}
 use Rattle.chor_tree.specs.declared.file.Named.{Named}
-use Rattle.chor_tree.specs.declared.protocol.Protocol.{Protocol}
+use Rattle.chor_tree.specs.Protocols.{Protocol}
 use Rattle.chor_tree.specs.declared.protocol.State.{State}
 use Rattle.global_types.specs.Moves.{IsIn, content_of}
 use Rattle.global_types.specs.Paths.{Action, sends, receives, selects, offers, IsView, At}
@@ -66,22 +66,31 @@ abbrev pub Ascend : List (List ℕ) → Type 0
 Ascend [] = Unit {0}
 Ascend (w ∷ ws) = ((v : List ℕ) → IsIn v ws → is_lt (slice_cmp nat_cmp v w) ≡ false) × Ascend ws
 
--- the words of a state's labels
+-- the labels of a state, in their order
+abbrev pub labels_in : LocalState → List NameId
+labels_in End = []
+labels_in (Send b c n) = []
+labels_in (Recv a c n) = []
+labels_in (Pick b ls) = map (λ l. l.0) ls
+labels_in (Branch a ls) = map (λ l. l.0) ls
+
 abbrev pub label_words : List (List ℕ) → LocalState → List (List ℕ)
-label_words names End = []
-label_words names (Send b c n) = []
-label_words names (Recv a c n) = []
-label_words names (Pick b ls) = map (λ l. name_in names l.0) ls
-label_words names (Branch a ls) = map (λ l. name_in names l.0) ls
+label_words names t = map (name_in names) (labels_in t)
 
 -- The labels of each state stand in ascending order
 abbrev pub HasAscendingLabels : List (List ℕ) → List LocalState → Type 0
 HasAscendingLabels names ts = (n : ℕ) (t : LocalState) → slice_get ts n ≡ Some t → Ascend (label_words names t)
 
--- it has a first state, and fewer states than there are numbers for them
-pub record IsProper (p : Protocol) : Type 0 where
-  pub first : 0 < length p.states
-  pub few : length p.states ≤ 2 ^ 32
+-- No label stands twice in a state
+abbrev pub HasDistinctLabels : List LocalState → Type 0
+HasDistinctLabels ts = (n : ℕ) (t : LocalState) → slice_get ts n ≡ Some t → AllPairs (λ k l. k ≢ l) (labels_in t)
+
+-- The type as it is printed: it stands for the role's view, and nothing in it can be put in another order
+pub record IsRoleType (names : List (List ℕ)) (ss : List State) (r : NameId) (ts : List LocalState) : Type 0 where
+  pub stands : IsTypeOf ss r ts
+  pub numbered : IsBreadthFirst ts
+  pub ascend : HasAscendingLabels names ts
+  pub distinct : HasDistinctLabels ts
 
 -- where a role stands among these, at its first place
 abbrev pub role_place : List Named → NameId → Option Place

@@ -1,5 +1,5 @@
 -- A state of a role's type, as it is made from the arms of a row.
-use Rattle.std.specs.Prelude.{ℕ, ◌≡◌, ◌↔◌, List, [], ◌∷◌, ◌++◌, length, Some, slice_get}
+use Rattle.std.specs.Prelude.{ℕ, ◌≡◌, ◌≢◌, ◌↔◌, List, [], ◌∷◌, ◌++◌, length, Some, slice_get, AllPairs}
 use Rattle.chor_base.specs.declared.names.NameId.{NameId}
 use Rattle.global_types.specs.Moves.{IsIn, content_of}
 use Rattle.global_types.specs.Paths.{Action}
@@ -10,8 +10,9 @@ use Rattle.local_types.specs.declared.local_type.LocalState.TheVariants.{End}
 use Rattle.local_types.specs.declared.table.Arm.{Arm}
 use Rattle.local_types.specs.declared.table.Row.{Row}
 use Rattle.local_types.specs.Moves.{action_of}
-use Rattle.local_types.specs.Reading.{acts_of, nexts_of, Ascend, label_words}
-use Rattle.local_types.specs.Table.{Counts, nexts, arm_words}
+use Rattle.local_types.specs.Graph.{AreApart}
+use Rattle.local_types.specs.Reading.{acts_of, nexts_of, Ascend, labels_in, label_words}
+use Rattle.local_types.specs.Table.{Counts, nexts, arm_acts, arm_words}
 
 -- two acts with the sets after them that one state can have: all is the same, but for labels
 abbrev pub IsKin : Act → ℕ → Act → ℕ → Type 0
@@ -41,6 +42,7 @@ pub record IsStateOf (arms : List Arm) (t : LocalState) : Type 0 where
   pub complete : (x : Arm) → IsIn x arms → IsIn (action_of x.act, x.next) (acts_of t)
   pub ends : (t ≡ End) ↔ (acts_of t ≡ [])
   pub labels : (names : List (List ℕ)) → Ascend (arm_words names arms) → Ascend (label_words names t)
+  pub distinct : AreApart (arm_acts arms) → AllPairs (λ k l. k ≢ l) (labels_in t)
   pub numbered : (c d : ℕ) → Counts c (nexts arms) d → Counts c (nexts_of t) d
 
 -- a state for each row

@@ -17,6 +17,7 @@ use Rattle.local_types.specs.declared.graph.Group.{Group}
 use Rattle.local_types.specs.declared.table.Arm.{Arm}
 use Rattle.local_types.specs.declared.table.Row.{Row}
 use Rattle.local_types.specs.Moves.{action_of}
+use Rattle.local_types.specs.Graph.{AreApart, group_acts}
 use Rattle.local_types.specs.Sets.{Has, row_at, IsSetFor}
 
 -- a path from i to j on which the role has no action
@@ -25,11 +26,12 @@ pub record Silent (ss : List State) (r : NameId) (i j : ℕ) : Type 0 where
   pub is_path : IsPath ss i path j
   pub none : actions_of r path ≡ []
 
--- the groups are the acts of the role, each with all exchanges in which it does so
+-- the groups are the acts of the role, each once and with all exchanges in which it does so
 pub record AreActs (ss : List State) (r : NameId) (gs : List Group) : Type 0 where
   pub sound : (g : Group) → IsIn g gs → (e : Edge) → IsIn e g.edges.items → (x : Exchange) × Leads ss e.from x e.to × (action_in r x ≡ action_of g.act ∷ [])
   pub whole : (g : Group) → IsIn g gs → (e : Edge) (x : Exchange) → Leads ss e.from x e.to → action_in r x ≡ action_of g.act ∷ [] → IsIn e g.edges.items
   pub covers : (i j : ℕ) (x : Exchange) (a : Action) → Leads ss i x j → action_in r x ≡ a ∷ [] → (g : Group) × IsIn g gs × (action_of g.act ≡ a)
+  pub apart : AreApart (group_acts gs)
 
 -- the action leads from one of these states to j
 pub record Target (ss : List State) (r : NameId) (still : List ℕ) (a : Action) (j : ℕ) : Type 0 where
@@ -63,10 +65,14 @@ pub record IsArm (ss : List State) (r : NameId) (n : ℕ) (sets : List (List ℕ
   pub set : IsSetFor n (Target ss r still (action_of arm.act)) word
   pub reached : Target ss r still (action_of arm.act) state
 
--- the arms are those of all actions that these states allow
+abbrev pub arm_acts : List Arm → List Act
+arm_acts arms = map (λ x. x.act) arms
+
+-- the arms are those of all actions that these states allow, each once
 pub record AreArms (ss : List State) (r : NameId) (n : ℕ) (sets : List (List ℕ)) (still : List ℕ) (arms : List Arm) : Type 0 where
   pub sound : (arm : Arm) → IsIn arm arms → IsArm ss r n sets still arm
   pub complete : (a : Action) (j : ℕ) → Target ss r still a j → (arm : Arm) × IsIn arm arms × (action_of arm.act ≡ a)
+  pub apart : AreApart (arm_acts arms)
 
 -- what follows a set
 pub record IsRow (ss : List State) (r : NameId) (n : ℕ) (sets : List (List ℕ)) (word : List ℕ) (row : Row) : Type 0 where

@@ -1,5 +1,5 @@
 -- The text of a role's type (this project's own): a line `local P@A`, and a line for each state, as `0: pick B ko 1 ok 2`.
-use Rattle.std.specs.Prelude.{ℕ, ◌+◌, List, [], ◌∷◌, ◌++◌, codes}
+use Rattle.std.specs.Prelude.{ℕ, ◌≡◌, ◌<◌, ◌+◌, List, [], ◌∷◌, ◌++◌, length, codes}
 use Rattle.std.specs.Fmt.{decimal}
 use Rattle.chor_base.specs.declared.names.NameId.{NameId}
 use Rattle.chor_base.specs.declared.value.Sort.{Sort}
@@ -7,6 +7,9 @@ use Rattle.chor_base.specs.declared.value.Sort.TheVariants.{Int, Bool, Text}
 use Rattle.chor_base.specs.Writing.{name_in}
 use Rattle.chor_tree.specs.declared.protocol.Payload.{Payload}
 use Rattle.chor_tree.specs.declared.protocol.Payload.TheVariants.{Plain, Endpoint}
+use Rattle.chor_tree.specs.declared.protocol.State.{State}
+use Rattle.global_types.specs.Moves.{Leads, chooses}
+use Rattle.local_types.specs.Reading.{IsRoleType}
 use Rattle.local_types.specs.declared.local_type.LocalState.{LocalState}
 use Rattle.local_types.specs.declared.local_type.LocalState.TheVariants.{End, Send, Recv, Pick, Branch}
 
@@ -50,3 +53,11 @@ states_text names n (s ∷ ss) = (decimal n ++ state_text names s) ++ states_tex
 -- The type of a role of a protocol
 abbrev pub local_text : List (List ℕ) → NameId → NameId → List LocalState → List ℕ
 local_text names p r ss = codes "local " ++ (name_in names p ++ (codes "@" ++ (name_in names r ++ (line_end ++ states_text names 0 ss))))
+
+-- each label by which a state leads to a state is in the table of names
+abbrev pub HasNamedLabels : List (List ℕ) → List State → Type 0
+HasNamedLabels names ss = (i j : ℕ) (a b l : NameId) → Leads ss i (chooses a b l) j → l.0 < length names
+
+-- All types of a role are printed alike
+abbrev pub HasOneText : List (List ℕ) → List State → NameId → Type 0
+HasOneText names ss r = (p : NameId) (ts us : List LocalState) → IsRoleType names ss r ts → IsRoleType names ss r us → local_text names p r ts ≡ local_text names p r us

@@ -1,12 +1,12 @@
 //! What a role's view is made from: where silent steps lead, and what the role's own acts lead to.
 
-ghost use Rattle.std.specs.Prelude.{◌≡◌, ◌<◌, ◌⊎◌, ℕ, [], ◌∷◌, IfOk, OnOk, MatchBool, IsTrue, ◌↔◌, Some, None, length};
+ghost use Rattle.std.specs.Prelude.{◌≡◌, ◌<◌, ◌⊎◌, ℕ, [], ◌∷◌, IfOk, OnOk, IsTrue, ◌↔◌, Some, None, length};
 ghost use Rattle.global_types.specs.Moves.{IsIn};
 ghost use Rattle.local_types.specs.Moves.{action_of, actions_in};
 ghost use Rattle.local_types.specs.Reading.{Ascend};
 ghost use Rattle.local_types.specs.Table.{group_words};
 ghost use Rattle.local_types.specs.Sets.{Has, row_at, IsSetFor};
-ghost use Rattle.local_types.specs.Graph.{HasMove, IsSilentPath, GoesSilently, AreEdges, AreActsOf, AreGroups, part_number, falls, IsPart, AreWithin, AreRowsFor, IsThrough};
+ghost use Rattle.local_types.specs.Graph.{HasMove, IsSilentPath, GoesSilently, Knows, AreApart, AreEdges, AreActsOf, AreGroups, part_number, falls, IsPart, AreWithin, AreRowsFor, IsThrough};
 
 use crate::act::{Act, by_label, same_act};
 use crate::marks::{has, no_marks, put, put_all};
@@ -116,7 +116,8 @@ fn acts(alloc: Global, moves: &[Move]) -> Result<Vec<Act>, Memory>
 fn add_act(acts: &mut Vec<Act>, act: Option<Act>) -> Result<(), Memory>
     ensures kept { (b : Act) → IsIn b acts.old.items → IsIn b acts.new.items }
     ensures own { (b : Act) → IsIn b acts.new.items → IsIn b acts.old.items ⊎ (act ≡ Some b) }
-    ensures added { OnOk result ((a : Act) → act ≡ Some a → (b : Act) × IsIn b acts.new.items × (action_of b ≡ action_of a)) }
+    ensures added { OnOk result ((a : Act) → act ≡ Some a → Knows acts.new.items a) }
+    ensures apart { OnOk result (AreApart acts.old.items → AreApart acts.new.items) }
 {
     if let Some(act) = act
         && !knows(acts.as_slice(), &act)
@@ -128,7 +129,7 @@ fn add_act(acts: &mut Vec<Act>, act: Option<Act>) -> Result<(), Memory>
 
 // Whether an act is the same as one of these.
 fn knows(acts: &[Act], act: &Act) -> bool
-    ensures { MatchBool result ((b : Act) × IsIn b acts.now × (action_of b ≡ action_of act.now)) (Unit {0}) }
+    ensures { IsTrue result ↔ (Knows acts.now act.now) }
 {
     for known in acts {
         if same_act(known, act) {

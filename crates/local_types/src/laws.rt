@@ -2,11 +2,13 @@
 
 ghost use Rattle.std.specs.Prelude.{◌≡◌, ◌↔◌, ℕ, List, Some, slice_get};
 ghost use Rattle.chor_base.specs.declared.names.NameId.{NameId};
+ghost use Rattle.chor_base.specs.Words.{AllDistinct};
 ghost use Rattle.chor_tree.specs.declared.protocol.State.{State};
 ghost use Rattle.global_types.specs.Paths.{Action, IsView, At};
 ghost use Rattle.local_types.specs.declared.local_type.LocalState.{LocalState};
 ghost use Rattle.local_types.specs.Reading.{LeadsTo, AreSame, IsTypeOf};
 ghost use Rattle.local_types.specs.Numbers.{IsCarriedOver};
+ghost use Rattle.local_types.specs.Text.{HasNamedLabels, HasOneText};
 
 /// A list of actions leads to a state of the type exactly if the role's view holds it.
 pub fn view_leads_to_states()
@@ -22,6 +24,12 @@ pub fn one_state()
 /// states: a state of the type is such a set.
 pub fn states_are_sets()
     ensures { (ss : List State) (r : NameId) (ts : List LocalState) (v w : List Action) (n m : ℕ) → IsTypeOf ss r ts → LeadsTo ts 0 v n → LeadsTo ts 0 w m → (n ≡ m) ↔ AreSame (At ss r v) (At ss r w) }
+{}
+
+/// The text of a role's type is one text, where each label has a name of its own: what `local` says of
+/// its types leaves nothing free that is printed.
+pub fn one_text()
+    ensures { (names : List (List ℕ)) (ss : List State) (r : NameId) → AllDistinct names → HasNamedLabels names ss → HasOneText names ss r }
 {}
 
 /// Two types of a role differ in the numbers of their states alone: each state of the one is one

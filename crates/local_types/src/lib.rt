@@ -10,11 +10,9 @@ mod marks;
 mod moves;
 mod print;
 mod table;
-#[cfg(test)]
-mod tests;
 mod view;
 
-pub use laws::{one_state, only_numbers_are_free, states_are_sets, view_leads_to_states};
+pub use laws::{one_state, one_text, only_numbers_are_free, states_are_sets, view_leads_to_states};
 pub use local_type::{LocalState, LocalType};
 pub use print::print_local;
 pub use view::{check_views, local};

@@ -21,12 +21,13 @@ pub struct Move {
 
 // All exchanges of a protocol, for a role.
 pub fn moves(alloc: Global, protocol: &Protocol, role: NameId) -> Result<Vec<Move>, Memory>
-    requires { length protocol.now.states ≤ 2 ^ 32 }
     ensures { IfOk result (λ v. v.items ≡ moves_from protocol.now.states role 0 protocol.now.states) }
 {
     let mut moves = Vec::new(alloc);
-    for (number, state) in protocol.states.as_slice().iter().enumerate() {
-        add_step(&mut moves, protocol, role, number as u32, &state.step)?;
+    let states = protocol.states.as_slice();
+    for number in 0..protocol.states.count() {
+        let step = &states[number as usize].step;
+        add_step(&mut moves, protocol, role, number, step)?;
     }
     Ok(moves)
 }
@@ -38,7 +39,6 @@ fn add_step(
     from: u32,
     step: &ProtoStep,
 ) -> Result<(), Memory>
-    requires { length protocol.now.states ≤ 2 ^ 32 }
     ensures { OnOk result (moves.new.items ≡ moves.old.items ++ step_moves protocol.now.states role from step.now) }
 {
     match step {
@@ -85,7 +85,6 @@ fn add_arms(
     parties: Parties,
     arms: &[ProtoArm],
 ) -> Result<(), Memory>
-    requires { length protocol.now.states ≤ 2 ^ 32 }
     ensures { OnOk result (moves.new.items ≡ moves.old.items ++ arms_moves protocol.now.states parties.role from parties.sender parties.receiver arms.now) }
 {
     for arm in arms {
@@ -131,7 +130,6 @@ fn add_move(
     act: Option<Act>,
     next: NameId,
 ) -> Result<(), Memory>
-    requires { length protocol.now.states ≤ 2 ^ 32 }
     ensures { OnOk result (moves.new.items ≡ moves.old.items ++ move_to from act (state_named protocol.now.states next)) }
 {
     if let Some(to) = step_at(protocol, next) {

@@ -6,9 +6,9 @@ ghost use Rattle.local_types.specs.Sets.{IsSetFor};
 ghost use Rattle.local_types.specs.States.{AreKin, labelled, IsStateOf, AreStatesOf};
 ghost use Rattle.local_types.specs.declared.table.Row.{Row};
 ghost use Rattle.local_types.specs.Table.{IsLeft, IsTorn, HasAscendingArms, IsWhole, Circles};
-ghost use Rattle.chor_tree.specs.declared.protocol.Protocol.{Protocol};
+ghost use Rattle.chor_tree.specs.Protocols.{Protocol};
 ghost use Rattle.global_types.specs.Moves.{IsIn};
-ghost use Rattle.local_types.specs.Reading.{IsProper, IsTypeOf, IsBreadthFirst, HasAscendingLabels, role_place, IsRefusal, IsRefusalBy, HasFineRoles, IsFirstRole, IsFirstRefusal};
+ghost use Rattle.local_types.specs.Reading.{IsTypeOf, IsBreadthFirst, HasAscendingLabels, HasDistinctLabels, role_place, IsRefusal, IsRefusalBy, HasFineRoles, IsFirstRole, IsFirstRefusal};
 
 use crate::act::Act;
 use crate::apart::{apart, has_clash, named};
@@ -33,11 +33,11 @@ pub fn local(
     role: NameId,
     names: &Names,
 ) -> Result<LocalType, Denied>
-    requires proper { IsProper protocol.now }
-    requires role { IsSome (role_place protocol.now.roles role) }
+    requires { IsSome (role_place protocol.now.roles role) }
     ensures stands { IfOk result (λ t. IsTypeOf protocol.now.states role t.states) }
     ensures numbered { IfOk result (λ t. IsBreadthFirst t.states) }
     ensures ascend { IfOk result (λ t. HasAscendingLabels names.now t.states) }
+    ensures distinct { IfOk result (λ t. HasDistinctLabels t.states) }
     ensures fine { OnOk result (HasNoViewFault protocol.now.states role) }
     ensures refused { IfErr result (IsRefusal protocol.now role) }
 {
@@ -54,13 +54,13 @@ fn judged(
     role: NameId,
     sight: &Sight,
 ) -> Result<LocalType, Denied>
-    requires proper { IsProper protocol.now }
     requires role { IsSome (role_place protocol.now.roles role) }
     requires whole { IsWhole protocol.now.states role (length protocol.now.states) sight.now.rows.items }
     requires circling { IsSetFor (length protocol.now.states) (Circles protocol.now.states role) sight.now.circling.items }
     ensures stands { IfOk result (λ t. IsTypeOf protocol.now.states role t.states) }
     ensures numbered { IfOk result (λ t. IsBreadthFirst t.states) }
     ensures ascend { IfOk result (λ t. (names : List (List ℕ)) → HasAscendingArms names sight.now.rows.items → HasAscendingLabels names t.states) }
+    ensures distinct { IfOk result (λ t. HasDistinctLabels t.states) }
     ensures fine { OnOk result (HasNoViewFault protocol.now.states role) }
     ensures refused { IfErr result (IsRefusal protocol.now role) }
 {
@@ -93,7 +93,6 @@ fn sight_of(
     role: NameId,
     names: &Names,
 ) -> Result<Option<Sight>, Memory>
-    requires { IsProper protocol.now }
     ensures ascend { IfOk result (λ o. MatchOption o (Unit {0}) (λ s. HasAscendingArms names.now s.rows.items)) }
     ensures seen { IfOk result (λ o. MatchOption o (HasTooMany protocol.now.states role) (λ s. IsWhole protocol.now.states role (length protocol.now.states) s.rows.items × IsSetFor (length protocol.now.states) (Circles protocol.now.states role) s.circling.items)) }
 {
@@ -209,7 +208,6 @@ fn labels(alloc: Global, arms: &[Arm]) -> Result<List<(NameId, u32)>, Memory>
 /// Checks the views of all roles of all protocols. The first role that has a fault decides, in the
 /// order of the file.
 pub fn check_views(alloc: Global, file: &File) -> Result<(), Denied>
-    requires { (p : Protocol) → IsIn p file.now.protocols → IsProper p }
     ensures fine { OnOk result ((p : Protocol) → IsIn p file.now.protocols → HasFineRoles p p.roles) }
     ensures refused { IfErr result (IsFirstRefusal file.now.protocols) }
 {
@@ -223,7 +221,6 @@ pub fn check_views(alloc: Global, file: &File) -> Result<(), Denied>
 }
 
 fn check_roles(alloc: Global, protocol: &Protocol, names: &Names) -> Result<(), Denied>
-    requires { IsProper protocol.now }
     ensures fine { OnOk result (HasFineRoles protocol.now protocol.now.roles) }
     ensures refused { IfErr result (IsFirstRole protocol.now) }
 {

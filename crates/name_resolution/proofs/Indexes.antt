@@ -97,11 +97,11 @@ index_ends all rest i places e so_far x = sym (or_none (fin.get places x.0)) ∙
 -- ---- what is found
 
 -- the item at a place
-abbrev item_at : {X : Type 0} → List X → Option ℕ → Option X
+abbrev pub item_at : {X : Type 0} → List X → Option ℕ → Option X
 item_at xs None = None
 item_at xs (Some k) = slice_get xs k
 
-found : {X : Type 0} (f : X → Named) (xs : List X) (x : NameId) → first_named f xs x ≡ item_at xs (place_in (names_of f xs) x)
+pub found : {X : Type 0} (f : X → Named) (xs : List X) (x : NameId) → first_named f xs x ≡ item_at xs (place_in (names_of f xs) x)
 found f [] x = refl
 found f (a ∷ as') x = go ((f a).name.0 == x.0) (place_in (names_of f as') x) (found f as' x) where
   go : (b : Bool) (o : Option ℕ) → first_named f as' x ≡ item_at as' o → (if b then Some a else first_named f as' x) ≡ item_at (a ∷ as') (if b then Some 0 else one_later o)

@@ -1,4 +1,3 @@
-pub mod Firsts
 pub mod Indexes
 pub mod Members
 pub mod Repeats

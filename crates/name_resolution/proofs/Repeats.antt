@@ -5,18 +5,19 @@ use Rattle.std.specs.Prelude.{slice_index_or, Option}
 use Rattle.chor_base.specs.declared.names.NameId.{NameId}
 use Rattle.chor_base.specs.declared.rule.Rule.TheVariants.{N2}
 use Rattle.chor_tree.specs.declared.file.Named.{Named}
-use Rattle.chor_tree.specs.Names.{NameFault, is_among, names_in, fault_if, repeated, Scope}
-use Rattle.name_resolution.specs.First.{earlier, first_of_all}
+use Rattle.chor_base.specs.declared.fault.Fault.{Fault}
+use Rattle.chor_tree.specs.Names.{is_among, names_in, fault_at, repeated, Scope}
+use Rattle.chor_base.specs.Faults.{earlier, first_of_all}
 use Rattle.name_resolution.specs.Places.{names_of}
 use Rattle.name_resolution.specs.Sets.{AreAlike, with_name}
-use Rattle.name_resolution.proofs.Firsts.{first_append, earlier_assoc}
+use Rattle.chor_base.proofs.Faults.{first_append, earlier_assoc}
 use Rattle.name_resolution.proofs.Members.{alike_turn, among_append, with_first_of_two, with_second_of_two}
 
 pub repeated_alike : (ks ls : List NameId) (xs : List Named) → AreAlike ks ls → repeated ks xs ≡ repeated ls xs
 repeated_alike ks ls [] h = refl
 repeated_alike ks ls (x ∷ xs) h =
-    ap (λ b. fault_if b N2 x ++ repeated (x.name ∷ ks) xs) (h x.name)
-    ∙ ap (λ l. fault_if (is_among ls x.name) N2 x ++ l) (repeated_alike (x.name ∷ ks) (x.name ∷ ls) xs (λ y. ap (λ b. (x.name.0 == y.0) || b) (h y)))
+    ap (λ b. fault_at b N2 x ++ repeated (x.name ∷ ks) xs) (h x.name)
+    ∙ ap (λ l. fault_at (is_among ls x.name) N2 x ++ l) (repeated_alike (x.name ∷ ks) (x.name ∷ ls) xs (λ y. ap (λ b. (x.name.0 == y.0) || b) (h y)))
 
 -- what is left of a list where one item is taken
 pub taken : {X : Type 0} (xs : List X) (i : ℕ) (x d : X) → i < length xs → x ≡ slice_index_or xs i d → drop i xs ≡ x ∷ drop (i + 1) xs
@@ -31,21 +32,21 @@ names_in_map f [] = refl
 names_in_map f (x ∷ xs) = ap (λ l. (f x).name ∷ l) (names_in_map f xs)
 
 -- one name of a list is looked at and becomes known
-pub repeated_step : (known new : List NameId) (old found : Option NameFault) (x : Named) (rest : List Named) (whole : Option NameFault)
-    → AreAlike new (x.name ∷ known) → found ≡ first_of_all (fault_if (is_among known x.name) N2 x)
+pub repeated_step : (known new : List NameId) (old found : Option Fault) (x : Named) (rest : List Named) (whole : Option Fault)
+    → AreAlike new (x.name ∷ known) → found ≡ first_of_all (fault_at (is_among known x.name) N2 x)
     → earlier old (first_of_all (repeated known (x ∷ rest))) ≡ whole
     → earlier (earlier old found) (first_of_all (repeated new rest)) ≡ whole
 repeated_step known new old found x rest whole is_new is h =
     ap (λ l. earlier (earlier old found) (first_of_all l)) (repeated_alike new (x.name ∷ known) rest is_new)
     ∙ earlier_assoc old found (first_of_all (repeated (x.name ∷ known) rest))
     ∙ ap (λ o. earlier old (earlier o (first_of_all (repeated (x.name ∷ known) rest)))) is
-    ∙ ap (λ o. earlier old o) (sym (first_append (fault_if (is_among known x.name) N2 x) (repeated (x.name ∷ known) rest)))
+    ∙ ap (λ o. earlier old o) (sym (first_append (fault_at (is_among known x.name) N2 x) (repeated (x.name ∷ known) rest)))
     ∙ h
 
 -- the same in a loop over the items ys, which are those of the list xs
-pub repeated_turn : {X : Type 0} (f : X → Named) (known new : List NameId) (old one first : Option NameFault) (ys xs : List X) (i : ℕ) (x d : X) (n : Named) (whole : Option NameFault)
+pub repeated_turn : {X : Type 0} (f : X → Named) (known new : List NameId) (old one first : Option Fault) (ys xs : List X) (i : ℕ) (x d : X) (n : Named) (whole : Option Fault)
     → ys ≡ xs → i < length ys → x ≡ slice_index_or ys i d → n ≡ f x
-    → AreAlike new (n.name ∷ known) → one ≡ first_of_all (fault_if (is_among known n.name) N2 n) → first ≡ earlier old one
+    → AreAlike new (n.name ∷ known) → one ≡ first_of_all (fault_at (is_among known n.name) N2 n) → first ≡ earlier old one
     → earlier old (first_of_all (repeated known (map f (drop i xs)))) ≡ whole
     → earlier first (first_of_all (repeated new (map f (drop (i + 1) xs)))) ≡ whole
 repeated_turn f known new old one first ys xs i x d n whole same lt is_x is_n is_new is_one is_first so_far =
@@ -67,8 +68,8 @@ known_turn f known new all ys xs i x d n same lt is_x is_n is_new so_far =
 pub repeated_append : (ks ls : List NameId) (xs ys : List Named) → AreAlike ls (ks ++ names_in xs) → repeated ks (xs ++ ys) ≡ repeated ks xs ++ repeated ls ys
 repeated_append ks ls [] ys h = repeated_alike ks ls ys (λ y. ap (λ l. is_among l y) (sym (append-nil ks)) ∙ sym (h y))
 repeated_append ks ls (x ∷ xs) ys h =
-    ap (λ l. fault_if (is_among ks x.name) N2 x ++ l) (repeated_append (x.name ∷ ks) ls xs ys (λ y. h y ∙ moved y))
-    ∙ sym (append_assoc (fault_if (is_among ks x.name) N2 x) (repeated (x.name ∷ ks) xs) (repeated ls ys)) where
+    ap (λ l. fault_at (is_among ks x.name) N2 x ++ l) (repeated_append (x.name ∷ ks) ls xs ys (λ y. h y ∙ moved y))
+    ∙ sym (append_assoc (fault_at (is_among ks x.name) N2 x) (repeated (x.name ∷ ks) xs) (repeated ls ys)) where
       moved : (y : NameId) → is_among (ks ++ x.name ∷ names_in xs) y ≡ is_among ((x.name ∷ ks) ++ names_in xs) y
       moved y = among_append ks (x.name ∷ names_in xs) y ∙ shuffled (is_among ks y) (x.name.0 == y.0) (is_among (names_in xs) y) ∙ sym (among_append (x.name ∷ ks) (names_in xs) y) where
         shuffled : (a b c : Bool) → (a || (b || c)) ≡ ((b || a) || c)

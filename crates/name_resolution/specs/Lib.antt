@@ -1,5 +1,4 @@
-pub mod First
 pub mod Following
 pub mod Places
-pub mod Refusal
+pub mod InProcedures
 pub mod Sets

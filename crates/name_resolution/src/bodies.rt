@@ -6,18 +6,17 @@ ghost use Rattle.chor_tree.specs.Children.{children_of};
 ghost use Rattle.chor_tree.specs.Names.{node_faults, scope_after, wrong_parts, wrong_numbers, unknown, channels_of, channel_of, named_as_channel, repeated, unknown_process, unknown_session, procedures_of, procedure_of, IsBodyFault};
 ghost use Rattle.chor_host.specs.Functions.{names_of};
 ghost use Rattle.chor_host.specs.Tables.{functions_of};
-ghost use Rattle.name_resolution.specs.First.{first_of_all, IsFirst};
+ghost use Rattle.chor_base.specs.Faults.{first_of_all, IsFirst};
 ghost use Rattle.name_resolution.specs.Following.{followers};
 ghost use Rattle.name_resolution.specs.Sets.{IsSameScope, BeginsWith, bound_in};
 
 use crate::declared::Declared;
-use crate::fault::{Fault, earlier};
 use crate::functions::unknown_function;
 use crate::lists::{
     unknown_in_parts, unknown_processes, unknown_sessions, wrong_numbers, wrong_parts,
 };
 use crate::scope::Bound;
-use chor_base::{List, Memory};
+use chor_base::{Fault, List, Memory, earlier};
 use chor_host::HostTable;
 use chor_tree::{Form, Named, Node, NodeId, Part};
 
@@ -84,7 +83,7 @@ impl<'a> Declared<'a> {
     }
 
     // The first fault of a node. What it binds is bound afterwards.
-    #[tactic(auto, using(crate::proofs::Firsts::first_append))]
+    #[tactic(auto, using(chor_base::proofs::Faults::first_append))]
     fn first_in_node(
         &self,
         hosts: &HostTable,
@@ -141,7 +140,7 @@ impl<'a> Declared<'a> {
         }
     }
 
-    #[tactic(auto, using(crate::proofs::Firsts::first_append))]
+    #[tactic(auto, using(chor_base::proofs::Faults::first_append))]
     fn first_in_start(
         &self,
         bound: &mut Bound,
@@ -164,7 +163,7 @@ impl<'a> Declared<'a> {
         Ok(earlier(earlier(earlier(parts, processes), named), twice))
     }
 
-    #[tactic(auto, using(crate::proofs::Firsts::first_append))]
+    #[tactic(auto, using(chor_base::proofs::Faults::first_append))]
     fn first_in_call(
         &self,
         bound: &Bound,

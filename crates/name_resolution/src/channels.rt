@@ -3,12 +3,11 @@
 ghost use Rattle.std.specs.Prelude.{◌≡◌, ◌++◌, ◌==◌, ◌&&◌, option_copied};
 ghost use Rattle.std.specs.List.{flat_map, list_all, list_any, count_by};
 ghost use Rattle.chor_tree.specs.Names.{names_in, is_among, has_each_once, wrong_roles, channel_faults};
-ghost use Rattle.name_resolution.specs.First.{first_of_all};
+ghost use Rattle.chor_base.specs.Faults.{first_of_all};
 
 use crate::declared::Declared;
-use crate::fault::{Fault, earlier, fault_if};
 use crate::named::has_name;
-use chor_base::Rule;
+use chor_base::{Fault, Rule, earlier, fault_if};
 use chor_tree::{Named, Protocol, Service};
 
 impl<'a> Declared<'a> {
@@ -22,7 +21,7 @@ impl<'a> Declared<'a> {
         first
     }
 
-    #[tactic(auto, using(crate::proofs::Firsts::first_append))]
+    #[tactic(auto, using(chor_base::proofs::Faults::first_append))]
     fn first_in_channel(&self, service: &Service) -> Option<Fault>
         ensures { result ≡ first_of_all (channel_faults self.now.file.now service.now) }
     {
@@ -45,7 +44,7 @@ fn wrong_roles(protocol: Option<&Protocol>, service: &Service) -> Option<Fault>
                 service.serve.as_slice(),
             ),
             Rule::N3,
-            &service.name,
+            service.name.place,
         ),
         None => None,
     }

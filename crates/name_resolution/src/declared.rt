@@ -2,11 +2,10 @@
 
 ghost use Rattle.std.specs.Prelude.{◌≡◌, IfOk, option_copied};
 ghost use Rattle.chor_tree.specs.Names.{unknown, protocols_of, channels_of, procedures_of, protocol_of, channel_of, procedure_of, named_as_channel};
-ghost use Rattle.name_resolution.specs.First.{first_of_all};
+ghost use Rattle.chor_base.specs.Faults.{first_of_all};
 
-use crate::fault::{Fault, fault_if};
 use crate::index::Index;
-use chor_base::{Memory, NameId, Rule};
+use chor_base::{Fault, Memory, NameId, Rule, fault_if};
 use chor_tree::{File, Named, Proc, Protocol, Service};
 use std::alloc::Global;
 
@@ -41,7 +40,7 @@ impl<'a> Declared<'a> {
     pub fn named_as_channel(&self, session: &Named) -> Option<Fault>
         ensures { result ≡ first_of_all (named_as_channel self.now.file.now session.now) }
     {
-        fault_if(self.channels.has(session.name), Rule::N2, session)
+        fault_if(self.channels.has(session.name), Rule::N2, session.place)
     }
 
     // The first protocol of a name.

@@ -6,10 +6,9 @@ ghost use Rattle.chor_base.specs.Writing.{name_in};
 ghost use Rattle.chor_host.specs.Functions.{names_of};
 ghost use Rattle.chor_host.specs.Tables.{functions_of};
 ghost use Rattle.chor_tree.specs.Names.{unknown_function};
-ghost use Rattle.name_resolution.specs.First.{first_of_all};
+ghost use Rattle.chor_base.specs.Faults.{first_of_all};
 
-use crate::fault::{Fault, fault_if};
-use chor_base::{NameId, Names, Rule};
+use chor_base::{Fault, NameId, Names, Rule, fault_if};
 use chor_host::HostTable;
 use chor_tree::{File, Named};
 
@@ -18,7 +17,7 @@ pub fn unknown_function(file: &File, hosts: &HostTable, name: &Named) -> Option<
     ensures { result ≡ first_of_all (unknown_function file.now (names_of (functions_of hosts.now)) name.now) }
 {
     let is_there = has_function(hosts, word_of(&file.names, name.name));
-    fault_if(!is_there, Rule::N1, name)
+    fault_if(!is_there, Rule::N1, name.place)
 }
 
 fn has_function(hosts: &HostTable, word: &[u8]) -> bool

@@ -2,24 +2,25 @@
 
 ghost use Rattle.std.specs.Prelude.{◌≡◌, IfOk, OnOk, option_copied, is_some};
 ghost use Rattle.chor_tree.specs.Names.{is_among, first_named, unknown};
-ghost use Rattle.name_resolution.specs.First.{first_of_all};
-ghost use Rattle.name_resolution.specs.Places.{names_of, IsIndex, with_place};
+ghost use Rattle.chor_base.specs.Faults.{first_of_all};
+ghost use Rattle.name_resolution.specs.Places.{names_of, place_in, IsIndex, with_place};
 
-use crate::fault::{Fault, fault_if};
 use crate::named::HasName;
-use chor_base::{Memory, NameId, NameMap, Rule};
+use chor_base::{Fault, Memory, NameId, NameMap, Rule, fault_if};
 use chor_tree::Named;
 use std::alloc::Global;
 
-// Items, and where the first one of each name stands.
+/// Items by their names. Of several of one name the first counts.
 #[derive(Drop)]
 pub struct Index<'a, T: HasName> {
     pub items: &'a [T],
+    // Where the first item of each name stands.
     places: NameMap<usize>,
     ghost is_index: { IsIndex (names_of T.name_of items.now) places.map },
 }
 
 impl<'a, T: HasName> Index<'a, T> {
+    /// The items, of which each can be found by its name.
     pub fn new(alloc: Global, items: &'a [T]) -> Result<Self, Memory>
         ensures { IfOk result (λ index. index.items.now ≡ items.now) }
     {
@@ -27,7 +28,14 @@ impl<'a, T: HasName> Index<'a, T> {
         Ok(Index { items, places })
     }
 
-    // The first item of a name.
+    /// The place of the first item of a name.
+    pub fn place(&self, name: NameId) -> Option<usize>
+        ensures { result ≡ place_in (names_of T.name_of self.now.items.now) name }
+    {
+        self.places.get(name)
+    }
+
+    /// The first item of a name.
     pub fn find(&self, name: NameId) -> Option<&'a T>
         ensures { option_copied result ≡ first_named T.name_of self.now.items.now name }
     {
@@ -37,14 +45,14 @@ impl<'a, T: HasName> Index<'a, T> {
         }
     }
 
-    // A name that no item has.
+    /// A name that no item has: N1 is violated.
     pub fn unknown(&self, name: &Named) -> Option<Fault>
         ensures { result ≡ first_of_all (unknown (names_of T.name_of self.now.items.now) name.now) }
     {
-        fault_if(!self.has(name.name), Rule::N1, name)
+        fault_if(!self.has(name.name), Rule::N1, name.place)
     }
 
-    // Whether an item has a name.
+    /// Whether an item has a name.
     pub fn has(&self, name: NameId) -> bool
         ensures { result ≡ is_among (names_of T.name_of self.now.items.now) name }
     {

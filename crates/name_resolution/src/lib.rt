@@ -4,7 +4,6 @@
 mod bodies;
 mod channels;
 mod declared;
-mod fault;
 mod functions;
 mod index;
 mod lists;
@@ -15,4 +14,6 @@ mod resolving;
 mod scope;
 mod set;
 
+pub use index::Index;
+pub use named::HasName;
 pub use resolving::resolve;

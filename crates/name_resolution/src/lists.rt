@@ -3,11 +3,10 @@
 ghost use Rattle.std.specs.Prelude.{◌≡◌, map, option_copied};
 ghost use Rattle.std.specs.List.{flat_map};
 ghost use Rattle.chor_tree.specs.Names.{names_in, are_same, wrong_parts, wrong_numbers, unknown_process, unknown_session};
-ghost use Rattle.name_resolution.specs.First.{first_of_all};
+ghost use Rattle.chor_base.specs.Faults.{first_of_all};
 
-use crate::fault::{Fault, earlier, fault_if};
 use crate::scope::Bound;
-use chor_base::{List, Rule};
+use chor_base::{Fault, List, Rule, earlier, fault_if};
 use chor_tree::{Named, Part, Proc, Service};
 
 // A start whose roles aren't its channel's, in order.
@@ -23,7 +22,7 @@ pub fn wrong_parts(
         Some(service) => {
             let fits = have_roles(active.as_slice(), service.active.as_slice())
                 && have_roles(serve.as_slice(), service.serve.as_slice());
-            fault_if(!fits, Rule::N3, channel)
+            fault_if(!fits, Rule::N3, channel.place)
         }
         None => None,
     }
@@ -57,7 +56,7 @@ pub fn wrong_numbers(
         Some(procedure) => {
             let fits = processes.len() == procedure.params.len()
                 && sessions.len() == procedure.sessions.len();
-            fault_if(!fits, Rule::N3, name)
+            fault_if(!fits, Rule::N3, name.place)
         }
         None => None,
     }

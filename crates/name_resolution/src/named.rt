@@ -3,20 +3,20 @@
 ghost use Rattle.std.specs.Prelude.{◌≡◌, ◌++◌, [], map, IfOk, OnOk};
 ghost use Rattle.chor_tree.specs.declared.file.Named.{Named};
 ghost use Rattle.chor_tree.specs.Names.{repeated, is_among, unknown};
-ghost use Rattle.name_resolution.specs.First.{first_of_all};
+ghost use Rattle.chor_base.specs.Faults.{first_of_all};
 ghost use Rattle.name_resolution.specs.Places.{names_of};
 ghost use Rattle.name_resolution.specs.Sets.{AreAlike};
 
-use crate::fault::{Fault, earlier, fault_if};
 use crate::set::NameSet;
-use chor_base::{List, Memory, NameId, Rule, Sort};
+use chor_base::{Fault, List, Memory, NameId, Rule, Sort, earlier, fault_if};
 use chor_tree::{Named, Part, Proc, ProcParam, ProtoArm, Protocol, Service, SessionParam, State};
 use std::alloc::Global;
 
-// An item of a list in which each name may stand once.
+/// An item that bears a name.
 pub trait HasName {
     ghost name_of: { Self → Named };
 
+    /// Its name, and where that stands.
     fn named(&self) -> Named
         ensures { result ≡ name_of self.now };
 }
@@ -153,7 +153,7 @@ pub fn has_name<T: HasName>(items: &[T], name: NameId) -> bool
 pub fn unknown_in<T: HasName>(items: &List<T>, name: &Named) -> Option<Fault>
     ensures { result ≡ first_of_all (unknown (names_of T.name_of items.now) name.now) }
 {
-    fault_if(!has_name(items.as_slice(), name.name), Rule::N1, name)
+    fault_if(!has_name(items.as_slice(), name.name), Rule::N1, name.place)
 }
 
 // The first name of a list that stands before in the list.

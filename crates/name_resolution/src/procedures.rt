@@ -3,14 +3,13 @@
 ghost use Rattle.std.specs.Prelude.{◌≡◌, ◌++◌, [], map, IfOk, option_copied};
 ghost use Rattle.std.specs.List.{flat_map};
 ghost use Rattle.chor_tree.specs.Names.{unknown, unknown_role, repeated, protocol_of, session_faults, procedure_faults};
-ghost use Rattle.name_resolution.specs.First.{first_of_all};
+ghost use Rattle.chor_base.specs.Faults.{first_of_all};
 
 use crate::declared::Declared;
-use crate::fault::{Fault, earlier};
 use crate::named::{repeated, twice_in, unknown_in};
 use crate::protocols::unknown_role;
 use crate::set::NameSet;
-use chor_base::{List, Memory};
+use chor_base::{Fault, List, Memory, earlier};
 use chor_tree::{Named, Proc, ProcParam, Protocol, SessionParam};
 use std::alloc::Global;
 
@@ -26,7 +25,7 @@ impl<'a> Declared<'a> {
         Ok(first)
     }
 
-    #[tactic(auto, using(crate::proofs::Firsts::first_append))]
+    #[tactic(auto, using(chor_base::proofs::Faults::first_append))]
     fn first_in_procedure(&self, alloc: Global, procedure: &Proc) -> Result<Option<Fault>, Memory>
         ensures { IfOk result (λ o. o ≡ first_of_all (procedure_faults self.now.file.now procedure.now)) }
     {
@@ -48,7 +47,7 @@ impl<'a> Declared<'a> {
         Ok(first)
     }
 
-    #[tactic(auto, using(crate::proofs::Firsts::first_append))]
+    #[tactic(auto, using(chor_base::proofs::Faults::first_append))]
     fn first_in_session(
         &self,
         alloc: Global,
@@ -69,7 +68,7 @@ impl<'a> Declared<'a> {
 }
 
 // The process parameters and the session parameters have one name space.
-#[tactic(auto, using(crate::proofs::Firsts::first_append))]
+#[tactic(auto, using(chor_base::proofs::Faults::first_append))]
 fn repeated_parameters(alloc: Global, procedure: &Proc) -> Result<Option<Fault>, Memory>
     ensures { IfOk result (λ o. o ≡ first_of_all (repeated [] (map (λ q. q.name) procedure.now.params ++ map (λ k. k.name) procedure.now.sessions))) }
 {
@@ -105,7 +104,7 @@ fn first_in_holders(
 }
 
 // A role and its holder.
-#[tactic(auto, using(crate::proofs::Firsts::first_append))]
+#[tactic(auto, using(chor_base::proofs::Faults::first_append))]
 fn first_in_holder(
     protocol: Option<&Protocol>,
     params: &List<ProcParam>,

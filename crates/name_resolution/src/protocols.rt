@@ -3,12 +3,11 @@
 ghost use Rattle.std.specs.Prelude.{◌≡◌, IfOk, option_copied};
 ghost use Rattle.std.specs.List.{flat_map};
 ghost use Rattle.chor_tree.specs.Names.{payload_faults, step_faults, protocol_faults, unknown_role};
-ghost use Rattle.name_resolution.specs.First.{first_of_all};
+ghost use Rattle.chor_base.specs.Faults.{first_of_all};
 
 use crate::declared::Declared;
-use crate::fault::{Fault, earlier};
 use crate::named::{twice_in, unknown_in};
-use chor_base::Memory;
+use chor_base::{Fault, Memory, earlier};
 use chor_tree::{Named, Payload, ProtoStep, Protocol};
 use std::alloc::Global;
 
@@ -34,7 +33,7 @@ impl<'a> Declared<'a> {
         Ok(first)
     }
 
-    #[tactic(auto, using(crate::proofs::Firsts::first_append))]
+    #[tactic(auto, using(chor_base::proofs::Faults::first_append))]
     fn first_in_protocol(&self, alloc: Global, protocol: &Protocol) -> Result<Option<Fault>, Memory>
         ensures { IfOk result (λ o. o ≡ first_of_all (protocol_faults self.now.file.now protocol.now)) }
     {
@@ -55,7 +54,7 @@ impl<'a> Declared<'a> {
         Ok(first)
     }
 
-    #[tactic(auto, using(crate::proofs::Firsts::first_append))]
+    #[tactic(auto, using(chor_base::proofs::Faults::first_append))]
     fn first_in_step(
         &self,
         alloc: Global,
@@ -86,7 +85,7 @@ impl<'a> Declared<'a> {
         }
     }
 
-    #[tactic(auto, using(crate::proofs::Firsts::first_append))]
+    #[tactic(auto, using(chor_base::proofs::Faults::first_append))]
     fn first_in_payload(&self, payload: &Payload) -> Option<Fault>
         ensures { result ≡ first_of_all (payload_faults self.now.file.now payload.now) }
     {

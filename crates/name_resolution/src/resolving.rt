@@ -1,17 +1,17 @@
 //! The check of the names of a file.
 
 ghost use Rattle.std.specs.Prelude.{◌≡◌, ◌++◌, [], IfOk, OnOk, IfErr};
-ghost use Rattle.chor_tree.specs.Names.{NameFault, IsNameFault, IsBodyFault, declaration_faults, scope_of_main, scope_of_procedure};
+ghost use Rattle.chor_base.specs.declared.fault.Fault.{Fault};
+ghost use Rattle.chor_tree.specs.Names.{IsNameFault, IsBodyFault, declaration_faults, scope_of_main, scope_of_procedure};
 ghost use Rattle.chor_host.specs.Functions.{names_of};
 ghost use Rattle.chor_host.specs.Tables.{functions_of};
-ghost use Rattle.name_resolution.specs.First.{first_of_all, IsFirst};
-ghost use Rattle.name_resolution.specs.Refusal.{IsDenial, IsFaultInProcedures};
+ghost use Rattle.chor_base.specs.Faults.{first_of_all, IsFirst, IsDenial};
+ghost use Rattle.name_resolution.specs.InProcedures.{IsFaultInProcedures};
 
 use crate::declared::Declared;
-use crate::fault::{Fault, earlier};
 use crate::named::twice_in;
 use crate::scope::Bound;
-use chor_base::{Denied, Memory, Refusal};
+use chor_base::{Denied, Fault, Memory, earlier};
 use chor_host::HostTable;
 use chor_tree::{File, Proc};
 use std::alloc::Global;
@@ -22,16 +22,12 @@ use std::alloc::Global;
 /// A name that isn't declared or isn't in scope is refused by N1, one that is declared or bound
 /// twice by N2, and a list that doesn't fit what is declared by N3.
 pub fn resolve(alloc: Global, file: &File, hosts: &HostTable) -> Result<(), Denied>
-    ensures ok { OnOk result ((x : NameFault) → IsNameFault file.now (names_of (functions_of hosts.now)) x → ⊥) }
-    ensures refused { IfErr result (IsDenial file.now (names_of (functions_of hosts.now))) }
+    ensures ok { OnOk result ((x : Fault) → IsNameFault file.now (names_of (functions_of hosts.now)) x → ⊥) }
+    ensures refused { IfErr result (IsDenial (IsNameFault file.now (names_of (functions_of hosts.now)))) }
 {
     match first_fault(alloc, file, hosts)? {
         None => Ok(()),
-        Some((rule, place)) => Err(Denied::Refused(Refusal {
-            rule,
-            place,
-            who: None,
-        })),
+        Some(fault) => Err(fault.denied()),
     }
 }
 
@@ -48,7 +44,7 @@ fn first_fault(alloc: Global, file: &File, hosts: &HostTable) -> Result<Option<F
 
 impl<'a> Declared<'a> {
     // The first fault outside of bodies.
-    #[tactic(auto, using(crate::proofs::Firsts::first_append, crate::proofs::Members::map_itself))]
+    #[tactic(auto, using(chor_base::proofs::Faults::first_append, crate::proofs::Members::map_itself))]
     fn first_in_declarations(&self, alloc: Global) -> Result<Option<Fault>, Memory>
         ensures { IfOk result (λ o. o ≡ first_of_all (declaration_faults self.now.file.now)) }
     {

@@ -2,14 +2,13 @@
 
 ghost use Rattle.std.specs.Prelude.{◌≡◌, ◌++◌, ◌∷◌, [], map, length, take, IfOk, OnOk};
 ghost use Rattle.chor_base.specs.declared.rule.Rule.TheVariants.{N2};
-ghost use Rattle.chor_tree.specs.Names.{is_among, fault_if, names_in, repeated, unknown_process, unknown_session, scope_of_procedure, message_faults};
-ghost use Rattle.name_resolution.specs.First.{first_of_all};
+ghost use Rattle.chor_tree.specs.Names.{is_among, fault_at, names_in, repeated, unknown_process, unknown_session, scope_of_procedure, message_faults};
+ghost use Rattle.chor_base.specs.Faults.{first_of_all};
 ghost use Rattle.name_resolution.specs.Sets.{IsSameScope, BeginsWith, scope_of, bound_in};
 
-use crate::fault::{Fault, earlier, fault_if};
 use crate::named::{HasName, add_all};
 use crate::set::NameSet;
-use chor_base::{List, Memory, NameId, Rule};
+use chor_base::{Fault, List, Memory, NameId, Rule, earlier, fault_if};
 use chor_tree::{Named, Part, Proc};
 use std::alloc::Global;
 use std::marker::Model;
@@ -76,7 +75,7 @@ impl Bound {
     }
 
     // The names of a message: its sender, its receiver and its session.
-    #[tactic(auto, using(crate::proofs::Firsts::first_append))]
+    #[tactic(auto, using(chor_base::proofs::Faults::first_append))]
     pub fn first_in_message(&self, from: &Part, to: &Part, session: &Named) -> Option<Fault>
         ensures { result ≡ first_of_all (message_faults self.now from.now to.now session.now) }
     {
@@ -117,9 +116,9 @@ impl Bound {
 
     // A name that is bound already.
     fn twice(&self, name: &Named) -> Option<Fault>
-        ensures { result ≡ first_of_all (fault_if (is_among (self.now.processes ++ self.now.sessions) name.now.name) N2 name.now) }
+        ensures { result ≡ first_of_all (fault_at (is_among (self.now.processes ++ self.now.sessions) name.now.name) N2 name.now) }
     {
-        fault_if(self.has(name.name), Rule::N2, name)
+        fault_if(self.has(name.name), Rule::N2, name.place)
     }
 
     #[tactic(auto, using(crate::proofs::Members::among_append))]

@@ -2,12 +2,11 @@
 
 ghost use Rattle.std.specs.Prelude.{◌≡◌, [], length, take, not, IfOk, OnOk};
 ghost use Rattle.chor_base.specs.declared.rule.Rule.TheVariants.{N1, N2};
-ghost use Rattle.chor_tree.specs.Names.{is_among, fault_if, unknown};
-ghost use Rattle.name_resolution.specs.First.{first_of_all};
+ghost use Rattle.chor_tree.specs.Names.{is_among, fault_at, unknown};
+ghost use Rattle.chor_base.specs.Faults.{first_of_all};
 ghost use Rattle.name_resolution.specs.Sets.{with_name};
 
-use crate::fault::{Fault, fault_if};
-use chor_base::{Memory, NameId, Rule};
+use chor_base::{Fault, Memory, NameId, Rule, fault_if};
 use chor_tree::Named;
 use indexmap::IndexSet;
 use std::alloc::Global;
@@ -72,15 +71,15 @@ impl NameSet {
     pub fn unknown(&self, name: &Named) -> Option<Fault>
         ensures { result ≡ first_of_all (unknown self.now name.now) }
     {
-        fault_if(!self.has(name.name), Rule::N1, name)
+        fault_if(!self.has(name.name), Rule::N1, name.place)
     }
 
     // A name that is in the set already. It is in the set afterwards.
     pub fn add_once(&mut self, name: &Named) -> Result<Option<Fault>, Memory>
         ensures names { OnOk result (self.new ≡ with_name self.old name.now.name) }
-        ensures fault { IfOk result (λ o. o ≡ first_of_all (fault_if (is_among self.old name.now.name) N2 name.now)) }
+        ensures fault { IfOk result (λ o. o ≡ first_of_all (fault_at (is_among self.old name.now.name) N2 name.now)) }
     {
         let is_new = self.add(name.name)?;
-        Ok(fault_if(!is_new, Rule::N2, name))
+        Ok(fault_if(!is_new, Rule::N2, name.place))
     }
 }

@@ -7,7 +7,11 @@ use Rattle.std.proofs.lemmas.List.Elements.{All-head, All-tail}
 use Rattle.chor_base.specs.declared.names.NameId.{NameId}
 use Rattle.chor_base.specs.declared.event.Event.TheVariants as event
 use Rattle.endpoint_code.specs.declared.code.CodeId.{CodeId}
-use Rattle.endpoint_code.specs.declared.code.CodeNode.TheVariants.{Join}
+use Rattle.std.specs.FinMap as fin
+use Rattle.endpoint_code.specs.declared.code.CodeNode.{CodeNode}
+use Rattle.endpoint_code.specs.declared.code.CodeNode.TheVariants.{Join, Send, Recv, Pick, Branch, Throw, Catch, Set, Show, Host, If, Call, End}
+use Rattle.endpoint_machine.specs.declared.head.Head.TheVariants as head
+use Rattle.endpoint_machine.specs.Heads.{node_head}
 use Rattle.endpoint_code.specs.declared.endpoints.Endpoints.{Endpoints}
 use Rattle.endpoint_code.specs.declared.endpoints.Channel.{Channel}
 use Rattle.endpoint_code.specs.Network.{Machine, NetworkState, Sessions, Place, Made, Makes, node_at, place_of, place_at, channel_of, joiners, one_joiner, with_machines, served, served_parts, begun, starts, starts_with, channel_starts, PlaceAnswers, MachineAnswers}
@@ -15,9 +19,10 @@ use Rattle.endpoint_code.specs.Network as net
 use Rattle.endpoint_code.specs.NetworkRuns.{joins_there}
 use Rattle.endpoint_code.specs.Scheduled.{Chooses, chosen_at, started, started_on}
 use Rattle.endpoint_code.specs.Faults.{IsFaultless, IsScoped, IsActive, AreDistinct, is_among, joins, sends, receives, picks, offers, gives, gains, sets, shows, asks, tests, calls, ends}
-use Rattle.net_core.specs.Plain.{IsPlain}
-use Rattle.net_core.specs.Heads.{Stands}
+use Rattle.net_core.specs.Plain.{IsHostless}
+use Rattle.net_core.specs.Heads.{Stands, Shows, is_joining_head}
 use Rattle.net_core.specs.Starts.{IsCast, no_role, one_role, Joined, machines_alone}
+use Rattle.net_core.proofs.Scopes.{out_same, take_same}
 use Rattle.net_core.proofs.Casts.{cast_partners, cast_paired, distinct_front}
 
 same_test : (a : ℕ) → (a == a) ≡ true
@@ -28,7 +33,7 @@ own_join c r = ap (λ (b : Bool). b && (r.0 == r.0)) (same_test c.0) ∙ same_te
 
 -- a process at a join joins its channel in its role
 pub stands_joining : (e : Endpoints) (n : NetworkState) (p : ℕ) (c r k : NameId) (next : CodeId) → Stands e n p (Join c r k next) → joins_there (place_at e (slice_get n.machines p)) c r ≡ true
-stands_joining e n p c r k next s = ap (λ (o : Option Machine). joins_there (place_at e o) c r) s.there ∙ ap (λ (o : Option Place). joins_there o c r) s.place ∙ own_join c r
+stands_joining e n p c r k next s = ap (λ (o : Option Machine). joins_there (place_at e o) c r) s.there ∙ ap (λ (o : Option Place). joins_there o c r) s.at_node.place ∙ own_join c r
 
 pub scoped_join : {e : Endpoints} {id : CodeId} {bs : List NameId} → IsScoped e id bs → (c r k : NameId) (next : CodeId) → node_at e id ≡ Some (Join c r k next) → IsActive e c r
 scoped_join {e} (joins {next} {c = d} {r = q} {k = l} h a u s) c r k m f =
@@ -71,10 +76,10 @@ some_part : {e : Endpoints} {ms : List Machine} {c : NameId} {p : ℕ} {own : Na
 some_part no_role r h n k = absurd cc
 some_part (one_role a b) r h n k = refl
 
-pub begins : (e : Endpoints) (n : NetworkState) (p : ℕ) (c own l : NameId) (next : CodeId) (k : Channel) (ps : List (NameId × ℕ)) (ms : List Machine) → Stands e n p (Join c own l next) → IsPlain e → channel_of e.channels c ≡ Some k → IsCast e n.machines c p own k.active ps → Joined e c n.sid n.machines ps ms
+pub begins : (e : Endpoints) (n : NetworkState) (p : ℕ) (c own l : NameId) (next : CodeId) (k : Channel) (ps : List (NameId × ℕ)) (ms : List Machine) → Stands e n p (Join c own l next) → IsHostless e → channel_of e.channels c ≡ Some k → IsCast e n.machines c p own k.active ps → Joined e c n.sid n.machines ps ms
     → Chooses e [] None n p (event.Start c n.sid ps) (record n { machines = ms; sid = suc n.sid })
 begins e n p c own l next k ps ms s plain found cast joined =
-    let active = scoped_join s.bound.scoped c own l next s.found in
+    let active = scoped_join s.at_node.bound.scoped c own l next s.at_node.found in
     let same : active.0 ≡ k = (let a : Some active.0 ≡ Some k = sym active.1 ∙ found in cc) in
     let among : is_among own k.active ≡ true = subst (λ (x : Channel). is_among own x.active ≡ true) same active.2 in
     let serve : k.serve ≡ [] = channel_has (λ (x : Channel). x.serve ≡ []) e.channels c k plain.channels found in
@@ -82,10 +87,10 @@ begins e n p c own l next k ps ms s plain found cast joined =
       answer = pos 0;
       allowed =
           subst (λ (o : Option Machine). MachineAnswers [] e o (pos 0)) (sym s.there)
-          (subst (λ (o : Option Place). PlaceAnswers [] s.machine.vars o (pos 0)) (sym s.place) tt);
+          (subst (λ (o : Option Place). PlaceAnswers [] s.machine.vars o (pos 0)) (sym s.at_node.place) tt);
       made =
           ap (λ (o : Option Machine). chosen_at e None n p (pos 0) (place_at e o)) s.there
-          ∙ ap (chosen_at e None n p (pos 0)) s.place
+          ∙ ap (chosen_at e None n p (pos 0)) s.at_node.place
           ∙ ap (started_on e n p c own) found
           ∙ ap (started e n c) (cast_partners cast)
           ∙ ap (channel_starts e n c (map (λ q. q.1) ps)) found
@@ -96,3 +101,30 @@ begins e n p c own l next k ps ms s plain found cast joined =
           ∙ ap (λ (qs : List (NameId × ℕ)). Some (Makes (event.Start c n.sid qs) (record n { machines = with_machines n.machines joined.joining ++ []; sid = suc n.sid }))) (append-nil ps)
           ∙ ap (λ (ns : List Machine). Some (Makes (event.Start c n.sid ps) (record n { machines = ns; sid = suc n.sid }))) (append-nil (with_machines n.machines joined.joining) ∙ joined.placed);
     }
+
+join_shape : (m : Sessions) (node : CodeNode) (y z : NameId) → node_head m node ≡ Some (head.Join y z) → (k : NameId) × (next : CodeId) × (node ≡ Join y z k next)
+join_shape m (Join c r k next) y z i = (k, next, cc)
+join_shape m (Send k b x next) y z i = let no : false ≡ true = out_same is_joining_head false (λ s a z. refl) (fin.get m k.0) b (head.Join y z) i in absurd cc
+join_shape m (Recv k a x next) y z i = let no : false ≡ true = take_same is_joining_head false (λ s z w. refl) (fin.get m k.0) a (head.Join y z) i in absurd cc
+join_shape m (Pick k b l next) y z i = let no : false ≡ true = out_same is_joining_head false (λ s a z. refl) (fin.get m k.0) b (head.Join y z) i in absurd cc
+join_shape m (Branch k a arms) y z i = let no : false ≡ true = take_same is_joining_head false (λ s z w. refl) (fin.get m k.0) a (head.Join y z) i in absurd cc
+join_shape m (Throw k b g next) y z i = let no : false ≡ true = out_same is_joining_head false (λ s a z. refl) (fin.get m k.0) b (head.Join y z) i in absurd cc
+join_shape m (Catch k a g next) y z i = let no : false ≡ true = take_same is_joining_head false (λ s z w. refl) (fin.get m k.0) a (head.Join y z) i in absurd cc
+join_shape m (Set x w next) y z i = absurd cc
+join_shape m (Show w next) y z i = absurd cc
+join_shape m (Host x f u w next) y z i = absurd cc
+join_shape m (If w c d) y z i = absurd cc
+join_shape m (Call f o ns) y z i = absurd cc
+join_shape m End y z i = absurd cc
+
+-- a process whose next action is a join stands at one
+pub join_stands : (e : Endpoints) (n : NetworkState) (p : ℕ) (c r : NameId) → Shows e n p (head.Join c r) → (k : NameId) × (next : CodeId) × Stands e n p (Join c r k next)
+join_stands e n p c r t =
+    let shape = join_shape t.stands.sessions t.node c r t.head in
+    (shape.0, shape.1, subst (Stands e n p) shape.2 t.stands)
+
+-- its channel is there
+pub join_channel : (e : Endpoints) (n : NetworkState) (p : ℕ) (c r : NameId) → Shows e n p (head.Join c r) → IsActive e c r
+join_channel e n p c r t =
+    let s = join_stands e n p c r t in
+    scoped_join s.2.at_node.bound.scoped c r s.0 s.1 s.2.at_node.found

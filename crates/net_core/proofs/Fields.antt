@@ -8,31 +8,26 @@ use Rattle.chor_base.specs.declared.event.Event.TheVariants as event
 use Rattle.chor_base.specs.declared.event.Entry.{Entry}
 use Rattle.endpoint_code.specs.declared.code.CodeNode.{CodeNode}
 use Rattle.endpoint_code.specs.declared.endpoints.Endpoints.{Endpoints}
-use Rattle.endpoint_code.specs.Network.{Machine, NetworkState, place_of, with_machines}
+use Rattle.endpoint_code.specs.Network.{Machine, NetworkState, with_machines}
 use Rattle.endpoint_code.specs.Scheduled.{Chooses}
-use Rattle.net_core.specs.declared.machine.Runner.{Runner}
+use Rattle.endpoint_machine.specs.Views.{MachineView}
 use Rattle.net_core.specs.Lanes.{QueuesView, loads_in}
 use Rattle.net_core.specs.Machines.{standing_of}
-use Rattle.net_core.specs.Heads.{Stands}
+use Rattle.endpoint_machine.specs.declared.head.Head.{Head}
+use Rattle.net_core.specs.Heads.{Stands, Shows}
 use Rattle.net_core.specs.Views.{NetworkView, IsSame, state_of}
 use Rattle.net_core.specs.Steps.{HasStepped, HasBegun, HasGrown}
 use Rattle.net_core.specs.Starts.{Joined}
 use Rattle.net_core.proofs.Scopes.{runner_at}
 
-abbrev pub fields : Endpoints → List Runner → QueuesView → ℕ → List Entry → List Bool → NetworkView
+abbrev pub fields : Endpoints → List MachineView → QueuesView → ℕ → List Entry → List Bool → NetworkView
 fields e ms q sid h res = record { endpoints = e; state = state_of ms q sid; history = h; reserved = res }
 
 -- the machine of a process is the one at its place
-pub stands_there : (e : Endpoints) (ms : List Runner) (q : QueuesView) (sid p : ℕ) (r : Runner) (node : CodeNode) (s : Stands e (state_of ms q sid) p node) → p < length ms → r ≡ get_or ms p r → s.machine ≡ standing_of r
+pub stands_there : (e : Endpoints) (ms : List MachineView) (q : QueuesView) (sid p : ℕ) (r : MachineView) (node : CodeNode) (s : Stands e (state_of ms q sid) p node) → p < length ms → r ≡ get_or ms p r → s.machine ≡ standing_of r
 stands_there e ms q sid p r node s lt h =
     let a : Some s.machine ≡ Some (standing_of r) = sym s.there ∙ runner_at ms p r lt h in
     cc
-
--- the machine of a process is the one at its place, and stands at its node
-pub place_there : (e : Endpoints) (ms : List Runner) (q : QueuesView) (sid p : ℕ) (r : Runner) (node : CodeNode) (s : Stands e (state_of ms q sid) p node) → p < length ms → r ≡ get_or ms p r → place_of e (standing_of r) ≡ Some (record { node = node; sessions = r.sessions.map })
-place_there e ms q sid p r node s lt h =
-    let same = stands_there e ms q sid p r node s lt h in
-    subst (λ (m : Machine). place_of e m ≡ Some (record { node = node; sessions = m.sessions })) same s.place
 
 length-with_machines : (ms : List Machine) (js : List (ℕ × Machine)) → length (with_machines ms js) ≡ length ms
 length-with_machines ms [] = refl
@@ -52,12 +47,12 @@ grown_begun old c parts new h = record {
       omega arith);
 }
 
-module _ {e : Endpoints} (ms : List Runner) (q : QueuesView) {sid : ℕ} {h : List Entry} {res : List Bool} {v : NetworkView} (is : fields e ms q sid h res ≡ v) where
+module _ {e : Endpoints} (ms : List MachineView) (q : QueuesView) {sid : ℕ} {h : List Entry} {res : List Bool} {v : NetworkView} (is : fields e ms q sid h res ≡ v) where
   pub within : (p : ℕ) → p < length v.state.machines → p < length ms
   within p lt = let k = ap (λ (w : NetworkView). length w.state.machines) is in omega (arith, k, length-map ms standing_of)
 
-  pub stands_in : (p : ℕ) (node : CodeNode) → Stands v.endpoints v.state p node → Stands e (state_of ms q sid) p node
-  stands_in p node s = subst (λ (w : NetworkView). Stands w.endpoints w.state p node) (sym is) s
+  pub shows_in : (p : ℕ) (a : Head) → Shows v.endpoints v.state p a → Shows e (state_of ms q sid) p a
+  shows_in p a s = subst (λ (w : NetworkView). Shows w.endpoints w.state p a) (sym is) s
 
   pub stepped : (new : NetworkView) (p : ℕ) (x : Event) (n : NetworkState) → new.endpoints ≡ e → new.state ≡ n → new.history ≡ h ++ record { worker = 0; event = x } ∷ [] → Chooses e [] None (state_of ms q sid) p x n → HasStepped v p new
   stepped new p x n a b d chooses =
@@ -70,7 +65,7 @@ module _ {e : Endpoints} (ms : List Runner) (q : QueuesView) {sid : ℕ} {h : Li
   has_begun new c parts ns a b d joined =
       subst (λ (w : NetworkView). HasBegun w c parts new) is (record { machines = ns; joined = joined; becomes = record { endpoints = a; state = b; history = d } })
 
-  pub grown_put : (new : NetworkView) (p : ℕ) (t : Runner) (k : QueuesView) → new.state ≡ state_of (slice_set ms p t) k sid → HasGrown v new
+  pub grown_put : (new : NetworkView) (p : ℕ) (t : MachineView) (k : QueuesView) → new.state ≡ state_of (slice_set ms p t) k sid → HasGrown v new
   grown_put new p t k a =
       subst (λ (w : NetworkView). HasGrown w new) is
       (record {

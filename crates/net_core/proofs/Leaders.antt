@@ -153,7 +153,7 @@ leader e n i m c r there p active steps = go active.0.active refl
 
 -- where a process can step, one is listed
 listed_one : (e : Endpoints) (n : NetworkState) (i : ℕ) (m : Machine) (node : CodeNode) → Stands e n i node → slice_get n.machines i ≡ Some m → can_step e None n m ≡ true → Listed e n
-listed_one e n i m node s there steps = go node s.found s.place
+listed_one e n i m node s there steps = go node s.at_node.found s.at_node.place
   where
     same : s.machine ≡ m
     same = let a : Some s.machine ≡ Some m = sym s.there ∙ there in cc
@@ -161,9 +161,9 @@ listed_one e n i m node s there steps = go node s.found s.place
     itself : listed_at e (place_of e s.machine) ≡ true → Listed e n
     itself h = (i, m, there, ap (λ (b : Bool). b && listed_at e (place_of e m)) steps ∙ ap (λ (x : Machine). listed_at e (place_of e x)) (sym same) ∙ h)
 
-    go : (x : CodeNode) → node_at e s.machine.at ≡ Some x → place_of e s.machine ≡ Some (record { node = x; sessions = s.machine.sessions }) → Listed e n
+    go : (x : CodeNode) → node_at e s.at_node.id ≡ Some x → place_of e s.machine ≡ Some (record { node = x; sessions = s.sessions }) → Listed e n
     go (Join c r k next) f p =
-        leader e n i m c r there (record { session = k; next = next; sessions = s.machine.sessions; is = ap (place_of e) (sym same) ∙ p }) (scoped_join s.bound.scoped c r k next f) steps
+        leader e n i m c r there (record { session = k; next = next; sessions = s.sessions; is = ap (place_of e) (sym same) ∙ p }) (scoped_join s.at_node.bound.scoped c r k next f) steps
     go (Send k b x next) f p = itself (ap (listed_at e) p)
     go (Recv k b x next) f p = itself (ap (listed_at e) p)
     go (Pick k b l next) f p = itself (ap (listed_at e) p)

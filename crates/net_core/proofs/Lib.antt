@@ -1,13 +1,14 @@
 pub mod Lanes
 pub mod Turns
+pub mod Counts
 pub mod Scopes
 pub mod Heads
 pub mod Fields
 pub mod Rooms
-pub mod Acts
+pub mod Alone
 pub mod Joins
 pub mod Casts
 pub mod Begins
 pub mod Leaders
 pub mod Runs
-pub mod Samples
+pub mod Plain

@@ -1,19 +1,18 @@
 -- Room for the next events of processes.
 use Rattle.std.proofs.Common.{◌≡◌, ℕ, zero, suc, ◌<◌, ◌≤◌, ◌&&◌, Bool, true, List, [], ◌∷◌, length, get_or, refl, sym, ap, ◌∙◌, Option, Some, None, arith}
 use Rattle.std.specs.Prelude.{slice_get, slice_set, map, nat_lt}
-use Rattle.std.specs.FinMap as fin
 use Rattle.std.proofs.lemmas.Option.{slice_get-get_or, slice_get-map, get_or_from_slice_get}
 use Rattle.std.proofs.lemmas.Bool.Decides.{nat_tests}
-use Rattle.chor_base.specs.declared.names.NameId.{NameId}
 use Rattle.chor_base.specs.Events.{Triple}
-use Rattle.endpoint_code.specs.declared.code.CodeNode.{CodeNode}
-use Rattle.endpoint_code.specs.declared.code.CodeNode.TheVariants.{Join, Send, Recv, Pick, Branch, Throw, Catch, Set, Show, Host, If, Call, End}
 use Rattle.endpoint_code.specs.declared.endpoints.Endpoints.{Endpoints}
-use Rattle.endpoint_code.specs.Network.{Machine, Place, place_of}
-use Rattle.net_core.specs.declared.machine.Runner.{Runner}
+use Rattle.endpoint_code.specs.Network.{Machine, node_at}
+use Rattle.endpoint_machine.specs.declared.head.Head.{Head}
+use Rattle.endpoint_machine.specs.declared.head.Head.TheVariants as head
+use Rattle.endpoint_machine.specs.Heads.{head_of}
+use Rattle.endpoint_machine.specs.Views.{MachineView, IsReserved, passes}
 use Rattle.net_core.specs.Lanes.{QueuesView, room_on}
-use Rattle.net_core.specs.Machines.{standing_of, has_room_at, has_room_to}
-use Rattle.net_core.specs.Views.{place_has_room, has_room}
+use Rattle.net_core.specs.Machines.{is_reserved, has_queue_room}
+use Rattle.net_core.specs.Views.{has_room}
 use Rattle.net_core.proofs.Lanes.{both_true}
 use Rattle.net_core.proofs.Turns.{turn}
 
@@ -43,62 +42,66 @@ kept_after f g (z ∷ xs) (suc p) x y lt h each one zero t = ap Some (each z cc)
 kept_after f g (z ∷ xs) (suc p) x y lt h each one (suc i) t = kept_after f g xs p x y (omega arith) h each one i t
 
 -- a process in the same place has still room where there isn't less
-pub room_stays : (e : Endpoints) (k l : ℕ) (q r : QueuesView) (m n : Runner) → k ≤ l → ((t : Triple) → room_on q t ≤ room_on r t) → m.vars.spare ≤ n.vars.spare → standing_of n ≡ standing_of m → has_room e k q m ≡ true → has_room e l r n ≡ true
-room_stays e k l q r m n more queues vars same h =
-    let parts = both_true (nat_lt 0 k) (place_has_room q m (place_of e (standing_of m))) h in
+pub room_stays : (e : Endpoints) (k l : ℕ) (q r : QueuesView) (m n : MachineView) → k ≤ l → ((t : Triple) → room_on q t ≤ room_on r t) → (is_reserved e m ≡ true → is_reserved e n ≡ true) → n.machine ≡ m.machine → has_room e k q m ≡ true → has_room e l r n ≡ true
+room_stays e k l q r m n more queues kept same h =
+    let parts = both_true (nat_lt 0 k) (is_reserved e m && has_queue_room q (head_of e m.machine)) h in
+    let others = both_true (is_reserved e m) (has_queue_room q (head_of e m.machine)) parts.1 in
     let first : nat_lt 0 l ≡ true = let a : nat_lt 0 k ≡ true = parts.0 in grind (arith, nat_tests) in
-    let second : place_has_room r n (place_of e (standing_of n)) ≡ true =
-    ap (λ (s : Machine). place_has_room r n (place_of e s)) same ∙ place_stays (place_of e (standing_of m)) parts.1
-    in
-    ap (λ (b : Bool). b && place_has_room r n (place_of e (standing_of n))) first ∙ second
+    ap (λ (b : Bool). b && (is_reserved e n && has_queue_room r (head_of e n.machine))) first
+    ∙ ap (λ (b : Bool). b && has_queue_room r (head_of e n.machine)) (kept others.0)
+    ∙ ap (λ (s : Machine). has_queue_room r (head_of e s)) same ∙ queue_stays (head_of e m.machine) others.1
   where
-    to_stays : (o : Option (ℕ × NameId)) (b : NameId) → has_room_to q o b ≡ true → has_room_to r o b ≡ true
-    to_stays None b h = refl
-    to_stays (Some (s, a)) b h = let k = queues (s, a, b) in grind (arith, nat_tests)
+    queue_stays : (o : Option Head) → has_queue_room q o ≡ true → has_queue_room r o ≡ true
+    queue_stays (Some (head.Out s a b)) h = let k = queues (s, a, b) in grind (arith, nat_tests)
+    queue_stays (Some (head.Take s a b)) h = refl
+    queue_stays (Some (head.Join c o)) h = refl
+    queue_stays (Some head.Local) h = refl
+    queue_stays (Some head.Ended) h = refl
+    queue_stays None h = refl
 
-    node_stays : (node : CodeNode) → has_room_at q m node ≡ true → has_room_at r n node ≡ true
-    node_stays (Send k b x next) h = ap (λ (s : Machine). has_room_to r (fin.get s.sessions k.0) b) same ∙ to_stays (fin.get m.sessions.map k.0) b h
-    node_stays (Recv k a x next) h = grind (arith, nat_tests)
-    node_stays (Join c o k next) h = refl
-    node_stays End h = refl
-    node_stays (Pick k b l next) h = refl
-    node_stays (Branch k a arms) h = refl
-    node_stays (Throw k b l next) h = refl
-    node_stays (Catch k a l next) h = refl
-    node_stays (Set x v next) h = refl
-    node_stays (Show v next) h = refl
-    node_stays (Host x f a b next) h = refl
-    node_stays (If v a b) h = refl
-    node_stays (Call f o ss) h = refl
+-- a list stays where an item is put that a function takes alike
+pub mapped_put : {X Y : Type 0} (f : X → Y) (xs : List X) (p : ℕ) (x y : X) → p < length xs → x ≡ get_or xs p x → f y ≡ f x → map f (slice_set xs p y) ≡ map f xs
+mapped_put f [] p x y lt h same = absurd (omega arith)
+mapped_put f (z ∷ xs) zero x y lt h same = ap (λ s. s ∷ map f xs) (same ∙ ap f h)
+mapped_put f (z ∷ xs) (suc p) x y lt h same = ap (λ r. f z ∷ r) (mapped_put f xs p x y (omega arith) h same)
 
-    place_stays : (p : Option Place) → place_has_room q m p ≡ true → place_has_room r n p ≡ true
-    place_stays None h = refl
-    place_stays (Some p) h = node_stays p.node h
-
--- the machines stay where one is put that stands where the old one stood
-pub standing_stays : (ms : List Runner) (p : ℕ) (m n : Runner) → p < length ms → m ≡ get_or ms p m → standing_of n ≡ standing_of m → map standing_of (slice_set ms p n) ≡ map standing_of ms
-standing_stays [] p m n lt h same = absurd (omega arith)
-standing_stays (z ∷ ms) zero m n lt h same = ap (λ (s : Machine). s ∷ map standing_of ms) (same ∙ ap standing_of h)
-standing_stays (z ∷ ms) (suc p) m n lt h same = ap (λ (r : List Machine). standing_of z ∷ r) (standing_stays ms p m n (omega arith) h same)
-
--- a process that stands at a node has room where the history and the node have
-pub room_made : (e : Endpoints) (k : ℕ) (q : QueuesView) (m : Runner) (node : CodeNode) → place_of e (standing_of m) ≡ Some (record { node = node; sessions = m.sessions.map }) → 0 < k → has_room_at q m node ≡ true → has_room e k q m ≡ true
-room_made e k q m node place more room =
+-- a process has room where the history, the process and its queue have
+pub room_made : (e : Endpoints) (k : ℕ) (q : QueuesView) (m : MachineView) (h : Head) → head_of e m.machine ≡ Some h → 0 < k → is_reserved e m ≡ true → has_queue_room q (Some h) ≡ true → has_room e k q m ≡ true
+room_made e k q m h is more room queue =
     let first : nat_lt 0 k ≡ true = grind (arith, nat_tests) in
-    ap (λ (b : Bool). b && place_has_room q m (place_of e (standing_of m))) first ∙ ap (place_has_room q m) place ∙ room
+    ap (λ (b : Bool). b && (is_reserved e m && has_queue_room q (head_of e m.machine))) first
+    ∙ ap (λ (b : Bool). b && has_queue_room q (head_of e m.machine)) room ∙ ap (has_queue_room q) is ∙ queue
 
-pub room_known : (e : Endpoints) (k : ℕ) (q : QueuesView) (m : Runner) (node : CodeNode) → place_of e (standing_of m) ≡ Some (record { node = node; sessions = m.sessions.map }) → has_room e k q m ≡ true → (0 < k) × (has_room_at q m node ≡ true)
-room_known e k q m node place h =
-    let parts = both_true (nat_lt 0 k) (place_has_room q m (place_of e (standing_of m))) h in
+pub room_known : (e : Endpoints) (k : ℕ) (q : QueuesView) (m : MachineView) (h : Head) → head_of e m.machine ≡ Some h → has_room e k q m ≡ true → (0 < k) × (is_reserved e m ≡ true) × (has_queue_room q (Some h) ≡ true)
+room_known e k q m h is r =
+    let parts = both_true (nat_lt 0 k) (is_reserved e m && has_queue_room q (head_of e m.machine)) r in
+    let others = both_true (is_reserved e m) (has_queue_room q (head_of e m.machine)) parts.1 in
     let a : nat_lt 0 k ≡ true = parts.0 in
-    (grind (arith, nat_tests), sym (ap (place_has_room q m) place) ∙ parts.1)
+    (grind (arith, nat_tests), others.0, sym (ap (has_queue_room q) is) ∙ others.1)
 
-pub reserved_room : (e : Endpoints) (k : ℕ) (q : QueuesView) (ms : List Runner) (p : ℕ) (m : Runner) → p < length ms → m ≡ get_or ms p m → slice_get (map (has_room e k q) ms) p ≡ Some true → has_room e k q m ≡ true
+pub reserved_room : (e : Endpoints) (k : ℕ) (q : QueuesView) (ms : List MachineView) (p : ℕ) (m : MachineView) → p < length ms → m ≡ get_or ms p m → slice_get (map (has_room e k q) ms) p ≡ Some true → has_room e k q m ≡ true
 reserved_room e k q ms p m lt h r = let a : Some (has_room e k q m) ≡ Some true = sym (mapped_at (has_room e k q) ms p m lt h) ∙ r in cc
 
-pub reserved_first : (e : Endpoints) (k : ℕ) (q : QueuesView) (ms : List Runner) (p : ℕ) → p < length ms → slice_get (map (has_room e k q) ms) p ≡ Some true → 0 < k
+pub reserved_first : (e : Endpoints) (k : ℕ) (q : QueuesView) (ms : List MachineView) (p : ℕ) → p < length ms → slice_get (map (has_room e k q) ms) p ≡ Some true → 0 < k
 reserved_first e k q ms p lt r =
     let t = turn ms p lt in
     let h = reserved_room e k q ms p t.item lt (sym (get_or_from_slice_get ms p t.item t.item t.there)) r in
-    let a : nat_lt 0 k ≡ true = (both_true (nat_lt 0 k) (place_has_room q t.item (place_of e (standing_of t.item))) h).0 in
+    let a : nat_lt 0 k ≡ true = (both_true (nat_lt 0 k) (is_reserved e t.item && has_queue_room q (head_of e t.item.machine)) h).0 in
     grind (arith, nat_tests)
+
+-- the parts of a process's room
+pub reserved_is : (e : Endpoints) (m : MachineView) → is_reserved e m ≡ true → IsReserved e m
+reserved_is e m h =
+    let parts = both_true (nat_lt 0 m.room.variables) (nat_lt 0 m.room.sessions && nat_lt (passes (node_at e m.machine.at)) m.room.beyond) h in
+    let others = both_true (nat_lt 0 m.room.sessions) (nat_lt (passes (node_at e m.machine.at)) m.room.beyond) parts.1 in
+    let a : nat_lt 0 m.room.variables ≡ true = parts.0 in
+    let b : nat_lt 0 m.room.sessions ≡ true = others.0 in
+    let c : nat_lt (passes (node_at e m.machine.at)) m.room.beyond ≡ true = others.1 in
+    record { variables = grind (arith, nat_tests); sessions = grind (arith, nat_tests); beyond = grind (arith, nat_tests) }
+
+pub is_room : (e : Endpoints) (m : MachineView) → IsReserved e m → is_reserved e m ≡ true
+is_room e m r =
+    let a : nat_lt 0 m.room.variables ≡ true = (let i = r.variables in grind (arith, nat_tests)) in
+    let b : nat_lt 0 m.room.sessions ≡ true = (let i = r.sessions in grind (arith, nat_tests)) in
+    let c : nat_lt (passes (node_at e m.machine.at)) m.room.beyond ≡ true = (let i = r.beyond in grind (arith, nat_tests)) in
+    ap (λ (t : Bool). t && (nat_lt 0 m.room.sessions && nat_lt (passes (node_at e m.machine.at)) m.room.beyond)) a ∙ ap (λ (t : Bool). t && nat_lt (passes (node_at e m.machine.at)) m.room.beyond) b ∙ c

@@ -1,92 +1,254 @@
 -- What the code at which a process stands tells.
-use Rattle.std.proofs.Common.{◌≡◌, ℕ, suc, ◌<◌, true, List, [], ◌∷◌, length, get_or, refl, sym, ap, ◌∙◌, subst, Option, Some, None, arith, ◌^◌}
+use Rattle.std.proofs.Common.{◌≡◌, ℕ, suc, ◌<◌, true, false, List, [], ◌∷◌, length, get_or, refl, sym, ap, ◌∙◌, subst, Option, Some, None, arith, ◌^◌}
 use Rattle.std.specs.Prelude.{slice_get, All, map}
-use Rattle.std.proofs.lemmas.Option.{slice_get-get_or, get_or_from_slice_get, slice_get_within, slice_get-map}
+use Rattle.std.specs.FinMap as fin
+use Rattle.std.proofs.lemmas.Option.{slice_get-get_or, get_or_from_slice_get, slice_get-map}
 use Rattle.std.proofs.lemmas.List.{length-map}
 use Rattle.std.proofs.lemmas.List.Elements.{All-nil, All-cons, All-head, All-tail}
 use Rattle.chor_base.specs.declared.names.NameId.{NameId}
-use Rattle.endpoint_code.specs.declared.code.CodeId.{CodeId}
+use Rattle.chor_base.specs.declared.event.Why.TheVariants.{Empty}
+use Rattle.chor_base.specs.declared.value.Load.{Load}
+use Rattle.chor_base.specs.NameMap.{Variables}
 use Rattle.endpoint_code.specs.declared.code.CodeNode.{CodeNode}
 use Rattle.endpoint_code.specs.declared.code.CodeNode.TheVariants.{Join, Send, Recv, Pick, Branch, Throw, Catch, Set, Show, Host, If, Call, End}
 use Rattle.endpoint_code.specs.declared.endpoints.Endpoints.{Endpoints}
 use Rattle.endpoint_code.specs.declared.endpoints.Process.{Process}
-use Rattle.endpoint_code.specs.Network.{Machine, Sessions, node_at, place_in, standing, standing_all}
-use Rattle.endpoint_code.specs.Faults.{IsFaultless, IsScoped, joins, sends, receives, picks, offers, gives, gains, sets, shows, asks, tests, calls, ends}
-use Rattle.net_core.specs.declared.machine.Runner.{Runner}
+use Rattle.endpoint_code.specs.Network.{Machine, NetworkState, Sessions, Place, Taking, node_at, place_at, standing, standing_all, queue_of, takes_value, takes_label, takes_part}
+use Rattle.endpoint_code.specs.NetworkRuns.{ends_there, joins_there, node_waits, place_waits, waits_to_send, waits_to_receive, waits_for_first}
+use Rattle.endpoint_code.specs.Scheduled.{listed_at}
+use Rattle.endpoint_code.specs.Faults.{IsFaultless, IsScoped, asks_known}
+use Rattle.endpoint_machine.specs.declared.head.Head.{Head}
+use Rattle.endpoint_machine.specs.declared.head.Head.TheVariants as head
+use Rattle.endpoint_machine.specs.Bound.{IsBound}
+use Rattle.endpoint_machine.specs.Heads.{node_head, place_head, head_of, sends_on, takes_on, is_host}
+use Rattle.endpoint_machine.specs.Places.{StandsAt}
+use Rattle.endpoint_machine.specs.Views.{MachineView}
+use Rattle.endpoint_machine.proofs.Scopes.{some_node, stands_plainly, stands_beyond, called, procedure_all}
 use Rattle.net_core.specs.Lanes.{QueuesView}
-use Rattle.net_core.specs.Plain.{is_plain, IsPlain}
-use Rattle.net_core.specs.Machines.{standing_of}
-use Rattle.net_core.specs.Heads.{Stands, EachStands}
-use Rattle.net_core.specs.Bound.{IsBound}
-use Rattle.net_core.specs.Views.{IsSound, state_of}
+use Rattle.net_core.specs.Plain.{IsHostless}
+use Rattle.net_core.specs.Machines.{standing_of, is_join}
+use Rattle.net_core.specs.Heads.{Stands, Shows, EachStands, ended_of, why_of, is_joining, is_end, is_joining_head, is_taking, joins_as, leads_as, why_by}
+use Rattle.net_core.specs.Views.{IsSound, AreCounted, state_of}
 use Rattle.net_core.proofs.Turns.{all_at, turn}
 
--- a node stands at scoped code
-pub scoped_node : {e : Endpoints} {id : CodeId} {bs : List NameId} → IsScoped e id bs → (node : CodeNode) × (node_at e id ≡ Some node)
-scoped_node (joins h a b c) = (_, h)
-scoped_node (sends h a b) = (_, h)
-scoped_node (receives h a b) = (_, h)
-scoped_node (picks h a b) = (_, h)
-scoped_node (offers h a b c) = (_, h)
-scoped_node (gives h a b c) = (_, h)
-scoped_node (gains h a b c) = (_, h)
-scoped_node (sets h a) = (_, h)
-scoped_node (shows h a) = (_, h)
-scoped_node (asks h a) = (_, h)
-scoped_node (tests h a b) = (_, h)
-scoped_node (calls h a b c d) = (_, h)
-scoped_node (ends h) = (_, h)
+-- ---- the action of a node
 
--- a plain node is the place's own
-pub plain_place : (e : Endpoints) (node : CodeNode) (m : Sessions) → is_plain node ≡ true → place_in e (Some node) m ≡ Some (record { node = node; sessions = m })
-plain_place e (Join c r k next) m h = refl
-plain_place e (Send k b x next) m h = refl
-plain_place e (Recv k a x next) m h = refl
-plain_place e End m h = refl
-plain_place e (Pick k b l next) m h = refl
-plain_place e (Branch k a arms) m h = refl
-plain_place e (Throw k b l next) m h = refl
-plain_place e (Catch k a l next) m h = refl
-plain_place e (Set x v next) m h = refl
-plain_place e (Show v next) m h = refl
-plain_place e (Host x f a b next) m h = refl
-plain_place e (If v a b) m h = refl
-plain_place e (Call f p ss) m h = absurd cc
+pub out_same : {X : Type 0} (F : Head → X) (y : X) → ((s : ℕ) (a b : NameId) → F (head.Out s a b) ≡ y) → (o : Option (ℕ × NameId)) (b : NameId) (h : Head) → sends_on o b ≡ Some h → y ≡ F h
+out_same F y f None b h i = absurd cc
+out_same F y f (Some (s, a)) b h i = let same : head.Out s a b ≡ h = cc in sym (f s a b) ∙ ap F same
 
-abbrev mapped : Option Runner → Option Machine
+pub take_same : {X : Type 0} (F : Head → X) (y : X) → ((s : ℕ) (a b : NameId) → F (head.Take s a b) ≡ y) → (o : Option (ℕ × NameId)) (a : NameId) (h : Head) → takes_on o a ≡ Some h → y ≡ F h
+take_same F y f None a h i = absurd cc
+take_same F y f (Some (s, b)) a h i = let same : head.Take s a b ≡ h = cc in sym (f s a b) ∙ ap F same
+
+end_head : (m : Sessions) (node : CodeNode) (h : Head) → node_head m node ≡ Some h → ends_there (Some (record { node = node; sessions = m })) ≡ is_end h
+end_head m (Join c r k next) h i = let same : head.Join c r ≡ h = cc in ap (is_end) same
+end_head m (Send k b x next) h i = out_same (is_end) _ (λ s a z. refl) (fin.get m k.0) b h i
+end_head m (Recv k a x next) h i = take_same (is_end) _ (λ s z w. refl) (fin.get m k.0) a h i
+end_head m (Pick k b l next) h i = out_same (is_end) _ (λ s a z. refl) (fin.get m k.0) b h i
+end_head m (Branch k a arms) h i = take_same (is_end) _ (λ s z w. refl) (fin.get m k.0) a h i
+end_head m (Throw k b g next) h i = out_same (is_end) _ (λ s a z. refl) (fin.get m k.0) b h i
+end_head m (Catch k a g next) h i = take_same (is_end) _ (λ s z w. refl) (fin.get m k.0) a h i
+end_head m (Set x w next) h i = let same : head.Local ≡ h = cc in ap (is_end) same
+end_head m (Show w next) h i = let same : head.Local ≡ h = cc in ap (is_end) same
+end_head m (Host x f u w next) h i = let same : head.Local ≡ h = cc in ap (is_end) same
+end_head m (If w c d) h i = let same : head.Local ≡ h = cc in ap (is_end) same
+end_head m (Call f o ns) h i = absurd cc
+end_head m End h i = let same : head.Ended ≡ h = cc in ap (is_end) same
+
+joining_head : (m : Sessions) (node : CodeNode) (h : Head) → node_head m node ≡ Some h → is_join node ≡ is_joining_head h
+joining_head m (Join c r k next) h i = let same : head.Join c r ≡ h = cc in ap (is_joining_head) same
+joining_head m (Send k b x next) h i = out_same (is_joining_head) _ (λ s a z. refl) (fin.get m k.0) b h i
+joining_head m (Recv k a x next) h i = take_same (is_joining_head) _ (λ s z w. refl) (fin.get m k.0) a h i
+joining_head m (Pick k b l next) h i = out_same (is_joining_head) _ (λ s a z. refl) (fin.get m k.0) b h i
+joining_head m (Branch k a arms) h i = take_same (is_joining_head) _ (λ s z w. refl) (fin.get m k.0) a h i
+joining_head m (Throw k b g next) h i = out_same (is_joining_head) _ (λ s a z. refl) (fin.get m k.0) b h i
+joining_head m (Catch k a g next) h i = take_same (is_joining_head) _ (λ s z w. refl) (fin.get m k.0) a h i
+joining_head m (Set x w next) h i = let same : head.Local ≡ h = cc in ap (is_joining_head) same
+joining_head m (Show w next) h i = let same : head.Local ≡ h = cc in ap (is_joining_head) same
+joining_head m (Host x f u w next) h i = let same : head.Local ≡ h = cc in ap (is_joining_head) same
+joining_head m (If w c d) h i = let same : head.Local ≡ h = cc in ap (is_joining_head) same
+joining_head m (Call f o ns) h i = absurd cc
+joining_head m End h i = let same : head.Ended ≡ h = cc in ap (is_joining_head) same
+
+joins_head : (m : Sessions) (node : CodeNode) (h : Head) (d q : NameId) → node_head m node ≡ Some h → joins_there (Some (record { node = node; sessions = m })) d q ≡ joins_as h d q
+joins_head m (Join c r k next) h d q i = let same : head.Join c r ≡ h = cc in ap (λ (z : Head). joins_as z d q) same
+joins_head m (Send k b x next) h d q i = out_same (λ (z : Head). joins_as z d q) false (λ s a z. refl) (fin.get m k.0) b h i
+joins_head m (Recv k a x next) h d q i = take_same (λ (z : Head). joins_as z d q) false (λ s z w. refl) (fin.get m k.0) a h i
+joins_head m (Pick k b l next) h d q i = out_same (λ (z : Head). joins_as z d q) false (λ s a z. refl) (fin.get m k.0) b h i
+joins_head m (Branch k a arms) h d q i = take_same (λ (z : Head). joins_as z d q) false (λ s z w. refl) (fin.get m k.0) a h i
+joins_head m (Throw k b g next) h d q i = out_same (λ (z : Head). joins_as z d q) false (λ s a z. refl) (fin.get m k.0) b h i
+joins_head m (Catch k a g next) h d q i = take_same (λ (z : Head). joins_as z d q) false (λ s z w. refl) (fin.get m k.0) a h i
+joins_head m (Set x w next) h d q i = let same : head.Local ≡ h = cc in ap (λ (z : Head). joins_as z d q) same
+joins_head m (Show w next) h d q i = let same : head.Local ≡ h = cc in ap (λ (z : Head). joins_as z d q) same
+joins_head m (Host x f u w next) h d q i = let same : head.Local ≡ h = cc in ap (λ (z : Head). joins_as z d q) same
+joins_head m (If w c t) h d q i = let same : head.Local ≡ h = cc in ap (λ (z : Head). joins_as z d q) same
+joins_head m (Call f o ns) h d q i = absurd cc
+joins_head m End h d q i = let same : head.Ended ≡ h = cc in ap (λ (z : Head). joins_as z d q) same
+
+leads_head : (e : Endpoints) (m : Sessions) (node : CodeNode) (h : Head) → node_head m node ≡ Some h → listed_at e (Some (record { node = node; sessions = m })) ≡ leads_as e h
+leads_head e m (Join c r k next) h i = let same : head.Join c r ≡ h = cc in ap (leads_as e) same
+leads_head e m (Send k b x next) h i = out_same (leads_as e) true (λ s a z. refl) (fin.get m k.0) b h i
+leads_head e m (Recv k a x next) h i = take_same (leads_as e) true (λ s z w. refl) (fin.get m k.0) a h i
+leads_head e m (Pick k b l next) h i = out_same (leads_as e) true (λ s a z. refl) (fin.get m k.0) b h i
+leads_head e m (Branch k a arms) h i = take_same (leads_as e) true (λ s z w. refl) (fin.get m k.0) a h i
+leads_head e m (Throw k b g next) h i = out_same (leads_as e) true (λ s a z. refl) (fin.get m k.0) b h i
+leads_head e m (Catch k a g next) h i = take_same (leads_as e) true (λ s z w. refl) (fin.get m k.0) a h i
+leads_head e m (Set x w next) h i = let same : head.Local ≡ h = cc in ap (leads_as e) same
+leads_head e m (Show w next) h i = let same : head.Local ≡ h = cc in ap (leads_as e) same
+leads_head e m (Host x f u w next) h i = let same : head.Local ≡ h = cc in ap (leads_as e) same
+leads_head e m (If w c d) h i = let same : head.Local ≡ h = cc in ap (leads_as e) same
+leads_head e m (Call f o ns) h i = absurd cc
+leads_head e m End h i = let same : head.Ended ≡ h = cc in ap (leads_as e) same
+
+-- ---- waiting
+
+never_to_send : (n : NetworkState) (b : NameId) (k : Option (ℕ × NameId)) → waits_to_send None n b k ≡ None
+never_to_send n b None = refl
+never_to_send n b (Some (s, a)) = refl
+
+why_head : (e : Endpoints) (n : NetworkState) (vars : Variables) (m : Sessions) (node : CodeNode) (h : Head) → node_head m node ≡ Some h → is_taking h ≡ false → node_waits e None n vars m node ≡ why_by e n h
+why_head e n vars m (Join c r k next) h i j = let same : head.Join c r ≡ h = cc in ap (why_by e n) same
+why_head e n vars m (Send k b x next) h i j = never_to_send n b (fin.get m k.0) ∙ out_same (why_by e n) None (λ s a z. refl) (fin.get m k.0) b h i
+why_head e n vars m (Recv k a x next) h i j = let yes : true ≡ is_taking h = take_same is_taking true (λ s z w. refl) (fin.get m k.0) a h i in absurd cc
+why_head e n vars m (Pick k b l next) h i j = never_to_send n b (fin.get m k.0) ∙ out_same (why_by e n) None (λ s a z. refl) (fin.get m k.0) b h i
+why_head e n vars m (Branch k a arms) h i j = let yes : true ≡ is_taking h = take_same is_taking true (λ s z w. refl) (fin.get m k.0) a h i in absurd cc
+why_head e n vars m (Throw k b g next) h i j = never_to_send n b (fin.get m k.0) ∙ out_same (why_by e n) None (λ s a z. refl) (fin.get m k.0) b h i
+why_head e n vars m (Catch k a g next) h i j = let yes : true ≡ is_taking h = take_same is_taking true (λ s z w. refl) (fin.get m k.0) a h i in absurd cc
+why_head e n vars m (Set x w next) h i j = let same : head.Local ≡ h = cc in ap (why_by e n) same
+why_head e n vars m (Show w next) h i j = let same : head.Local ≡ h = cc in ap (why_by e n) same
+why_head e n vars m (Host x f u w next) h i j = let same : head.Local ≡ h = cc in ap (why_by e n) same
+why_head e n vars m (If w c d) h i j = let same : head.Local ≡ h = cc in ap (why_by e n) same
+why_head e n vars m (Call f o ns) h i j = absurd cc
+why_head e n vars m End h i j = let same : head.Ended ≡ h = cc in ap (why_by e n) same
+
+empty_one : (n : NetworkState) (o : Option (ℕ × NameId)) (c : NameId) (f : Load → Option Taking) (s : ℕ) (a b : NameId) → takes_on o c ≡ Some (head.Take s a b) → queue_of n (s, a, b) ≡ [] → waits_to_receive n c o f ≡ Some (Empty s a b)
+empty_one n None c f s a b h q = absurd cc
+empty_one n (Some (t, d)) c f s a b h q =
+    let es : t ≡ s = cc in
+    let ea : c ≡ a = cc in
+    let eb : d ≡ b = cc in
+    ap (λ (x : ℕ). waits_for_first x c d f (queue_of n (x, c, d))) es
+    ∙ ap (λ (x : NameId). waits_for_first s x d f (queue_of n (s, x, d))) ea
+    ∙ ap (λ (x : NameId). waits_for_first s a x f (queue_of n (s, a, x))) eb
+    ∙ ap (waits_for_first s a b f) q
+
+no_take : (o : Option (ℕ × NameId)) (c : NameId) (s : ℕ) (a b : NameId) → sends_on o c ≡ Some (head.Take s a b) → ⊥
+no_take None c s a b h = absurd cc
+no_take (Some (t, d)) c s a b h = absurd cc
+
+node_empty : (e : Endpoints) (n : NetworkState) (vars : Variables) (m : Sessions) (node : CodeNode) (s : ℕ) (y z : NameId) → node_head m node ≡ Some (head.Take s y z) → queue_of n (s, y, z) ≡ [] → node_waits e None n vars m node ≡ Some (Empty s y z)
+node_empty e n vars m (Join c r k next) s y z h q = absurd cc
+node_empty e n vars m (Send k b x next) s y z h q = absurd (no_take (fin.get m k.0) b s y z h)
+node_empty e n vars m (Recv k a x next) s y z h q = empty_one n (fin.get m k.0) a (takes_value next vars m x) s y z h q
+node_empty e n vars m (Pick k b l next) s y z h q = absurd (no_take (fin.get m k.0) b s y z h)
+node_empty e n vars m (Branch k a arms) s y z h q = empty_one n (fin.get m k.0) a (takes_label arms vars m) s y z h q
+node_empty e n vars m (Throw k b g next) s y z h q = absurd (no_take (fin.get m k.0) b s y z h)
+node_empty e n vars m (Catch k a g next) s y z h q = empty_one n (fin.get m k.0) a (takes_part next vars m g) s y z h q
+node_empty e n vars m (Set x w next) s y z h q = absurd cc
+node_empty e n vars m (Show w next) s y z h q = absurd cc
+node_empty e n vars m (Host x f u w next) s y z h q = absurd cc
+node_empty e n vars m (If w c d) s y z h q = absurd cc
+node_empty e n vars m (Call f o ns) s y z h q = absurd cc
+node_empty e n vars m End s y z h q = absurd cc
+
+-- ---- where a process stands
+
+hostless_node : (node : CodeNode) → asks_known (λ f. false) node ≡ true → is_host node ≡ false
+hostless_node (Join c r k next) h = refl
+hostless_node (Send k b x next) h = refl
+hostless_node (Recv k a x next) h = refl
+hostless_node (Pick k b l next) h = refl
+hostless_node (Branch k a arms) h = refl
+hostless_node (Throw k b g next) h = refl
+hostless_node (Catch k a g next) h = refl
+hostless_node (Set x w next) h = refl
+hostless_node (Show w next) h = refl
+hostless_node (Host x f u w next) h = absurd cc
+hostless_node (If w c d) h = refl
+hostless_node (Call f o ns) h = refl
+hostless_node End h = refl
+
+somewhere : (e : Endpoints) (m : Machine) → IsFaultless e → IsBound e m → (node : CodeNode) × (ss : Sessions) × StandsAt e m node ss
+somewhere e m faultless bound = let n = some_node bound.scoped in go n.0 n.1
+  where
+    beyond : (f p : NameId) (ns : List NameId) → node_at e m.at ≡ Some (Call f p ns) → (node : CodeNode) × (ss : Sessions) × StandsAt e m node ss
+    beyond f p ns found =
+        let q = called e m f p ns bound found in
+        let n = some_node (procedure_all (λ q. IsScoped e q.body q.sessions) e.procedures f p q.0 faultless.names.procedure_bodies q.1) in
+        (n.0, _, stands_beyond e m f p ns q.0 n.0 faultless bound found q.1 n.1)
+
+    go : (node : CodeNode) → node_at e m.at ≡ Some node → (node : CodeNode) × (ss : Sessions) × StandsAt e m node ss
+    go (Join c r k next) found = (_, _, stands_plainly e m (Join c r k next) bound found refl)
+    go (Send k b x next) found = (_, _, stands_plainly e m (Send k b x next) bound found refl)
+    go (Recv k a x next) found = (_, _, stands_plainly e m (Recv k a x next) bound found refl)
+    go (Pick k b l next) found = (_, _, stands_plainly e m (Pick k b l next) bound found refl)
+    go (Branch k a arms) found = (_, _, stands_plainly e m (Branch k a arms) bound found refl)
+    go (Throw k b g next) found = (_, _, stands_plainly e m (Throw k b g next) bound found refl)
+    go (Catch k a g next) found = (_, _, stands_plainly e m (Catch k a g next) bound found refl)
+    go (Set x w next) found = (_, _, stands_plainly e m (Set x w next) bound found refl)
+    go (Show w next) found = (_, _, stands_plainly e m (Show w next) bound found refl)
+    go (Host x f u w next) found = (_, _, stands_plainly e m (Host x f u w next) bound found refl)
+    go (If w c d) found = (_, _, stands_plainly e m (If w c d) bound found refl)
+    go (Call f o ns) found = beyond f o ns found
+    go End found = (_, _, stands_plainly e m End bound found refl)
+
+abbrev mapped : Option MachineView → Option Machine
 mapped None = None
 mapped (Some m) = Some (standing_of m)
 
-pub runner_at : (ms : List Runner) (p : ℕ) (r : Runner) → p < length ms → r ≡ get_or ms p r → slice_get (map standing_of ms) p ≡ Some (standing_of r)
+pub runner_at : (ms : List MachineView) (p : ℕ) (r : MachineView) → p < length ms → r ≡ get_or ms p r → slice_get (map standing_of ms) p ≡ Some (standing_of r)
 runner_at ms p r lt h = slice_get-map standing_of ms p ∙ ap mapped (slice_get-get_or ms p r lt ∙ ap Some (sym h))
 
-pub bound_at : (e : Endpoints) (ms : List Runner) (p : ℕ) (r : Runner) → IsSound e (map standing_of ms) → p < length ms → r ≡ get_or ms p r → IsBound e (standing_of r)
+pub bound_at : (e : Endpoints) (ms : List MachineView) (p : ℕ) (r : MachineView) → IsSound e ms → p < length ms → r ≡ get_or ms p r → IsBound e (standing_of r)
 bound_at e ms p r sound lt h = all_at (IsBound e) (map standing_of ms) p (standing_of r) sound.bound (runner_at ms p r lt h)
 
-pub within_code : (e : Endpoints) (ms : List Runner) (p : ℕ) (r : Runner) → IsSound e (map standing_of ms) → p < length ms → r ≡ get_or ms p r → r.at.0 < length e.code.nodes
-within_code e ms p r sound lt h =
-    let node = scoped_node (bound_at e ms p r sound lt h).scoped in
-    slice_get_within e.code.nodes r.at.0 node.0 node.1
+pub stands_at : (e : Endpoints) (ms : List MachineView) (q : QueuesView) (sid p : ℕ) (r : MachineView) → IsSound e ms → p < length ms → r ≡ get_or ms p r → (node : CodeNode) × Stands e (state_of ms q sid) p node
+stands_at e ms q sid p r sound lt h =
+    let bound = bound_at e ms p r sound lt h in
+    let s = somewhere e (standing_of r) sound.faultless bound in (
+      s.0,
+      record {
+        machine = standing_of r;
+        sessions = s.1;
+        there = runner_at ms p r lt h;
+        at_node = s.2;
+        hostless = hostless_node s.0 (all_at (λ n. asks_known (λ f. false) n ≡ true) e.code.nodes s.2.id.0 s.0 sound.hostless.nodes s.2.found);
+        bound = bound;
+      },
+    )
 
-pub stands : (e : Endpoints) (ms : List Runner) (q : QueuesView) (sid p : ℕ) (r : Runner) (node : CodeNode) → IsSound e (map standing_of ms) → p < length ms → r ≡ get_or ms p r → slice_get e.code.nodes r.at.0 ≡ Some node → Stands e (state_of ms q sid) p node
-stands e ms q sid p r node sound lt h found = record {
-  machine = standing_of r;
-  there = runner_at ms p r lt h;
-  place =
-      ap (λ (n : Option CodeNode). place_in e n r.sessions.map) found
-      ∙ plain_place e node r.sessions.map (all_at (λ n. is_plain n ≡ true) e.code.nodes r.at.0 node sound.plain.nodes found);
-  found = found;
-  plain = all_at (λ n. is_plain n ≡ true) e.code.nodes r.at.0 node sound.plain.nodes found;
-  bound = bound_at e ms p r sound lt h;
-}
+-- the next action of a process tells of it
+pub shows : (e : Endpoints) (ms : List MachineView) (q : QueuesView) (sid p : ℕ) (r : MachineView) (h : Head) → IsSound e ms → p < length ms → r ≡ get_or ms p r → head_of e r.machine ≡ Some h → Shows e (state_of ms q sid) p h
+shows e ms q sid p r h sound lt is shown =
+    let n : NetworkState = state_of ms q sid in
+    let found = stands_at e ms q sid p r sound lt is in
+    let node : CodeNode = found.0 in
+    let s : Stands e n p node = found.1 in
+    let same : s.machine ≡ r.machine = let a : Some s.machine ≡ Some r.machine = sym s.there ∙ runner_at ms p r lt is in cc in
+    let here : node_head s.sessions node ≡ Some h = sym (ap place_head s.at_node.place) ∙ ap (head_of e) same ∙ shown in
+    record {
+      node = node;
+      stands = s;
+      head = here;
+      ended = ap (ended_of e) s.there ∙ ap ends_there s.at_node.place ∙ end_head s.sessions node h here;
+      joins = λ c r. ap (λ (o : Option Machine). joins_there (place_at e o) c r) s.there ∙ ap (λ (o : Option Place). joins_there o c r) s.at_node.place ∙ joins_head s.sessions node h c r here;
+      leads = ap (λ (o : Option Machine). listed_at e (place_at e o)) s.there ∙ ap (listed_at e) s.at_node.place ∙ leads_head e s.sessions node h here;
+      joining = ap (λ (o : Option Machine). is_joining (place_at e o)) s.there ∙ ap is_joining s.at_node.place ∙ joining_head s.sessions node h here;
+      waits = λ j. ap (why_of e n) s.there ∙ ap (place_waits e None n s.machine.vars) s.at_node.place ∙ why_head e n s.machine.vars s.sessions node h here j;
+    }
 
-pub each_stands : (e : Endpoints) (ms : List Runner) (q : QueuesView) (sid : ℕ) → IsSound e (map standing_of ms) → EachStands e (state_of ms q sid)
+-- a process that takes on an empty queue waits by it
+pub waits_empty : (e : Endpoints) (n : NetworkState) (p s : ℕ) (a b : NameId) → Shows e n p (head.Take s a b) → queue_of n (s, a, b) ≡ [] → why_of e n (slice_get n.machines p) ≡ Some (Empty s a b)
+waits_empty e n p s a b t q =
+    ap (why_of e n) t.stands.there ∙ ap (place_waits e None n t.stands.machine.vars) t.stands.at_node.place
+    ∙ node_empty e n t.stands.machine.vars t.stands.sessions t.node s a b t.head q
+
+pub each_stands : (e : Endpoints) (ms : List MachineView) (q : QueuesView) (sid : ℕ) → IsSound e ms → EachStands e (state_of ms q sid)
 each_stands e ms q sid sound p lt =
     let within : p < length ms = omega (arith, length-map ms standing_of) in
     let t = turn ms p within in
-    let h : t.item ≡ get_or ms p t.item = sym (get_or_from_slice_get ms p t.item t.item t.there) in
-    let node = scoped_node (bound_at e ms p t.item sound within h).scoped in
-    (node.0, stands e ms q sid p t.item node.0 sound within h node.1)
+    stands_at e ms q sid p t.item sound within (sym (get_or_from_slice_get ms p t.item t.item t.there))
 
 -- the processes at their bodies are sound
 pub first_bound : (e : Endpoints) (ps : List Process) → All (λ p. IsScoped e p.body []) ps → All (IsBound e) (standing_all ps)
@@ -100,10 +262,11 @@ pub length-standing_all : (ps : List Process) → length (standing_all ps) ≡ l
 length-standing_all [] = refl
 length-standing_all (p ∷ ps) = ap suc (length-standing_all ps)
 
-pub first_sound : (e : Endpoints) (ms : List Machine) → ms ≡ standing_all e.processes → IsFaultless e → IsPlain e → length e.processes < 2 ^ 32 → IsSound e ms
-first_sound e ms h faultless plain few = record {
+pub first_sound : (e : Endpoints) (ms : List MachineView) → map standing_of ms ≡ standing_all e.processes → AreCounted ms → IsFaultless e → IsHostless e → length e.processes < 2 ^ 32 → IsSound e ms
+first_sound e ms h counted faultless hostless few = record {
   faultless = faultless;
-  plain = plain;
-  few = (let l = length-standing_all e.processes in let k : length ms ≡ length (standing_all e.processes) = ap length h in omega arith);
+  hostless = hostless;
+  few = (let l = length-standing_all e.processes in let k : length (map standing_of ms) ≡ length (standing_all e.processes) = ap length h in let i = length-map ms standing_of in omega arith);
   bound = subst (All (IsBound e)) (sym h) (first_bound e e.processes faultless.names.process_bodies);
+  counted = counted;
 }

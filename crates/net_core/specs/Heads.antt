@@ -1,23 +1,26 @@
 -- Where the processes of a network stand.
-use Rattle.std.specs.Prelude.{ℕ, ◌≡◌, ◌<◌, length, Bool, true, false, Option, Some, None, slice_get}
+use Rattle.std.specs.Prelude.{ℕ, ◌≡◌, ◌<◌, ◌==◌, ◌&&◌, length, Bool, true, false, Option, Some, None, slice_get}
 use Rattle.chor_base.specs.declared.names.NameId.{NameId}
 use Rattle.chor_base.specs.declared.event.Why.{Why}
 use Rattle.endpoint_code.specs.declared.code.CodeNode.{CodeNode}
 use Rattle.endpoint_code.specs.declared.endpoints.Endpoints.{Endpoints}
-use Rattle.endpoint_code.specs.Network.{Machine, NetworkState, Place, node_at, place_of, place_at}
-use Rattle.endpoint_code.specs.NetworkRuns.{has_ended, waits_for, can_step, joins_there}
-use Rattle.endpoint_code.specs.Scheduled.{is_listed, listed_at}
-use Rattle.net_core.specs.Plain.{is_plain}
+use Rattle.endpoint_code.specs.Network.{Machine, NetworkState, Sessions, Place, place_at, channel_of}
+use Rattle.endpoint_code.specs.NetworkRuns.{has_ended, waits_for, can_step, joins_there, absent_on}
+use Rattle.endpoint_code.specs.Scheduled.{is_listed, listed_at, first_role}
+use Rattle.endpoint_machine.specs.declared.head.Head.{Head}
+use Rattle.endpoint_machine.specs.declared.head.Head.TheVariants as head
+use Rattle.endpoint_machine.specs.Bound.{IsBound}
+use Rattle.endpoint_machine.specs.Heads.{node_head, is_host}
+use Rattle.endpoint_machine.specs.Places.{StandsAt}
 use Rattle.net_core.specs.Machines.{is_join}
-use Rattle.net_core.specs.Bound.{IsBound}
 
--- the machine of the process stands at this node
+-- the machine of the process stands at this node, through at most one call
 pub record Stands (e : Endpoints) (n : NetworkState) (p : ℕ) (node : CodeNode) : Type 0 where
   pub machine : Machine
+  pub sessions : Sessions
   pub there : slice_get n.machines p ≡ Some machine
-  pub place : place_of e machine ≡ Some (record { node = node; sessions = machine.sessions })
-  pub found : node_at e machine.at ≡ Some node
-  pub plain : is_plain node ≡ true
+  pub at_node : StandsAt e machine node sessions
+  pub hostless : is_host node ≡ false
   pub bound : IsBound e machine
 
 -- each process stands at a node
@@ -71,3 +74,41 @@ is_joining (Some q) = is_join q.node
 -- a process stands where it joins a session
 abbrev pub joins_at_all : Endpoints → NetworkState → ℕ → Bool
 joins_at_all e n p = is_joining (place_at e (slice_get n.machines p))
+
+-- ---- what the next action tells
+
+abbrev pub is_end : Head → Bool
+is_end head.Ended = true
+is_end _ = false
+
+abbrev pub is_joining_head : Head → Bool
+is_joining_head (head.Join c r) = true
+is_joining_head _ = false
+
+abbrev pub is_taking : Head → Bool
+is_taking (head.Take s a b) = true
+is_taking _ = false
+
+abbrev pub joins_as : Head → NameId → NameId → Bool
+joins_as (head.Join d q) c r = (d.0 == c.0) && (q.0 == r.0)
+joins_as _ c r = false
+
+abbrev pub leads_as : Endpoints → Head → Bool
+leads_as e (head.Join c r) = first_role (channel_of e.channels c) r
+leads_as e _ = true
+
+-- why a process waits that doesn't take
+abbrev pub why_by : Endpoints → NetworkState → Head → Option Why
+why_by e n (head.Join c r) = absent_on e n.machines c r (channel_of e.channels c)
+why_by e n _ = None
+
+-- this is the next action of the process, with what it tells
+pub record Shows (e : Endpoints) (n : NetworkState) (p : ℕ) (h : Head) : Type 0 where
+  pub node : CodeNode
+  pub stands : Stands e n p node
+  pub head : node_head stands.sessions node ≡ Some h
+  pub ended : ended_at e n p ≡ is_end h
+  pub joins : (c r : NameId) → joins_in e n p c r ≡ joins_as h c r
+  pub leads : leads_at e n p ≡ leads_as e h
+  pub joining : joins_at_all e n p ≡ is_joining_head h
+  pub waits : is_taking h ≡ false → why_at e n p ≡ why_by e n h

@@ -1,6 +1,5 @@
 pub mod Lanes
 pub mod Plain
-pub mod Bound
 pub mod Machines
 pub mod Views
 pub mod Heads

@@ -3,6 +3,7 @@ use Rattle.std.specs.Prelude.{◌≡◌, Bool, true, false, [], All}
 use Rattle.endpoint_code.specs.declared.code.CodeNode.{CodeNode}
 use Rattle.endpoint_code.specs.declared.code.CodeNode.TheVariants.{Join, Send, Recv, End}
 use Rattle.endpoint_code.specs.declared.endpoints.Endpoints.{Endpoints}
+use Rattle.endpoint_code.specs.Faults.{AsksKnown}
 
 abbrev pub is_plain : CodeNode → Bool
 is_plain (Join c r k next) = true
@@ -14,4 +15,9 @@ is_plain _ = false
 -- Programs that join, send and receive values and end, without service roles
 pub record IsPlain (e : Endpoints) : Type 0 where
   pub nodes : All (λ n. is_plain n ≡ true) e.code.nodes
+  pub channels : All (λ k. k.serve ≡ []) e.channels
+
+-- Programs that ask no host function, without service roles
+pub record IsHostless (e : Endpoints) : Type 0 where
+  pub nodes : AsksKnown (λ f. false) e
   pub channels : All (λ k. k.serve ≡ []) e.channels

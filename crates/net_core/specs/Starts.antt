@@ -1,12 +1,12 @@
 -- Starts of sessions.
-use Rattle.std.specs.Prelude.{ℕ, ◌≡◌, ◌≢◌, ◌==◌, true, List, [], ◌∷◌, map, Option, Some, None, slice_get, slice_set, All, if◌then◌else◌}
+use Rattle.std.specs.Prelude.{ℕ, ◌≡◌, ◌≢◌, ◌==◌, Bool, true, false, List, [], ◌∷◌, map, Option, Some, None, slice_get, slice_set, All, if◌then◌else◌}
 use Rattle.chor_base.specs.declared.names.NameId.{NameId}
 use Rattle.endpoint_code.specs.declared.endpoints.Endpoints.{Endpoints}
 use Rattle.endpoint_code.specs.Network.{Machine, NetworkState, place_at, joins, joiners, with_machines}
 use Rattle.endpoint_code.specs.NetworkRuns.{joins_there}
 use Rattle.endpoint_code.specs.Scheduled.{least_joiner}
-use Rattle.net_core.specs.declared.machine.Runner.{Runner}
-use Rattle.net_core.specs.Machines.{standing_of}
+use Rattle.endpoint_machine.specs.Views.{MachineView}
+use Rattle.net_core.specs.Machines.{standing_of, is_reserved}
 
 -- the process that takes a part in a start that p makes in its own role
 abbrev pub partner_for : Endpoints → List Machine → NameId → ℕ → NameId → NameId → Option ℕ
@@ -26,13 +26,13 @@ pub data AreApart : List (NameId × ℕ) → Type 0 where
   no_part : AreApart []
   one_part : {r : NameId} {p : ℕ} {ps : List (NameId × ℕ)} → All (λ q. q.1 ≢ p) ps → AreApart ps → AreApart ((r, p) ∷ ps)
 
-abbrev pub spare_sessions : Option Runner → ℕ
-spare_sessions None = 0
-spare_sessions (Some m) = m.sessions.spare
+abbrev pub reserved_of : Endpoints → Option MachineView → Bool
+reserved_of e None = false
+reserved_of e (Some m) = is_reserved e m
 
--- how many sessions more a process can bind without taking memory
-abbrev pub sessions_room : List Runner → ℕ → ℕ
-sessions_room ms p = spare_sessions (slice_get ms p)
+-- a process has room for its next event
+abbrev pub reserved_in : Endpoints → List MachineView → ℕ → Bool
+reserved_in e ms p = reserved_of e (slice_get ms p)
 
 abbrev pub machines_alone : List Machine → NetworkState
 machines_alone ms = record { machines = ms; queues = []; sid = 0 }
@@ -44,7 +44,7 @@ pub record Joined (e : Endpoints) (c : NameId) (s : ℕ) (old : List Machine) (p
   pub placed : with_machines old joining ≡ new
 
 -- one process has joined session s, and no other has changed
-pub record JoinsOne (e : Endpoints) (c r : NameId) (s p : ℕ) (old new : List Runner) : Type 0 where
-  pub machine : Runner
+pub record JoinsOne (e : Endpoints) (c r : NameId) (s p : ℕ) (old new : List MachineView) : Type 0 where
+  pub machine : MachineView
   pub joined : joins e (slice_get (map standing_of old) p) c r s ≡ Some (standing_of machine)
   pub put : new ≡ slice_set old p machine

@@ -1,15 +1,16 @@
 -- What contracts see of a network.
-use Rattle.std.specs.Prelude.{ℕ, ◌≡◌, ◌<◌, ◌^◌, Bool, true, ◌&&◌, List, [], ◌∷◌, ◌++◌, length, map, Option, Some, None, slice_get, nat_lt, All}
+use Rattle.std.specs.Prelude.{ℕ, ◌≡◌, ◌<◌, ◌^◌, Bool, true, ◌&&◌, List, [], ◌∷◌, ◌++◌, length, map, Some, slice_get, nat_lt, All}
 use Rattle.chor_base.specs.declared.event.Event.{Event}
 use Rattle.chor_base.specs.declared.event.Entry.{Entry}
 use Rattle.endpoint_code.specs.declared.endpoints.Endpoints.{Endpoints}
-use Rattle.endpoint_code.specs.Network.{Machine, NetworkState, Place, place_of}
+use Rattle.endpoint_code.specs.Network.{NetworkState}
 use Rattle.endpoint_code.specs.Faults.{IsFaultless}
-use Rattle.net_core.specs.declared.machine.Runner.{Runner}
+use Rattle.endpoint_machine.specs.Bound.{IsBound}
+use Rattle.endpoint_machine.specs.Heads.{head_of}
+use Rattle.endpoint_machine.specs.Views.{MachineView}
 use Rattle.net_core.specs.Lanes.{QueuesView, loads_in}
-use Rattle.net_core.specs.Plain.{IsPlain}
-use Rattle.net_core.specs.Machines.{standing_of, has_room_at}
-use Rattle.net_core.specs.Bound.{IsBound}
+use Rattle.net_core.specs.Plain.{IsHostless}
+use Rattle.net_core.specs.Machines.{standing_of, is_reserved, has_queue_room}
 
 -- the programs, the state, the events so far, and for each process whether there is room for its next event
 pub record NetworkView : Type 0 where
@@ -36,20 +37,24 @@ pub record Becomes (old new : NetworkView) (x : Event) (n : NetworkState) : Type
 
 -- ---- from the fields
 
-abbrev pub state_of : List Runner → QueuesView → ℕ → NetworkState
+abbrev pub state_of : List MachineView → QueuesView → ℕ → NetworkState
 state_of ms q sid = record { machines = map standing_of ms; queues = loads_in q.lanes; sid = sid }
 
-abbrev pub place_has_room : QueuesView → Runner → Option Place → Bool
-place_has_room q m None = true
-place_has_room q m (Some p) = has_room_at q m p.node
-
 -- a process has room for its next event, where so many entries more fit the history
-abbrev pub has_room : Endpoints → ℕ → QueuesView → Runner → Bool
-has_room e entries q m = nat_lt 0 entries && place_has_room q m (place_of e (standing_of m))
+abbrev pub has_room : Endpoints → ℕ → QueuesView → MachineView → Bool
+has_room e entries q m = nat_lt 0 entries && (is_reserved e m && has_queue_room q (head_of e m.machine))
 
--- the programs are without fault, there are fewer than 2^32 processes, and each knows its sessions
-pub record IsSound (e : Endpoints) (machines : List Machine) : Type 0 where
+abbrev pub number_of : MachineView → ℕ
+number_of m = m.number
+
+-- each process's number is its place
+abbrev pub AreCounted : List MachineView → Type 0
+AreCounted ms = (p n : ℕ) → slice_get (map number_of ms) p ≡ Some n → n ≡ p
+
+-- the programs are without fault, there are fewer than 2^32 processes, each knows its sessions and its number
+pub record IsSound (e : Endpoints) (machines : List MachineView) : Type 0 where
   pub faultless : IsFaultless e
-  pub plain : IsPlain e
+  pub hostless : IsHostless e
   pub few : length machines < 2 ^ 32
-  pub bound : All (IsBound e) machines
+  pub bound : All (IsBound e) (map standing_of machines)
+  pub counted : AreCounted machines

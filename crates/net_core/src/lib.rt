@@ -1,15 +1,13 @@
 //! Networks of endpoint programs.
 #![tactic(auto)]
 
+mod acts;
 mod answer;
-mod machine;
 mod network;
+mod parts;
 mod queues;
 mod schedule;
 mod starts;
 
 pub use answer::{Picked, Step};
 pub use network::Network;
-
-#[cfg(test)]
-mod tests;

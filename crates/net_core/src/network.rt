@@ -2,24 +2,25 @@
 
 ghost use Rattle.std.specs.Prelude.{◌≡◌, ◌<◌, ◌^◌, [], length, All, IfOk, OnOk, OnErr, IsTrue, ◌↔◌, Some, None, slice_get, IfSome, vec_len, vec_capacity, ◌++◌, ◌∷◌, true, false, ℕ, IsOk, not, ◌||◌, ◌==◌, ◌+◌};
 ghost use Rattle.std.specs.Prelude.{map};
-ghost use Rattle.std.specs.Option.{option_copied};
-ghost use Rattle.endpoint_code.specs.Network.{first_state, channel_of, standing_all};
-ghost use Rattle.net_core.specs.Machines.{standing_of};
+ghost use Rattle.endpoint_code.specs.Network.{first_state, channel_of};
 ghost use Rattle.endpoint_code.specs.NetworkRuns.{all_ended, absent_among, absent_on, is_joined};
 ghost use Rattle.endpoint_code.specs.Scheduled.{least_joiner};
 ghost use Rattle.endpoint_code.specs.Faults.{IsFaultless};
-ghost use Rattle.net_core.specs.Plain.{IsPlain};
+ghost use Rattle.net_core.specs.Plain.{IsHostless};
+ghost use Rattle.endpoint_machine.specs.declared.head.Head.TheVariants as head;
 ghost use Rattle.net_core.specs.Views.{IsSame, IsReserved};
 ghost use Rattle.net_core.specs.Steps.{HasStepped, HasBegun, HasGrown, FitsMore, Answers};
 ghost use Rattle.net_core.specs.Starts.{partner_for, IsCast, AllJoin, AreApart};
-ghost use Rattle.net_core.specs.Heads.{Stands, EachStands, ended_at, why_at, steps_at, is_listed_at, joins_in, leads_at, joins_at_all};
+ghost use Rattle.net_core.specs.Heads.{Shows, EachStands, ended_at, why_at, steps_at, is_listed_at, joins_in, leads_at, joins_at_all};
 
+use crate::acts::{act, reserve};
 use crate::answer::Step;
-use crate::machine::Runner;
+use crate::parts::{append, channel_named, standing_all};
 use crate::queues::Queues;
 use crate::starts::{join_all, reserve_sessions};
 use chor_base::{Entry, Event, List, Memory, NameId, Why};
-use endpoint_code::{Channel, CodeNode, Endpoints, Process};
+use endpoint_code::Endpoints;
+use endpoint_machine::{Head, Machine};
 use std::alloc::Global;
 use std::marker::Model;
 
@@ -28,7 +29,7 @@ use std::marker::Model;
 pub struct Network<'a> {
     alloc: Global,
     endpoints: &'a Endpoints,
-    machines: Vec<Runner>,
+    machines: Vec<Machine>,
     queues: Queues,
     sid: u32,
     history: Vec<Entry>,
@@ -49,30 +50,19 @@ impl<'a> Model for Network<'a> {
 
     ghost view = { λ a. record { endpoints = a.endpoints.now; state = state_of a.machines.items a.queues a.sid; history = a.history.items; reserved = map (has_room a.endpoints.now (vec_capacity a.history - vec_len a.history) a.queues) a.machines.items } };
 
-    ghost invariant = { λ a. IsSound a.endpoints.now (map standing_of a.machines.items) };
-}
-// The processes at their bodies.
-fn standing_all(alloc: Global, processes: &[Process]) -> Result<Vec<Runner>, Memory>
-    ensures { IfOk result (λ machines. map standing_of machines.items ≡ standing_all processes.now) }
-{
-    let mut machines = Vec::new(alloc);
-    for process in processes {
-        machines.push(Runner::new(alloc, process.body))?;
-    }
-    Ok(machines)
+    ghost invariant = { λ a. IsSound a.endpoints.now a.machines.items };
 }
 
 impl<'a> Network<'a> {
     /// The first state: each process at its body, and no event yet.
     pub fn new(alloc: Global, endpoints: &'a Endpoints) -> Result<Network<'a>, Memory>
         requires faultless { IsFaultless endpoints.now }
-        requires plain { IsPlain endpoints.now }
-        requires few { length endpoints.now.processes < 2 ^ 32 }
+        requires hostless { IsHostless endpoints.now }
         ensures endpoints { IfOk result (λ network. network.endpoints ≡ endpoints.now) }
         ensures state { IfOk result (λ network. network.state ≡ first_state endpoints.now) }
         ensures history { IfOk result (λ network. network.history ≡ []) }
     {
-        let machines = standing_all(alloc, endpoints.processes.as_slice())?;
+        let machines = standing_all(alloc, &endpoints.processes)?;
         Ok(Network {
             alloc,
             endpoints,
@@ -90,14 +80,13 @@ impl<'a> Network<'a> {
         self.history.as_slice()
     }
 
-    // The node at which a process stands.
-    fn node(&self, pid: u32) -> &'a CodeNode
+    // The next action of a process.
+    fn head(&self, pid: u32) -> Head
         requires { pid < length self.now.state.machines }
-        ensures { Stands self.now.endpoints self.now.state pid result.now }
+        ensures { Shows self.now.endpoints self.now.state pid result }
     {
-        let endpoints = self.endpoints;
         let machine = &self.machines[pid as usize];
-        endpoints.code.nodes.at(machine.at.0 as usize)
+        machine.head(self.endpoints)
     }
 
     // How many processes there are.
@@ -113,7 +102,7 @@ impl<'a> Network<'a> {
         requires { pid < length self.now.state.machines }
         ensures { result ≡ ended_at self.now.endpoints self.now.state pid }
     {
-        matches!(self.node(pid), CodeNode::End)
+        matches!(self.head(pid), Head::Ended)
     }
 
     /// Whether every process has ended.
@@ -133,8 +122,8 @@ impl<'a> Network<'a> {
         requires { pid < length self.now.state.machines }
         ensures { result ≡ joins_in self.now.endpoints self.now.state pid channel role }
     {
-        match self.node(pid) {
-            CodeNode::Join(joined, own, _, _) => *joined == channel && *own == role,
+        match self.head(pid) {
+            Head::Join(joined, own) => joined == channel && own == role,
             _ => false,
         }
     }
@@ -179,12 +168,29 @@ impl<'a> Network<'a> {
         requires { pid < length self.now.state.machines }
         ensures { result ≡ why_at self.now.endpoints self.now.state pid }
     {
-        match self.node(pid) {
-            CodeNode::Join(channel, role, _, _) => self.absent(*channel, *role),
-            node => {
-                let machine = &self.machines[pid as usize];
-                machine.waiting(node, &self.queues)
-            }
+        match self.head(pid) {
+            Head::Join(channel, role) => self.absent(channel, role),
+            Head::Take(sid, from, to) => self.awaits(pid, sid, from, to),
+            Head::Out(_, _, _) => None,
+            Head::Local => None,
+            Head::Ended => None,
+        }
+    }
+
+    // Why a process waits that takes on a queue, if it does.
+    fn awaits(&self, pid: u32, sid: u32, from: NameId, to: NameId) -> Option<Why>
+        requires there { pid < length self.now.state.machines }
+        requires takes { Shows self.now.endpoints self.now.state pid (head.Take sid from to) }
+        ensures { result ≡ why_at self.now.endpoints self.now.state pid }
+    {
+        let Some(load) = self.queues.first(sid, from, to) else {
+            return Some(Why::Empty(sid, from, to));
+        };
+        let machine = &self.machines[pid as usize];
+        if machine.fits(self.endpoints, load) {
+            None
+        } else {
+            Some(Why::Wrong(sid, from, to))
         }
     }
 
@@ -201,10 +207,10 @@ impl<'a> Network<'a> {
         requires { pid < length self.now.state.machines }
         ensures { result ≡ leads_at self.now.endpoints self.now.state pid }
     {
-        match self.node(pid) {
-            CodeNode::Join(channel, role, _, _) => {
-                match channel_named(self.endpoints.channels.as_slice(), *channel) {
-                    Some(channel) => channel.active.as_slice().first() == Some(role),
+        match self.head(pid) {
+            Head::Join(channel, role) => {
+                match channel_named(self.endpoints.channels.as_slice(), channel) {
+                    Some(channel) => channel.active.as_slice().first() == Some(&role),
                     None => false,
                 }
             }
@@ -229,10 +235,11 @@ impl<'a> Network<'a> {
         ensures kept { (p : ℕ) → IsReserved self.old p → IsReserved self.new p }
         ensures succeeds { IsReserved self.old pid → IsOk result }
     {
-        let node = self.node(pid);
+        let head = self.head(pid);
+        let endpoints = self.endpoints;
         self.history.reserve(1)?;
         let machine = &mut self.machines[pid as usize];
-        machine.reserve(node, &mut self.queues)
+        reserve(endpoints, machine, head, &mut self.queues)
     }
 
     // Makes the event of a process that can step and doesn't join.
@@ -244,9 +251,10 @@ impl<'a> Network<'a> {
         ensures stepped { HasStepped self.old pid self.new }
         ensures grown { HasGrown self.old self.new }
     {
-        let node = self.node(pid);
+        let head = self.head(pid);
+        let endpoints = self.endpoints;
         let machine = &mut self.machines[pid as usize];
-        let event = machine.act(pid, node, &mut self.queues);
+        let event = act(endpoints, machine, head, &mut self.queues);
         append(&mut self.history, event);
     }
 
@@ -255,7 +263,7 @@ impl<'a> Network<'a> {
         requires { pid < length self.now.state.machines }
         ensures { result ≡ joins_at_all self.now.endpoints self.now.state pid }
     {
-        matches!(self.node(pid), CodeNode::Join(_, _, _, _))
+        matches!(self.head(pid), Head::Join(_, _))
     }
 
     /// One step of a process. A start takes the least process that joins in each other active role.
@@ -336,15 +344,15 @@ impl<'a> Network<'a> {
         ensures grown { OnOk result (HasGrown self.old self.new) }
         ensures err { OnErr result (IsSame self.old self.new) }
     {
-        let CodeNode::Join(channel, own, _, _) = self.node(pid) else {
+        let Head::Join(channel, own) = self.head(pid) else {
             unreachable!()
         };
         let endpoints = self.endpoints;
-        let Some(found) = channel_named(endpoints.channels.as_slice(), *channel) else {
+        let Some(found) = channel_named(endpoints.channels.as_slice(), channel) else {
             unreachable!()
         };
-        let parts = self.cast(pid, *channel, *own, found.active.as_slice())?;
-        self.begin(*channel, parts)
+        let parts = self.cast(pid, channel, own, found.active.as_slice())?;
+        self.begin(channel, parts)
     }
 
     // Starts a session on a channel with these processes.
@@ -356,10 +364,11 @@ impl<'a> Network<'a> {
         ensures err { OnErr result (IsSame self.old self.new) }
     {
         self.history.reserve(1)?;
-        reserve_sessions(self.machines.as_mut_slice(), parts.as_slice())?;
+        let endpoints = self.endpoints;
+        reserve_sessions(endpoints, self.machines.as_mut_slice(), parts.as_slice())?;
         let sid = self.sid;
         join_all(
-            self.endpoints,
+            endpoints,
             self.machines.as_mut_slice(),
             channel,
             sid,
@@ -374,27 +383,4 @@ impl<'a> Network<'a> {
         append(&mut self.history, event);
         Ok(())
     }
-}
-
-// One event more, for which there is room.
-fn append(history: &mut Vec<Entry>, event: Event)
-    requires { vec_len history.old < vec_capacity history.old }
-    ensures { history.new.items ≡ history.old.items ++ record { worker = 0; event = event } ∷ [] }
-{
-    match history.push(Entry { worker: 0, event }) {
-        Ok(()) => {}
-        Err(_) => unreachable!(),
-    }
-}
-
-// The channel of a name.
-fn channel_named(channels: &[Channel], name: NameId) -> Option<&Channel>
-    ensures { option_copied result ≡ channel_of channels.now name }
-{
-    for channel in channels {
-        if channel.name == name {
-            return Some(channel);
-        }
-    }
-    None
 }

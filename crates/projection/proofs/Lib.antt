@@ -1,7 +1,11 @@
 pub mod Inversions
 pub mod Branches
 pub mod TreeTables
-pub mod CodeTables
 pub mod Paths
 pub mod Makes
 pub mod Whole
+pub mod Numbered
+pub mod OneCode
+pub mod Renamed
+pub mod Exchanged
+pub mod Clashes

@@ -23,7 +23,7 @@ use Rattle.endpoint_code.specs.Trees.{CodeTree, trees_of, code_at}
 use Rattle.projection.specs.Codes.{Part, Absent, Acts, Learns, part_in, IsCodeOf, acts, learns, absent, ends}
 use Rattle.projection.specs.Straight.{HasNode, here, part_tree, IsStep, IsPartOrEnd, is_end, is_part}
 use Rattle.projection.specs.Making.{tree_at, from_place, IsPath, part_at, Puts, IsDeclared, Adds, HasCode, IsProcessIn, DoesPart}
-use Rattle.projection.proofs.CodeTables.{code_at-kept, code_at-pushed}
+use Rattle.endpoint_code.proofs.CodeTables.{code_at-kept, code_at-pushed}
 use Rattle.projection.proofs.Paths.{at_place, in_rest}
 
 pub child_below : {i : ℕ} {next : NodeId} {f g : Form} → f ≡ g → children_of g ≡ next ∷ [] → All (λ c. c.0 < i) (children_of f) → next.0 < i

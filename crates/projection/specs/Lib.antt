@@ -1,5 +1,7 @@
 pub mod Codes
 pub mod Projects
+pub mod MergeFaults
+pub mod Renamed
 pub mod Straight
 pub mod Making
 pub mod Examples

@@ -35,7 +35,7 @@ pub fn branches_told_by_labels()
 /// the code of either. The endpoints have no line for the channel that no start names.
 pub fn service_started_twice()
     ensures service { IsServiceCode [] d S twice.starts (twice.offers ((down, twice.sends_two) ∷ (up, twice.sends_one) ∷ [])) }
-    ensures whole { (tree : IsClosedTree (nodes_of source)) (kept : twice.FileIsKept) (code : IsClosed twice.nodes) (inside : AreInside twice.nodes [] twice.services twice.processes) → Projects (twice.file tree kept) (twice.endpoints code inside) }
+    ensures whole { (tree : IsClosedTree (nodes_of source)) (kept : twice.FileIsKept) (code : IsClosed twice.nodes) (inside : AreInside twice.nodes [] twice.services twice.processes) (numbered : twice.AreKept) → Projects (twice.file tree kept) (twice.endpoints code inside numbered) }
     // neither the code after one start, nor with one label more
     ensures fewer { (l : NameId) (c : CodeId) → ¬ (IsServiceCode [] d S twice.starts (twice.offers ((l, c) ∷ []))) }
     ensures more { (l : NameId) (c : CodeId) → ¬ (IsServiceCode [] d S twice.starts (twice.offers ((l, c) ∷ (down, twice.sends_two) ∷ (up, twice.sends_one) ∷ []))) }

@@ -6,10 +6,9 @@
 
 mod channels;
 pub mod examples;
+pub mod laws;
 mod line;
 mod part;
 mod straight;
-#[cfg(test)]
-mod tests;
 
 pub use straight::project;

@@ -48,7 +48,7 @@ same_part p a = record {
 
 reason_alike : {A B : Type 0} {R : Part A} {S : Part B} {f : B → A} {names : List (List ℕ)} {before : List Token} {t : Token} {rule : Rule} → Alike R S f → Reason S names before t rule → Reason R names before t rule
 reason_alike a wrong = wrong
-reason_alike a (excess c) = excess (completes_alike a c)
+reason_alike a (excess c) = excess (λ p. completes_alike a (c p))
 
 stops_alike : {A B : Type 0} {R : Part A} {S : Part B} {f : B → A} {C : Further} {names : List (List ℕ)} {ts : List Token} {rule : Rule} {place : Place} → Alike R S f → Stops S C names ts rule place → Stops R C names ts rule place
 stops_alike a s = record {
@@ -186,11 +186,11 @@ choice_begins b c = record { by = λ h. go b c h }
 
 reason_left : {A B : Type 0} {R : Part A} {S : Part B} {names : List (List ℕ)} {before : List Token} {t : Token} {rule : Rule} → Reason R names before t rule → Reason (OneOf R S) names before t rule
 reason_left wrong = wrong
-reason_left (excess c) = excess (complete_left c)
+reason_left (excess c) = excess (λ p. complete_left (c p))
 
 reason_right : {A B : Type 0} {R : Part A} {S : Part B} {names : List (List ℕ)} {before : List Token} {t : Token} {rule : Rule} → Reason S names before t rule → Reason (OneOf R S) names before t rule
 reason_right wrong = wrong
-reason_right (excess c) = excess (complete_right c)
+reason_right (excess c) = excess (λ p. complete_right (c p))
 
 -- where one stops that the other can't begin as
 never_left : {A B : Type 0} {R : Part A} {S : Part B} {C F G : Further} {names : List (List ℕ)} {ts : List Token} {rule : Rule} {place : Place} → (s : Stops R C names ts rule place) → Begins S G → IsStable F → AreDistinct F G → Head F names ts → (words : List (List ℕ)) (more : List Token) (y : Choice A B) (end : List Token) → OneOf R S (but_at rule place) (names ++ words) (s.before ++ s.token ∷ more) y end → Ends C (names ++ words) end → ⊥
@@ -298,7 +298,7 @@ option_part p b c f s = record {
 
 reason_with : {A : Type 0} {R : Part A} {names : List (List ℕ)} {before : List Token} {t : Token} {rule : Rule} → Reason R names before t rule → Reason (AtMost R) names before t rule
 reason_with wrong = wrong
-reason_with (excess c) = excess (complete_with c)
+reason_with (excess c) = excess (λ p. complete_with (c p))
 
 never_with : {A : Type 0} {R : Part A} {C D F : Further} {names : List (List ℕ)} {ts : List Token} {rule : Rule} {place : Place} → (s : Stops R C names ts rule place) → IsStable F → Among C D → Among F D → Head F names ts → (words : List (List ℕ)) (more us : List Token) (y : Option A) (end : List Token) → us ≡ s.before ++ s.token ∷ more → AtMost R (but_at rule place) (names ++ words) us y end → Ends D (names ++ words) end → ⊥
 never_with {names = names} s f c a h words more us None end m without e = ends_no_head e (head_among a (head_there (same_first s.parts (same_first_back (same_first_of s.before s.token s.rest more) m)) (head_stays words f h)))

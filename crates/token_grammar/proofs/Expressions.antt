@@ -1,5 +1,5 @@
 -- Expressions are a part of a grammar, and what reads them tells where they stop.
-use Rattle.std.proofs.Common.{◌≡◌, ◌<◌, ◌≤◌, ◌+◌, ◌-◌, ◌&&◌, suc, zero, ℕ, pos, Bool, true, false, List, [], ◌∷◌, ◌++◌, length, Some, refl, sym, ap, ◌∙◌, subst, arith, append_assoc, length-append, drop, map, not, codes, nat_lt}
+use Rattle.std.proofs.Common.{◌≡◌, ◌<◌, ◌≤◌, ◌+◌, ◌-◌, ◌&&◌, inl, inr, suc, zero, ℕ, pos, Bool, true, false, List, [], ◌∷◌, ◌++◌, length, Some, refl, sym, ap, ◌∙◌, subst, arith, append_assoc, length-append, drop, map, not, codes, nat_lt}
 use Rattle.std.specs.Prelude.{slice_get}
 use Rattle.std.specs.List.{AllZip, AllByRecursion}
 use Rattle.std.proofs.lemmas.List.{append-nil}
@@ -24,7 +24,7 @@ use Rattle.chor_lexer.specs.Tokens.{IsKnown, is_ended, is_last}
 use Rattle.chor_lexer.specs.Grammar.{OrIs, UnIs, ExprIs, IsExpr, IsExprFront, IsLongestFront, a_disjunction, or_done, a_conjunction, and_done, a_comparison, cmp_done, a_sum, sum_done, a_product, prod_done, a_unary, a_number, a_text, a_truth, a_name, in_parens}
 use Rattle.chor_lexer.proofs.Derivations.{expr_cut, one_expression}
 use Rattle.chor_lexer.proofs.Longest.{whole_front, longest_before, never_front, derived_is_longest}
-use Rattle.token_grammar.specs.Symbols.{Only, Reads, Allowed, nowhere, anywhere, only_at, but_at, Ends, more_words, AreWhole, Fits, Completes, IsPart, wrong, excess, Stops, Halts, Head, Begins}
+use Rattle.token_grammar.specs.Symbols.{Only, Reads, Allowed, nowhere, anywhere, only_at, but_at, also_at, Ends, more_words, AreWhole, Fits, Completes, IsPart, wrong, excess, Stops, Halts, Head, Begins}
 use Rattle.token_grammar.specs.Expressions.{Operator, ExprPart, IsNoWord}
 use Rattle.token_grammar.proofs.Derived.{get_left, get_back, word_more, name_more, expr_more_words, Alone, number, text, truth, name, Like, expr_like}
 
@@ -157,7 +157,7 @@ front_more : (names words : List (List ℕ)) (w : List Token) → IsExprFront na
 front_more names words w f = front_like names (names ++ words) w f (all_like_more names words w)
 
 -- a front of at most 255 tokens can be completed, with no 256th but in what is added
-completes : (Q : Allowed) (p : Place) (names : List (List ℕ)) (w : List Token) → IsExprFront names w → (length w ≤ 255 → (t : Token) → t.place ≡ p → Q P2 t.place) → (255 < length w → (t : Token) → Q P2 t.place) → Completes ExprPart Q p names w
+completes : (Q : Allowed) (p : Place) (names : List (List ℕ)) (w : List Token) → IsExprFront names w → (length w ≤ 255 → (t : Token) → t.place ≡ p → Q P2 t.place) → (255 < length w → (t : Token) → slice_get w 255 ≡ Some t → Q P2 t.place) → Completes ExprPart Q p names w
 completes Q p names w f few many =
     let g = goes_on names (names ++ more_words) w p f (all_like_more names more_words w) in
     record {
@@ -171,7 +171,7 @@ completes Q p names w f few many =
     }
   where
     go : (b : Bool) → nat_lt 255 (length w) ≡ b → (added : List Token) → AllByRecursion (λ t. t.place ≡ p) added → (more : List Token) (t : Token) → 255 < length (w ++ (added ++ more)) - length more → slice_get (w ++ (added ++ more)) 255 ≡ Some t → Q P2 t.place
-    go true e added there more t long at = many (grind (arith, nat_tests)) t
+    go true e added there more t long at = let size : 255 < length w = grind (arith, nat_tests) in many size t (get_back w (added ++ more) 255 t size at)
     go false e added there more t long at =
         let short : length w ≤ 255 = grind (arith, nat_tests) in
         few short t (get_there (λ u. u.place ≡ p) w added more 255 t there short (omega (arith, long, length-append w (added ++ more), length-append added more)) at)
@@ -279,7 +279,7 @@ stops_unfinished names ts w rest t h short none whole = record {
   rest = rest;
   parts = h.parts;
   at = refl;
-  viable = λ p. completes (only_at p) p names w h.begins (λ n t e. e) (λ n t. absurd (omega (arith, n, short)));
+  viable = λ p. completes (only_at p) p names w h.begins (λ n t e. e) (λ n t e. absurd (omega (arith, n, short)));
   never = λ words more y left d e.
       let known = known_before w rest t h.parts whole in
       let s = stuck (but_at P1 t.place) names words w t more y left h.begins (no_longer h) known d e in
@@ -314,11 +314,14 @@ stops_too_long names ts w rest t h at whole = go (upto 255 w t at)
           rest = u ++ rest;
           parts = h.parts ∙ ap (λ (l : List Token). l ++ rest) e ∙ append_assoc v (t ∷ u) rest;
           at = refl;
-          viable = λ p. completes (only_at p) p names v (front v (t ∷ u) e) (λ n s q. q) (λ n s. absurd (omega (arith, n, size)));
+          viable = λ p. completes (only_at p) p names v (front v (t ∷ u) e) (λ n s q. q) (λ n s q. absurd (omega (arith, n, size)));
           never = λ words more y left d f. never words more y left v size begun d f;
-          reason = excess (completes anywhere t.place names (v ++ t ∷ []) begun (λ n s q. tt) (λ n s. tt));
+          reason = excess (λ p. completes (also_at P2 t.place p) p names (v ++ t ∷ []) begun (λ n s q. inl q) (λ n s q. inr (refl, last s (sym (ap (slice_get (v ++ t ∷ [])) (sym size) ∙ get_at v t []) ∙ q))));
         }
       where
+        last : (s : Token) → Some t ≡ Some s → s.place ≡ t.place
+        last s e = let same : t ≡ s = cc in ap (λ (u : Token). u.place) (sym same)
+
         never : (words : List (List ℕ)) (more : List Token) (y : Term) (left v : List Token) → length v ≡ 255 → IsExprFront names (v ++ t ∷ []) → ExprPart (but_at P2 t.place) (names ++ words) (v ++ t ∷ more) y left → Ends Operator (names ++ words) left → ⊥
         never words more y left v size begun d f =
             let all = names ++ words in

@@ -8,3 +8,5 @@ pub mod Derived
 pub mod Expressions
 pub mod Values
 pub mod Sound
+pub mod Decided
+pub mod DecidedExpressions

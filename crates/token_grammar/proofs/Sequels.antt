@@ -1,12 +1,12 @@
 -- One part and then another.
-use Rattle.std.proofs.Common.{◌≡◌, ℕ, List, [], ◌∷◌, ◌++◌, ap, sym, ◌∙◌, subst, append_assoc}
+use Rattle.std.proofs.Common.{◌≡◌, inl, ℕ, List, [], ◌∷◌, ◌++◌, ap, sym, ◌∙◌, subst, append_assoc}
 use Rattle.std.proofs.lemmas.List.{append_cancel_right}
 use Rattle.chor_base.specs.declared.rule.Place.{Place}
 use Rattle.chor_base.specs.declared.rule.Rule.{Rule}
 use Rattle.chor_base.specs.declared.rule.Denied.{Denied}
 use Rattle.chor_lexer.specs.declared.token.Token.{Token}
 use Rattle.chor_lexer.proofs.Each.{each_append}
-use Rattle.token_grammar.specs.Symbols.{Allowed, anywhere, nowhere, only_at, but_at, Part, Further, Ends, more_words, Fits, Completes, IsPart, SameFirst, Only, Reads, Reason, wrong, excess, Stops, Halts, ThenBy, Then, Apart, Leads}
+use Rattle.token_grammar.specs.Symbols.{Allowed, anywhere, nowhere, only_at, but_at, also_at, Part, Further, Ends, more_words, Fits, Completes, IsPart, SameFirst, Only, Reads, Reason, wrong, excess, Stops, Halts, ThenBy, Then, Apart, Leads}
 use Rattle.token_grammar.proofs.Wholes.{whole_after, same_first_of, same_first_after, same_first}
 
 -- ---- completions
@@ -88,7 +88,7 @@ then_part {A} {B} {R} {S} {C} {D} p q a = record {
 
 reason_first : {A B : Type 0} {R : Part A} {S : A → Part B} {D : Further} {names : List (List ℕ)} {before : List Token} {t : Token} {rule : Rule} → ((x : A) → IsPart (S x) D) → Reason R names before t rule → Reason (ThenBy R S) names before t rule
 reason_first q wrong = wrong
-reason_first {names = names} {t = t} q (excess c) = excess (complete_first c (λ x. complete_wider (q x) (λ rule p k. tt) ((q x).some t.place names)))
+reason_first {names = names} q (excess c) = excess (λ p. complete_first (c p) (λ x. complete_wider (q x) (λ rule o e. inl e) ((q x).some p names)))
 
 stops_first : {A B : Type 0} {R : Part A} {S : A → Part B} {C D : Further} {names : List (List ℕ)} {ts : List Token} {rule : Rule} {place : Place} → ((x : A) → IsPart (S x) D) → ((x : A) → Apart C (S x) D) → Stops R C names ts rule place → Stops (ThenBy R S) D names ts rule place
 stops_first {names = names} q a s = record {
@@ -110,9 +110,9 @@ now q a h = by_now (λ x. q) (λ x. a) h
 
 -- ---- a refusal in the second part
 
-reason_second : {A B : Type 0} {R : Part A} {S : A → Part B} {names : List (List ℕ)} {before : List Token} {t : Token} {rule : Rule} (x : A) (front : List Token) → ((more : List Token) → R anywhere (names ++ more_words) (front ++ more) x more) → Reason (S x) names before t rule → Reason (ThenBy R S) names (front ++ before) t rule
+reason_second : {A B : Type 0} {R : Part A} {S : A → Part B} {names : List (List ℕ)} {before : List Token} {t : Token} {rule : Rule} (x : A) (front : List Token) → ((Q : Allowed) (more : List Token) → R Q (names ++ more_words) (front ++ more) x more) → Reason (S x) names before t rule → Reason (ThenBy R S) names (front ++ before) t rule
 reason_second x front r wrong = wrong
-reason_second {A} {B} {R} {S} {names} {before} {t} {rule} x front r (excess c) = excess (subst (λ (l : List Token). Completes (ThenBy R S) anywhere t.place names l) (sym (append_assoc front before (t ∷ []))) (complete_second x front r c))
+reason_second {A} {B} {R} {S} {names} {before} {t} {rule} x front r (excess c) = excess (λ p. subst (λ (l : List Token). Completes (ThenBy R S) (also_at rule t.place p) p names l) (sym (append_assoc front before (t ∷ []))) (complete_second x front (r (also_at rule t.place p)) (c p)))
 
 never_second : {A B : Type 0} {R : Part A} {S : A → Part B} {C D : Further} {names : List (List ℕ)} {ts : List Token} {x : A} {mid : List Token} {rule : Rule} {place : Place} → IsPart R C → ((y : A) → Apart C (S y) D) → (o : Only R C names ts x mid) → (s : Stops (S x) D names mid rule place) → (words : List (List ℕ)) (more : List Token) (y : A × B) (left : List Token) → ThenBy R S (but_at rule place) (names ++ words) ((o.front ++ s.before) ++ s.token ∷ more) y left → Ends D (names ++ words) left → ⊥
 never_second {A} {B} {R} {S} {C} {D} {names} {ts} {x} {mid} {rule} {place} p a o s words more y left k e =
@@ -139,7 +139,7 @@ stops_second {x = x} p a o is s = record {
   at = s.at;
   viable = λ z. complete_second x o.front (again p o is (only_at z) more_words) (s.viable z);
   never = λ words more y left m e. never_second p a o s words more y left m e;
-  reason = reason_second x o.front (again p o is anywhere more_words) s.reason;
+  reason = reason_second x o.front (λ Q. again p o is Q more_words) s.reason;
 }
 
 pub by_later : {A B : Type 0} {R : Part A} {S : A → Part B} {C D : Further} {names : List (List ℕ)} {ts : List Token} {x : A} {mid : List Token} {d : Denied} → IsPart R C → ((y : A) → Apart C (S y) D) → Reads R C names ts x mid → Halts (S x) D names mid d → Halts (ThenBy R S) D names ts d

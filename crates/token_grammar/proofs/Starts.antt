@@ -1,5 +1,5 @@
 -- With which tokens parts begin, and room for one more.
-use Rattle.std.proofs.Common.{◌≡◌, ℕ, List, [], ◌∷◌, ◌++◌, Option, refl, sym, ◌∙◌, subst}
+use Rattle.std.proofs.Common.{◌≡◌, inl, inr, ℕ, List, [], ◌∷◌, ◌++◌, Option, refl, sym, ◌∙◌, subst}
 use Rattle.std.specs.List.{AllByRecursion}
 use Rattle.chor_base.specs.declared.rule.Place.{Place}
 use Rattle.chor_base.specs.declared.rule.Rule.{Rule}
@@ -7,9 +7,9 @@ use Rattle.chor_base.specs.declared.rule.Rule.TheVariants.{P1}
 use Rattle.chor_base.specs.declared.rule.Denied.{Denied}
 use Rattle.chor_base.specs.declared.rule.Denied.TheVariants.{Memory}
 use Rattle.chor_lexer.specs.declared.token.Token.{Token}
-use Rattle.token_grammar.specs.Symbols.{Allowed, anywhere, only_at, Part, Further, Nothing, Ends, more_words, AreWhole, Fits, Completes, IsPart, Reads, Reason, wrong, excess, Stops, Halts, ThenBy, Apart, AtMost, without, with, IsStable, Among, AreDistinct, Head, Begins, AllowsFirst, Within, Opens, Alike, RefusesFirst, HasRoom, IsFull, Leads}
+use Rattle.token_grammar.specs.Symbols.{Allowed, only_at, also_at, Part, Further, Nothing, Ends, more_words, AreWhole, Fits, Completes, IsPart, Reads, Reason, wrong, excess, Stops, Halts, ThenBy, Apart, AtMost, without, with, IsStable, Among, AreDistinct, Head, Begins, AllowsFirst, Within, Opens, Alike, RefusesFirst, HasRoom, IsFull, Leads}
 use Rattle.token_grammar.proofs.Wholes.{first_of_cons, same_first, same_first_of, head_back, head_known, head_among, ends_among}
-use Rattle.token_grammar.proofs.Sequels.{complete_first, complete_wider}
+use Rattle.token_grammar.proofs.Sequels.{complete_first}
 use Rattle.token_grammar.proofs.Choices.{wrong_start, completes_alike}
 
 -- ---- beginnings
@@ -29,25 +29,10 @@ more_begins b a = record { by = λ h. head_among a (b.by h) }
 -- ---- what can be completed after its first token
 
 pub then_opens : {A B : Type 0} {R : Part A} {S : A → Part B} {D F : Further} → Opens R F → ((x : A) → IsPart (S x) D) → Opens (ThenBy R S) F
-then_opens o q = record { by = λ names t p f. complete_first (o.by names t p f) (λ x. complete_wider (q x) (λ rule z k. tt) ((q x).some p names)) }
+then_opens o q = record { by = λ names t p f. complete_first (o.by names t p f) (λ x. (q x).some p names) }
 
 pub same_opens : {A B : Type 0} {R : Part A} {S : Part B} {f : B → A} {F : Further} → Opens S F → Alike R S f → Opens R F
 same_opens o a = record { by = λ names t p f. completes_alike a (o.by names t p f) }
-
-pub allows_anywhere : (rule : Rule) (ts : List Token) → AllowsFirst anywhere rule ts
-allows_anywhere rule [] = tt
-allows_anywhere rule (t ∷ ts) = tt
-
-complete_anywhere : {A : Type 0} {rule : Rule} {n : ℕ} {R : Part A} {p : Place} {names : List (List ℕ)} {ts : List Token} → Completes R anywhere p names ts → Completes (Within rule n R) anywhere p names ts
-complete_anywhere {rule = rule} {ts = ts} c = record {
-  added = c.added;
-  there = c.there;
-  value = c.value;
-  is = λ more. record { room = λ e. allows_anywhere rule (ts ++ (c.added ++ more)); is = c.is more };
-}
-
-pub within_opens : {A : Type 0} {rule : Rule} {n : ℕ} {R : Part A} {F : Further} → Opens R F → Opens (Within rule n R) F
-within_opens o = record { by = λ names t p f. complete_anywhere (o.by names t p f) }
 
 -- ---- what a second part begins with doesn't go on with the first
 
@@ -130,9 +115,22 @@ complete_room {rule = rule} {n = n} {F = F} {names = names} {ts = ts} {p = p} be
     go [] e h more z = allows_added rule p c.added more c.there h
     go (u ∷ us) e h more z = absurd (room z (head_known more_words s w (head_back (same_first e (same_first_of [] u (us ++ t ∷ rest) (us ++ (c.added ++ [])))) h)))
 
-reason_room : {A : Type 0} {rule : Rule} {n : ℕ} {R : Part A} {names : List (List ℕ)} {before : List Token} {t : Token} {r : Rule} → Reason R names before t r → Reason (Within rule n R) names before t r
-reason_room wrong = wrong
-reason_room (excess c) = excess (complete_anywhere c)
+-- where tokens have come, it is the first of them that there was room for
+complete_after : {A : Type 0} {rule : Rule} {n : ℕ} {R : Part A} {F : Further} {Q : Allowed} {names : List (List ℕ)} {ts : List Token} {p : Place} (before : List Token) (t : Token) (rest : List Token) → ts ≡ before ++ t ∷ rest → Begins R F → IsStable F → (n ≡ 0 → Head F names ts → ⊥) → AreWhole names ts → Completes R Q p names (before ++ t ∷ []) → Completes (Within rule n R) Q p names (before ++ t ∷ [])
+complete_after {rule = rule} {n = n} {F = F} {Q = Q} {names = names} {ts = ts} before t rest parts b s room w c = record {
+  added = c.added;
+  there = c.there;
+  value = c.value;
+  is = λ more. record { room = λ e. absurd (room e (head_known more_words s w (go before parts (b.by (c.is []))))); is = c.is more };
+}
+  where
+    go : (us : List Token) → ts ≡ us ++ t ∷ rest → Head F (names ++ more_words) ((us ++ t ∷ []) ++ (c.added ++ [])) → Head F (names ++ more_words) ts
+    go [] e h = head_back (same_first e (same_first_of [] t rest (c.added ++ []))) h
+    go (u ∷ us) e h = head_back (same_first e (same_first_of [] u (us ++ t ∷ rest) ((us ++ t ∷ []) ++ (c.added ++ [])))) h
+
+reason_room : {A : Type 0} {rule : Rule} {n : ℕ} {R : Part A} {F : Further} {names : List (List ℕ)} {ts : List Token} (before : List Token) (t : Token) (rest : List Token) {r : Rule} → ts ≡ before ++ t ∷ rest → Begins R F → IsStable F → (n ≡ 0 → Head F names ts → ⊥) → AreWhole names ts → Reason R names before t r → Reason (Within rule n R) names before t r
+reason_room before t rest parts b s room w wrong = wrong
+reason_room before t rest parts b s room w (excess c) = excess (λ p. complete_after before t rest parts b s room w (c p))
 
 pub within_halts : {A : Type 0} {rule : Rule} {n : ℕ} {R : Part A} {C F : Further} {names : List (List ℕ)} {ts : List Token} {d : Denied} → Begins R F → IsStable F → (n ≡ 0 → Head F names ts → ⊥) → Halts R C names ts d → Halts (Within rule n R) C names ts d
 within_halts b f room k = record {
@@ -146,7 +144,7 @@ within_halts b f room k = record {
           at = s.at;
           viable = λ p. complete_room s.before s.token s.rest s.parts b f room w (s.viable p);
           never = λ words more y end m o. s.never words more y end m.is o;
-          reason = reason_room s.reason;
+          reason = reason_room s.before s.token s.rest s.parts b f room w s.reason;
         },
         (k.by r e w).1,
       );
@@ -172,6 +170,15 @@ wrong_halts {R = R} {C = C} {names = names} {ts = ts} p b s n f = record {
       (subst (λ (rule : Rule). Stops R C names ts rule r.place) (sym q.0) (wrong_start p b s n r.place (f.at r e) w), q.1);
 }
 
+-- one too many is completed with no further excess but in what is added
+complete_full : {A : Type 0} {rule : Rule} {n : ℕ} {R : Part A} {C : Further} {names : List (List ℕ)} {t : Token} {p : Place} → IsPart R C → Completes R (only_at p) p names (t ∷ []) → Completes (Within rule n R) (also_at rule t.place p) p names (t ∷ [])
+complete_full q c = record {
+  added = c.added;
+  there = c.there;
+  value = c.value;
+  is = λ more. record { room = λ e. inr (refl, refl); is = q.wider (λ r o e. inl e) (c.is more) };
+}
+
 stops_full : {A : Type 0} {rule : Rule} {n : ℕ} {R : Part A} {C F : Further} {names : List (List ℕ)} {ts : List Token} (place : Place) → n ≡ 0 → IsPart R C → Begins R F → Opens R F → (h : Head F names ts) → place ≡ h.token.place → Stops (Within rule n R) C names ts rule place
 stops_full {rule = rule} {n = n} {R = R} {names = names} place z p b o h at = record {
   before = [];
@@ -181,7 +188,7 @@ stops_full {rule = rule} {n = n} {R = R} {names = names} place z p b o h at = re
   at = at;
   viable = λ q. some_room p b q names;
   never = λ words more y end k e. k.room z refl (sym at);
-  reason = excess (complete_anywhere (o.by names h.token h.token.place h.is));
+  reason = excess (λ q. complete_full p (o.by names h.token q h.is));
 }
 
 pub full_halts : {A : Type 0} {rule : Rule} {n : ℕ} {R : Part A} {C F : Further} {names : List (List ℕ)} {ts : List Token} {d : Denied} → n ≡ 0 → IsPart R C → Begins R F → Opens R F → Head F names ts → RefusesFirst rule ts d → Halts (Within rule n R) C names ts d

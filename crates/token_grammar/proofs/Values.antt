@@ -97,7 +97,7 @@ complete_by_second c = record { added = c.added; there = c.there; value = c.valu
 pub either_opens : {A : Type 0} {R S : Part A} {F G : Further} → Opens R F → Opens S G → Opens (Either R S) (λ names t. F names t ⊎ G names t)
 either_opens {R = R} {S = S} {F = F} {G = G} o q = record { by = λ names t p h. go names t p h }
   where
-    go : (names : List (List ℕ)) (t : Token) (p : Place) → F names t ⊎ G names t → Completes (Either R S) anywhere p names (t ∷ [])
+    go : (names : List (List ℕ)) (t : Token) (p : Place) → F names t ⊎ G names t → Completes (Either R S) (only_at p) p names (t ∷ [])
     go names t p (inl h) = complete_by_first (o.by names t p h)
     go names t p (inr h) = complete_by_second (q.by names t p h)
 
@@ -174,7 +174,7 @@ opened_at (u ∷ before) t more ts s e c = complete_at (place_of_first s e) c
 
 reason_at : {A : Type 0} {S : Place → Part A} {names : List (List ℕ)} {place : Place} (before : List Token) (t : Token) (more ts : List Token) (rule : Rule) → StandsAt place ts → ts ≡ before ++ t ∷ more → Reason (S place) names before t rule → Reason (At S) names before t rule
 reason_at before t more ts rule s e wrong = wrong
-reason_at before t more ts rule s e (excess c) = excess (opened_at before t more ts s e c)
+reason_at before t more ts rule s e (excess c) = excess (λ p. opened_at before t more ts s e (c p))
 
 at_halts : {A : Type 0} {S : Place → Part A} {C F : Further} {names : List (List ℕ)} {ts : List Token} {place : Place} {d : Denied} → ((q : Place) → IsPart (S q) C) → ((q : Place) → Begins (S q) F) → StandsAt place ts → Halts (S place) C names ts d → Halts (At S) C names ts d
 at_halts {S = S} {names = names} {ts = ts} {place = place} q b at h = record {

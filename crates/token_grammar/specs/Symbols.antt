@@ -1,6 +1,6 @@
 -- Parts of a grammar of tokens, each a relation between the tokens from some place on, what they derive there, and the tokens that
 -- are left after it.
-use Rattle.std.specs.Prelude.{◌≡◌, ◌<◌, ◌-◌, ℕ, true, false, List, [], ◌∷◌, ◌++◌, length, Option, Some, None}
+use Rattle.std.specs.Prelude.{◌≡◌, ◌⊎◌, ◌-◌, ℕ, true, false, List, [], ◌∷◌, ◌++◌, Option, Some, None}
 use Rattle.std.specs.List.{AllByRecursion}
 use Rattle.chor_base.specs.declared.rule.Place.{Place}
 use Rattle.chor_base.specs.declared.rule.Rule.{Rule}
@@ -27,6 +27,10 @@ only_at q rule p = p ≡ q
 
 abbrev pub but_at : Rule → Place → Allowed
 but_at rule q r p = r ≡ rule → p ≡ q → ⊥
+
+-- any rule at the place p, this one at q too
+abbrev pub also_at : Rule → Place → Place → Allowed
+also_at rule q p r o = (o ≡ p) ⊎ ((r ≡ rule) × (o ≡ q))
 
 -- a part of a grammar: where limits may be exceeded, the words by their numbers, the tokens, what is derived, the tokens left
 abbrev pub Part : Type 0 → Type 1
@@ -96,10 +100,11 @@ pub record Reads {A : Type 0} (R : Part A) (C : Further) (names : List (List ℕ
   pub is : R nowhere names ts x rest
   pub only : AreWhole names ts → Only R C names ts x rest
 
--- a token can't be there; or it can, and a limit is exceeded
+-- a token can't be there; or it can, and a limit is exceeded there, by no other rule: it can be completed with no further excess but
+-- in what is added, wherever that stands
 pub data Reason {A : Type 0} (R : Part A) (names : List (List ℕ)) (before : List Token) (t : Token) : Rule → Type 0 where
   wrong : Reason R names before t P1
-  excess : {rule : Rule} → Completes R anywhere t.place names (before ++ t ∷ []) → Reason R names before t rule
+  excess : {rule : Rule} → ((p : Place) → Completes R (also_at rule t.place p) p names (before ++ t ∷ [])) → Reason R names before t rule
 
 -- it stops at the first token that violates a rule: those before it can be completed, with no excess but in what is added; with
 -- the token nothing can be derived that doesn't violate the rule there
@@ -185,9 +190,9 @@ pub record Within {A : Type 0} (rule : Rule) (n : ℕ) (R : Part A) (Q : Allowed
   pub room : Room Q rule n ts
   pub is : R Q names ts x rest
 
--- after each token with which it may begin, a part can be completed
+-- after each token with which it may begin, a part can be completed, with no excess but in what is added
 pub record Opens {A : Type 0} (R : Part A) (F : Further) : Type 0 where
-  pub by : (names : List (List ℕ)) (t : Token) (p : Place) → F names t → Completes R anywhere p names (t ∷ [])
+  pub by : (names : List (List ℕ)) (t : Token) (p : Place) → F names t → Completes R (only_at p) p names (t ∷ [])
 
 -- what the second part says of a value that the first derives
 pub record As {A B : Type 0} (S : Part B) (f : B → A) (Q : Allowed) (names : List (List ℕ)) (ts : List Token) (x : A) (rest : List Token) : Type 0 where

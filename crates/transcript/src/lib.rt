@@ -4,8 +4,6 @@
 mod book;
 mod line;
 mod lines;
-#[cfg(test)]
-mod tests;
 
 pub use book::Book;
 pub use line::print_event;

@@ -1,6 +1,6 @@
 //! What a table of host functions does.
 
-ghost use Rattle.std.specs.Prelude.{◌≡◌, ◌<◌, ◌+◌, ◌^◌, ◌++◌, ◌∷◌, [], ◌↔◌, false, length, slice_get, OnOk, OnErr, IfErr, IfSome, IfNone, IsTrue};
+ghost use Rattle.std.specs.Prelude.{◌≡◌, ◌<◌, ◌++◌, ◌∷◌, [], ◌↔◌, false, length, slice_get, OnOk, OnErr, IfErr, IfSome, IfNone, IsTrue};
 ghost use Rattle.chor_host.specs.Functions.{function_of, is_named, names_of};
 ghost use Rattle.chor_host.specs.Tables.{functions_of};
 
@@ -37,9 +37,6 @@ impl HostTable {
         if self.has(f.name.as_slice()) {
             return Err(AddFault::Twice);
         }
-        if self.functions.len() >= u32::MAX as usize {
-            return Err(AddFault::Memory);
-        }
         self.push(f)
     }
 
@@ -56,8 +53,7 @@ impl HostTable {
 
     // One more function, of a name that isn't there.
     fn push(&mut self, f: HostFn) -> Result<(), AddFault>
-        requires absent { is_named (functions_of self.old) f.name ≡ false }
-        requires room { length (functions_of self.old) + 1 < 2 ^ 32 }
+        requires { is_named (functions_of self.old) f.name ≡ false }
         ensures ok { OnOk result (functions_of self.new ≡ functions_of self.old ++ function_of f ∷ []) }
         ensures memory { IfErr result (λ fault. fault ≡ AddFault.Memory) }
         ensures err { OnErr result (functions_of self.new ≡ functions_of self.old) }

@@ -25,6 +25,7 @@ use Rattle.endpoint_code.specs.declared.endpoints.Process.{Process}
 use Rattle.endpoint_code.specs.declared.endpoints.Endpoints.{Endpoints}
 use Rattle.endpoint_code.specs.Code.{IsClosed}
 use Rattle.endpoint_code.specs.Bodies.{AreInside}
+use Rattle.endpoint_code.specs.Kept.{AreNumbered}
 use Rattle.endpoint_code.specs.Trees.{CodeTree, code_at}
 use Rattle.projection.specs.Projects.{Started, starts_in}
 
@@ -95,8 +96,11 @@ services = record { channel = d; role = S; body = code 3 } ∷ []
 abbrev pub processes : List Process
 processes = record { name = p; body = code 6 } ∷ record { name = q; body = code 9 } ∷ []
 
-abbrev pub endpoints : IsClosed nodes → AreInside nodes [] services processes → Endpoints
-endpoints closed inside = record {
+abbrev pub AreKept : Type 0
+AreKept = AreNumbered words [] channels [] services processes nodes
+
+abbrev pub endpoints : IsClosed nodes → AreInside nodes [] services processes → AreKept → Endpoints
+endpoints closed inside numbered = record {
   names = words;
   texts = [];
   channels = channels;
@@ -105,4 +109,5 @@ endpoints closed inside = record {
   processes = processes;
   code = record { nodes = nodes; closed = closed };
   inside = inside;
+  numbered = numbered;
 }

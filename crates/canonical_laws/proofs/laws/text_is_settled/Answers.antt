@@ -6,4 +6,4 @@ pub returns-clause-same : goal.returns-clause-same
 returns-clause-same c = same_text
 
 pub returns-clause-settled : goal.returns-clause-settled
-returns-clause-settled c bytes written us f g read = is_settled bytes written f read us g
+returns-clause-settled c f g old_names old_texts us r = is_settled r.bytes r.tokens f r.is us g

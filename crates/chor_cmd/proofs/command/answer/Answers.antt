@@ -1,47 +1,55 @@
-use Rattle.std.proofs.Common.{sym, subst, ℕ, List, []}
-use Rattle.chor_host.specs.Functions.{names_of}
-use Rattle.chor_host.specs.Tables.{functions_of}
-use Rattle.chor_io.specs.Outside.{Risen, FetchTells}
+use Rattle.std.proofs.Common.{◌≤◌, sym, subst, length, ℕ, List, []}
+use Rattle.chor_io.specs.Outside.{Risen, FetchGrows, FetchTells}
 use Rattle.chor_cmd.specs.declared.status.Status.TheVariants.{ReadFault, TooLarge}
-use Rattle.chor_cmd.specs.Endings.{Ends, TellsOnly, line_naming, read_fault, too_large}
+use Rattle.chor_cmd.specs.Outputs.{line_naming}
+use Rattle.chor_cmd.specs.Endings.{Ends, MayTell, host_names, source_limit, read_fault, too_large}
 use Rattle.chor_cmd.specs.Words.{NamesFile}
-use Rattle.chor_cmd.proofs.Calls.{told_all, told_long}
+use Rattle.chor_cmd.proofs.Calls.{few_read, told_all, told_long}
 use Rattle.chor_cmd.proofs.command.answer.Goals as goal
 
 pub returns-in-Failed-clause-ended : goal.returns-in-Failed-clause-ended
 returns-in-Failed-clause-ended g c = λ words form.
-    let hosts = names_of (functions_of c.args.hosts.now) in
+    let hosts = host_names c.args.hosts.now in
     let named : NamesFile words c.args.name.now = (c.args.command, form) in
-    let before = g.F.Shelf.faults c.args.shelf.now in
-    let after = g.F.Shelf.faults c.fetch.new.self in
-    let files = g.F.Shelf.files c.args.shelf.now in
-    let risen = subst (λ (name : List ℕ). Risen (before name) (after name)) c.as_slice.ensures (c.fetch.ensures.cause c.in-Failed.is) in
-    c.finish_naming.ensures hosts words files before after named
-    (subst (λ (what : List ℕ). Ends hosts words files before after ReadFault (line_naming what c.args.name.now)) (sym c.as_slice-in-Failed.ensures)
+    let before = g.F.Shelf.state c.args.shelf.now in
+    let after = g.F.Shelf.state c.fetch.new.self in
+    let risen = subst (λ (name : List ℕ). Risen (before.faults name) (after.faults name)) c.as_slice.ensures (c.fetch.ensures.cause c.in-Failed.is) in
+    c.finish_naming.ensures hosts words before after named
+    (subst (λ (what : List ℕ). Ends hosts words before after ReadFault (line_naming what c.args.name.now)) (sym c.as_slice-in-Failed.ensures)
     (read_fault c.args.name.now named risen))
 
 pub returns-in-TooLong-clause-ended : goal.returns-in-TooLong-clause-ended
 returns-in-TooLong-clause-ended g c = λ words form.
-    let hosts = names_of (functions_of c.args.hosts.now) in
+    let hosts = host_names c.args.hosts.now in
     let named : NamesFile words c.args.name.now = (c.args.command, form) in
-    let before = g.F.Shelf.faults c.args.shelf.now in
-    let after = g.F.Shelf.faults c.fetch.new.self in
-    let files = g.F.Shelf.files c.args.shelf.now in
-    let tells = subst (λ (name : List ℕ). FetchTells files name 1048576 c.new-bytes.result.items c.fetch.new.into.items c.fetch.result) c.as_slice.ensures c.fetch.ensures.told in
-    let tells' = subst (λ (old : List ℕ). FetchTells files c.args.name.now 1048576 old c.fetch.new.into.items c.fetch.result) c.new-bytes.ensures.items tells in
-    let tells'' = subst (λ (answer : _). FetchTells files c.args.name.now 1048576 [] c.fetch.new.into.items answer) c.in-TooLong.is tells' in
-    c.finish_naming-in-TooLong.ensures hosts words files before after named
-    (subst (λ (what : List ℕ). Ends hosts words files before after TooLarge (line_naming what c.args.name.now)) (sym c.as_slice-in-TooLong.ensures)
-    (too_large c.args.name.now named (told_long files c.args.name.now c.fetch.new.into.items tells'')))
+    let before = g.F.Shelf.state c.args.shelf.now in
+    let after = g.F.Shelf.state c.fetch.new.self in
+    let files = before.files in
+    let new = c.fetch.new.into.items in
+    let grows = subst (λ (old : List ℕ). FetchGrows 1048576 old new c.fetch.result) c.new-bytes.ensures.items c.fetch.ensures.grows in
+    let grows' = subst (λ (answer : _). FetchGrows 1048576 [] new answer) c.in-TooLong.is grows in
+    let tells = subst (λ (name : List ℕ). FetchTells files name 1048576 c.new-bytes.result.items new c.fetch.result) c.as_slice.ensures c.fetch.ensures.told in
+    let tells' = subst (λ (old : List ℕ). FetchTells files c.args.name.now 1048576 old new c.fetch.result) c.new-bytes.ensures.items tells in
+    let tells'' = subst (λ (answer : _). FetchTells files c.args.name.now 1048576 [] new answer) c.in-TooLong.is tells' in
+    let long = told_long files c.args.name.now new grows' tells'' in
+    c.finish_naming-in-TooLong.ensures hosts words before after named
+    (subst (λ (what : List ℕ). Ends hosts words before after TooLarge (line_naming what c.args.name.now)) (sym c.as_slice-in-TooLong.ensures)
+    (too_large c.args.name.now long.0 named long.1 long.2))
 
 pub returns-clause-ended : goal.returns-clause-ended
 returns-clause-ended g c = λ words form.
-    let before = g.F.Shelf.faults c.args.shelf.now in
-    let after = g.F.Shelf.faults c.fetch.new.self in
-    let files = g.F.Shelf.files c.args.shelf.now in
-    let tells = subst (λ (name : List ℕ). FetchTells files name 1048576 c.new-bytes.result.items c.fetch.new.into.items c.fetch.result) c.as_slice.ensures c.fetch.ensures.told in
-    let tells' = subst (λ (old : List ℕ). FetchTells files c.args.name.now 1048576 old c.fetch.new.into.items c.fetch.result) c.new-bytes.ensures.items tells in
-    let tells'' = subst (λ (answer : _). FetchTells files c.args.name.now 1048576 [] c.fetch.new.into.items answer) c.in-All.is tells' in
-    c.answer_bytes.ensures words files before after c.args.name.now form
-    (subst (λ (bytes : List ℕ). TellsOnly files c.args.name.now bytes) (sym c.as_slice-in-All.ensures.value)
-    (told_all files c.args.name.now c.fetch.new.into.items tells''))
+    let before = g.F.Shelf.state c.args.shelf.now in
+    let after = g.F.Shelf.state c.fetch.new.self in
+    let files = before.files in
+    let new = c.fetch.new.into.items in
+    let tells = subst (λ (name : List ℕ). FetchTells files name 1048576 c.new-bytes.result.items new c.fetch.result) c.as_slice.ensures c.fetch.ensures.told in
+    let tells' = subst (λ (old : List ℕ). FetchTells files c.args.name.now 1048576 old new c.fetch.result) c.new-bytes.ensures.items tells in
+    let tells'' = subst (λ (answer : _). FetchTells files c.args.name.now 1048576 [] new answer) c.in-All.is tells' in
+    let grows = subst (λ (old : List ℕ). FetchGrows 1048576 old new c.fetch.result) c.new-bytes.ensures.items c.fetch.ensures.grows in
+    let few = few_read new (subst (λ (answer : _). FetchGrows 1048576 [] new answer) c.in-All.is grows) in
+    c.answer_bytes.ensures words before after (record {
+      name = c.args.name.now;
+      form = form;
+      told = subst (λ (bytes : List ℕ). MayTell files c.args.name.now bytes) (sym c.as_slice-in-All.ensures.value) (told_all files c.args.name.now new tells'');
+      few = subst (λ (bytes : List ℕ). length bytes ≤ source_limit) (sym c.as_slice-in-All.ensures.value) few;
+    })

@@ -1,8 +1,8 @@
 use Rattle.std.proofs.Common.{sym, subst}
 use Rattle.chor_cmd.specs.declared.words.Command.{Command}
-use Rattle.chor_cmd.specs.ThinFile.{IsThin}
-use Rattle.chor_cmd.specs.Source.{Judges}
-use Rattle.chor_cmd.specs.Endings.{IsProjectionText, IsOutput}
+use Rattle.thin_files.specs.ThinFile.{IsThin}
+use Rattle.chor_cmd.specs.Words.{ShowsTypes}
+use Rattle.chor_cmd.specs.Outputs.{IsProjectionText, IsOutput}
 use Rattle.chor_cmd.proofs.command.text_of.Goals as goal
 
 pub returns-in_ok-text-in-Run-clause-some : goal.returns-in_ok-text-in-Run-clause-some
@@ -30,5 +30,5 @@ returns-in_ok-text-in-Fmt-clause-some c =
     let text = c.in_ok-text-in-Fmt.text.items in
     subst (λ (command : Command). IsOutput command file text) (sym c.in-Fmt.is) c.in_ok-text-in-Fmt.ensures
 
-pub types_of-requires-clause-views : goal.types_of-requires-clause-views
-types_of-requires-clause-views c = c.requires.views (subst Judges (sym c.in-Types.is) tt)
+pub types_of-requires : goal.types_of-requires
+types_of-requires c = record { views = c.requires.views (subst ShowsTypes (sym c.in-Types.is) tt) }

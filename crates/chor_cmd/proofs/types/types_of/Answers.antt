@@ -1,18 +1,14 @@
 use Rattle.std.proofs.Common.{List, ℕ, ◌++◌, subst, ap, ◌∙◌}
-use Rattle.chor_tree.specs.declared.protocol.Protocol.{Protocol}
+use Rattle.chor_tree.specs.Protocols.{Protocol}
 use Rattle.global_types.specs.Moves.{IsIn}
 use Rattle.local_types.proofs.Lists.{item_among}
 use Rattle.chor_cmd.specs.Types.{AreRoleTexts}
 use Rattle.chor_cmd.proofs.Typed.{texts_more}
 use Rattle.chor_cmd.proofs.types.types_of.Goals as goal
 
-pub roles_of-requires-clause-proper : goal.roles_of-requires-clause-proper
-roles_of-requires-clause-proper c =
-    c.requires.proper c.protocol-item.result (subst (λ l. IsIn c.protocol-item.result l) c.as_slice-protocol-items.ensures (item_among c.as_slice-protocol-items.result.now c.loop-protocol.protocol-index c.protocol-item.result c.loop-protocol-test.true c.protocol-item.is))
-
-pub roles_of-requires-clause-fine : goal.roles_of-requires-clause-fine
-roles_of-requires-clause-fine c =
-    c.requires.views c.protocol-item.result (subst (λ l. IsIn c.protocol-item.result l) c.as_slice-protocol-items.ensures (item_among c.as_slice-protocol-items.result.now c.loop-protocol.protocol-index c.protocol-item.result c.loop-protocol-test.true c.protocol-item.is))
+pub roles_of-requires : goal.roles_of-requires
+roles_of-requires c =
+    record { fine = c.requires.views c.protocol-item.result (subst (λ l. IsIn c.protocol-item.result l) c.as_slice-protocol-items.ensures (item_among c.as_slice-protocol-items.result.now c.loop-protocol.protocol-index c.protocol-item.result c.loop-protocol-test.true c.protocol-item.is)) }
 
 pub loop-protocol-preserved : goal.loop-protocol-preserved
 loop-protocol-preserved c =

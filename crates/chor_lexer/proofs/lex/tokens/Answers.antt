@@ -1,7 +1,7 @@
 use Rattle.std.proofs.Common.{◌∙◌, sym, refl}
 use Rattle.std.proofs.lemmas.Bool.{eqb-true}
 use Rattle.chor_lexer.proofs.Known.{are_known}
-use Rattle.chor_lexer.proofs.Progress.{progress_none, progress_blank, progress_token, progress_fault, progress_end, progress_ended, progress_short, denied_malformed, names_on, texts_on}
+use Rattle.chor_lexer.proofs.Progress.{progress_none, progress_blank, progress_token, progress_fault, progress_end, progress_ended, denied_malformed, names_on, texts_on}
 use Rattle.chor_lexer.proofs.lex.tokens.Goals as goal
 
 pub returns-in-Err-clause-denied : goal.returns-in-Err-clause-denied
@@ -34,7 +34,7 @@ loop-rest-preserved c =
     let piece = rw c.in-Ok-Token.field-0-is at c.in-Ok-Token.ensures.piece in
     progress_token _ _ _ _ _ _ _ _ _ _ _ _ _ _ c.in-Ok-Token.form c.in-Ok-Token.len _ c.loop-rest.invariant
     (record { written_is = c.split_at-in-Ok-Token.ensures.front; after_is = c.split_at-in-Ok-Token.ensures.back; place = c.place_after-place-in-Ok-Token.ensures.place; line = c.place_after-place-in-Ok-Token.ensures.line; col = c.place_after-place-in-Ok-Token.ensures.col; within = piece.within })
-    piece c.in_ok-kind-in-Ok-Token.ensures.kind c.in_ok-kind-in-Ok-Token.ensures.names_are c.in_ok-kind-in-Ok-Token.ensures.texts_are c.kind_of.ensures.names c.kind_of.ensures.texts c.kind_of.ensures.room c.in_ok-push-in-Ok-Token.ensures.ok
+    piece c.in_ok-kind-in-Ok-Token.ensures.kind c.in_ok-kind-in-Ok-Token.ensures.names_are c.in_ok-kind-in-Ok-Token.ensures.texts_are c.kind_of.ensures.names c.kind_of.ensures.texts c.in_ok-push-in-Ok-Token.ensures.ok
 
 pub returns-in-Err-piece_at-clause-denied : goal.returns-in-Err-piece_at-clause-denied
 returns-in-Err-piece_at-clause-denied c = progress_fault _ _ _ _ _ _ _ _ _ _ _ c.in-Err-piece_at.fault.offset _ c.loop-rest.invariant c.in_default.ensures.cases.1 c.in-Err-piece_at.ensures.fault refl c.place_after-in-Err-piece_at.ensures.place c.refused-in-Err-piece_at.ensures
@@ -42,7 +42,7 @@ returns-in-Err-piece_at-clause-denied c = progress_fault _ _ _ _ _ _ _ _ _ _ _ c
 pub invariant_of-result : goal.invariant_of-result
 invariant_of-result c = record {
   ended = progress_ended _ _ _ _ _ _ _ _ _ c.loop-rest.invariant c.in_ok-push.ensures.ok;
-  short = progress_short _ _ _ _ _ _ _ _ _ _ c.loop-rest.invariant c.in_ok-push.ensures.ok c.requires;
+  short = c.push-2.ensures.short;
 }
 
 pub returns-clause-found : goal.returns-clause-found

@@ -3,6 +3,7 @@ use Rattle.token_grammar.proofs.Sequels.{past, reads_past, leads, now}
 use Rattle.token_grammar.proofs.Choices.{same_halts, same_reads}
 use Rattle.chor_parser.proofs.Terminals.{after_name, after_mark, after_word, at_once, mark_reads, protocol_keyword}
 use Rattle.chor_parser.proofs.Protocols.{a_mark, mark_then, names_part, states_part, end_of_states, states_tail, roles_end, roles_tail, protocol_alike}
+use Rattle.chor_parser.proofs.KeptHeads.{protocol_filled}
 use Rattle.chor_parser.proofs.protocol.read_protocol.Goals as goal
 
 pub returns-in_err-name-clause-halts : goal.returns-in_err-name-clause-halts
@@ -42,3 +43,6 @@ returns-in_err-at-4-clause-halts c =
 
 pub returns-clause-reads : goal.returns-clause-reads
 returns-clause-reads c = λ t0 w. same_reads protocol_alike (reads_past (after_word protocol_keyword w) (reads_past (after_name c.in_ok-name.ensures.read) (reads_past (after_mark c.in_ok-at.ensures.read) (reads_past (leads (names_part 16) roles_end c.in_ok-roles.ensures.reads) (reads_past (after_mark c.in_ok-at-2.ensures.read) (reads_past (after_mark c.in_ok-at-3.ensures.read) (reads_past (leads states_part end_of_states c.in_ok-states.ensures.reads) (mark_reads c.in_ok-at-4.ensures.read))))))))
+
+pub invariant_of-result : goal.invariant_of-result
+invariant_of-result c = protocol_filled c.in_ok-roles.ensures.reads.is.0 c.in_ok-states.ensures.reads.is.0

@@ -6,6 +6,13 @@ use Rattle.endpoint_code.specs.Trees.{trees_of}
 use Rattle.endpoint_text.proofs.Lines.{text_on, below_on, below_more}
 use Rattle.endpoint_text.proofs.code.put_actions.Goals as goal
 
+pub node_at-node-requires-in-Some : goal.node_at-node-requires-in-Some
+node_at-node-requires-in-Some c =
+    let on : next_of c.loop-next.node.now ≡ Some c.in-Some.next = sym c.next_of.ensures ∙ c.in-Some.is in
+    let lt = below_on c.args.id.0 c.loop-next.node.now c.in-Some.next on c.loop-next.invariant.1 in
+    let inside = c.requires in
+    omega (arith, lt, inside)
+
 pub loop-next-preserved : goal.loop-next-preserved
 loop-next-preserved c =
     let on : next_of c.loop-next.node.now ≡ Some c.in-Some.next = sym c.next_of.ensures ∙ c.in-Some.is in

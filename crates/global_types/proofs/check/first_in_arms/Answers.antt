@@ -1,5 +1,5 @@
 use Rattle.global_types.specs.Faults.{unknown_state}
-use Rattle.global_types.proofs.Firsts.{turn}
+use Rattle.chor_base.proofs.Faults.{turn}
 use Rattle.global_types.proofs.check.first_in_arms.Goals as goal
 
 pub loop-arm-preserved : goal.loop-arm-preserved

@@ -1,8 +1,9 @@
 use Rattle.std.proofs.Common.{ap, ◌∙◌}
 use Rattle.std.specs.List.{flat_map}
-use Rattle.global_types.specs.Faults.{procedure_faults, unknown_state_in, protocol_named}
-use Rattle.global_types.specs.First.{first_of_all}
-use Rattle.global_types.proofs.Firsts.{turn_item}
+use Rattle.chor_tree.specs.Names.{protocol_named}
+use Rattle.global_types.specs.Faults.{procedure_faults, unknown_state_in}
+use Rattle.chor_base.specs.Faults.{first_of_all}
+use Rattle.chor_base.proofs.Faults.{turn_item}
 use Rattle.global_types.proofs.check.first_in_procedures.Goals as goal
 
 pub loop-procedure-preserved : goal.loop-procedure-preserved

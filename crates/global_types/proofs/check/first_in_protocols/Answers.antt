@@ -1,5 +1,5 @@
 use Rattle.global_types.specs.Faults.{protocol_faults}
-use Rattle.global_types.proofs.Firsts.{turn_item}
+use Rattle.chor_base.proofs.Faults.{turn_item}
 use Rattle.global_types.proofs.check.first_in_protocols.Goals as goal
 
 pub loop-protocol-preserved : goal.loop-protocol-preserved

@@ -1,7 +1,7 @@
 use Rattle.std.proofs.Common.{◌≡◌, drop}
 use Rattle.std.specs.List.{flat_map}
 use Rattle.global_types.specs.Faults.{protocol_faults}
-use Rattle.global_types.specs.First.{earlier, first_of_all}
+use Rattle.chor_base.specs.Faults.{earlier, first_of_all}
 use Rattle.global_types.proofs.check.first_in_protocols.Given as goal
 
 abbrev pub invariant-loop-protocol : goal.invariant-loop-protocol

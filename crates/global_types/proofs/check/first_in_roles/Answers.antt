@@ -1,5 +1,5 @@
 use Rattle.global_types.specs.Faults.{unused_role}
-use Rattle.global_types.proofs.Firsts.{turn}
+use Rattle.chor_base.proofs.Faults.{turn}
 use Rattle.global_types.proofs.check.first_in_roles.Goals as goal
 
 pub loop-role-preserved : goal.loop-role-preserved

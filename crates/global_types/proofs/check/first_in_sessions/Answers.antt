@@ -1,5 +1,6 @@
-use Rattle.global_types.specs.Faults.{unknown_state_in, protocol_named}
-use Rattle.global_types.proofs.Firsts.{turn_item}
+use Rattle.chor_tree.specs.Names.{protocol_named}
+use Rattle.global_types.specs.Faults.{unknown_state_in}
+use Rattle.chor_base.proofs.Faults.{turn_item}
 use Rattle.global_types.proofs.check.first_in_sessions.Goals as goal
 
 pub loop-session-preserved : goal.loop-session-preserved

@@ -1,5 +1,5 @@
 use Rattle.global_types.specs.Faults.{step_faults}
-use Rattle.global_types.proofs.Firsts.{turn_item}
+use Rattle.chor_base.proofs.Faults.{turn_item}
 use Rattle.global_types.proofs.check.first_in_states.Goals as goal
 
 pub loop-state-preserved : goal.loop-state-preserved

@@ -1,8 +1,8 @@
 use Rattle.std.proofs.Common.{ap, ◌∙◌}
 use Rattle.std.specs.List.{flat_map}
 use Rattle.global_types.specs.Faults.{own_receiver, unknown_state}
-use Rattle.global_types.specs.First.{first_of_all}
-use Rattle.global_types.proofs.Firsts.{first_of_two}
+use Rattle.chor_base.specs.Faults.{first_of_all}
+use Rattle.chor_base.proofs.Faults.{first_of_two}
 use Rattle.global_types.proofs.check.first_in_step.Goals as goal
 
 pub returns-in-Choice : goal.returns-in-Choice

@@ -1,5 +1,5 @@
 use Rattle.std.proofs.Common.{◌≡◌, drop}
-use Rattle.global_types.specs.Faults.{protocol_named}
+use Rattle.chor_tree.specs.Names.{protocol_named}
 use Rattle.global_types.proofs.check.unknown_state_in.Given as goal
 
 abbrev pub invariant-loop-candidate : goal.invariant-loop-candidate

@@ -1,12 +1,5 @@
-use Rattle.std.proofs.Common.{subst}
-use Rattle.global_types.specs.Moves.{IsIn}
-use Rattle.local_types.proofs.Lists.{item_among}
 use Rattle.local_types.proofs.Firsts.{first_refusal, protocols_more, protocols_whole}
 use Rattle.local_types.proofs.view.check_views.Goals as goal
-
-pub check_roles-requires : goal.check_roles-requires
-check_roles-requires c =
-    c.requires c.protocol-item.result (subst (λ l. IsIn c.protocol-item.result l) c.as_slice-protocol-items.ensures (item_among c.as_slice-protocol-items.result.now c.loop-protocol.protocol-index c.protocol-item.result c.loop-protocol-test.true c.protocol-item.is))
 
 pub returns-in-Err-clause-refused : goal.returns-in-Err-clause-refused
 returns-in-Err-clause-refused c = first_refusal c.args.file.now.protocols c.as_slice-protocol-items.result.now c.loop-protocol.protocol-index c.protocol-item.result c.in-Err.denied c.as_slice-protocol-items.ensures c.loop-protocol-test.true c.protocol-item.is c.loop-protocol.invariant c.in-Err.ensures.refused

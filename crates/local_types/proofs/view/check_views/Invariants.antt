@@ -1,5 +1,5 @@
 use Rattle.std.proofs.Common.{take}
-use Rattle.chor_tree.specs.declared.protocol.Protocol.{Protocol}
+use Rattle.chor_tree.specs.Protocols.{Protocol}
 use Rattle.global_types.specs.Moves.{IsIn}
 use Rattle.local_types.specs.Reading.{HasFineRoles}
 use Rattle.local_types.proofs.view.check_views.Given as goal

@@ -1,4 +1,4 @@
-use Rattle.std.proofs.Common.{ℕ, List, ◌≡◌, sym, refl, subst, length}
+use Rattle.std.proofs.Common.{ℕ, List, ◌≡◌, ◌∙◌, ap, sym, refl, subst, length}
 use Rattle.std.specs.Prelude.{Vec}
 use Rattle.std.specs.declared.alloc.Global.{Global}
 use Rattle.chor_base.specs.declared.names.NameId.{NameId}
@@ -6,7 +6,7 @@ use Rattle.chor_base.specs.declared.rule.Rule.{Rule}
 use Rattle.chor_base.specs.declared.rule.Rule.TheVariants.{V1, V2}
 use Rattle.chor_base.specs.declared.rule.Denied.{Denied}
 use Rattle.chor_base.specs.declared.rule.Denied.TheVariants.{Refused, Memory}
-use Rattle.chor_tree.specs.declared.protocol.Protocol.{Protocol}
+use Rattle.chor_tree.specs.Protocols.{Protocol}
 use Rattle.chor_tree.specs.declared.protocol.State.{State}
 use Rattle.global_types.specs.Views.{NamesAt, IsViewFault}
 use Rattle.local_types.specs.Reading.{IsRefusal, IsRefusalBy}
@@ -16,7 +16,7 @@ use Rattle.local_types.specs.Table.{HasAscendingArms, IsWhole, Circles, ApartAt}
 use Rattle.local_types.proofs.Verdicts.{few_sets, left_behind, not_left, torn, not_torn}
 use Rattle.local_types.proofs.Kin.{rows_kin}
 use Rattle.local_types.proofs.Counts.{breadth_first}
-use Rattle.local_types.proofs.Readings.{type_of, labels_ascend}
+use Rattle.local_types.proofs.Readings.{type_of, labels_ascend, labels_distinct}
 use Rattle.local_types.proofs.view.judged.Goals as goal
 
 refusal_by : (rule : Rule) (p : Protocol) (r : NameId) (d : Denied) → IsRefusalBy rule p r d → IsViewFault p.states r rule → IsRefusal p r d
@@ -37,7 +37,7 @@ returns-then-leaves_behind-clause-refused c =
     let rows = c.as_slice-rows.result.now in
     let whole = subst (λ l. IsWhole ss r n l) (sym c.as_slice-rows.ensures.value) c.requires.whole in
     let circling = subst (λ m. IsSetFor n (Circles ss r) m) (sym c.as_slice.ensures.value) c.requires.circling in
-    let names = named_handed ss c.as_slice-states.result.now r c.in_ok-named.named.items c.as_slice-2.result.now c.as_slice-states.ensures c.as_slice-2.ensures.value c.in_ok-named.ensures in
+    let names = named_handed ss c.as_slice-states.result.now r c.in_ok-named.named.items c.as_slice-2.result.now (c.as_slice-states.ensures ∙ ap (λ p. p.states) c.protocol.view_is) c.as_slice-2.ensures.value c.in_ok-named.ensures in
     refusal_by V2 c.args.protocol.now r c.refused.result c.refused.ensures (few_sets ss r n rows whole, left_behind ss r n rows c.as_slice.result.now c.as_slice-2.result.now whole circling names c.if-leaves_behind.ensures)
 
 pub returns-then-clashes-clause-refused : goal.returns-then-clashes-clause-refused
@@ -48,8 +48,8 @@ returns-then-clashes-clause-refused c =
     let rows = c.as_slice-rows.result.now in
     let whole = subst (λ l. IsWhole ss r n l) (sym c.as_slice-rows.ensures.value) c.requires.whole in
     let circling = subst (λ m. IsSetFor n (Circles ss r) m) (sym c.as_slice.ensures.value) c.requires.circling in
-    let names = named_handed ss c.as_slice-states.result.now r c.in_ok-named.named.items c.as_slice-2.result.now c.as_slice-states.ensures c.as_slice-2.ensures.value c.in_ok-named.ensures in
-    let apart = apart_handed ss c.as_slice-states.result.now r c.in_ok-apart.apart.items c.as_slice-3.result.now c.as_slice-states.ensures c.as_slice-3.ensures.value c.in_ok-apart.ensures in
+    let names = named_handed ss c.as_slice-states.result.now r c.in_ok-named.named.items c.as_slice-2.result.now (c.as_slice-states.ensures ∙ ap (λ p. p.states) c.protocol.view_is) c.as_slice-2.ensures.value c.in_ok-named.ensures in
+    let apart = apart_handed ss c.as_slice-states.result.now r c.in_ok-apart.apart.items c.as_slice-3.result.now (c.as_slice-states.ensures ∙ ap (λ p. p.states) c.protocol.view_is) c.as_slice-3.ensures.value c.in_ok-apart.ensures in
     refusal_by V1 c.args.protocol.now r c.refused-then-clashes.result c.refused-then-clashes.ensures
     (few_sets ss r n rows whole, not_left ss r n rows c.as_slice.result.now c.as_slice-2.result.now whole circling names c.if-leaves_behind.ensures, torn ss r n rows c.as_slice-3.result.now whole apart c.if-clashes.ensures)
 
@@ -61,8 +61,8 @@ returns-clause-fine c =
     let rows = c.as_slice-rows.result.now in
     let whole = subst (λ l. IsWhole ss r n l) (sym c.as_slice-rows.ensures.value) c.requires.whole in
     let circling = subst (λ m. IsSetFor n (Circles ss r) m) (sym c.as_slice.ensures.value) c.requires.circling in
-    let names = named_handed ss c.as_slice-states.result.now r c.in_ok-named.named.items c.as_slice-2.result.now c.as_slice-states.ensures c.as_slice-2.ensures.value c.in_ok-named.ensures in
-    let apart = apart_handed ss c.as_slice-states.result.now r c.in_ok-apart.apart.items c.as_slice-3.result.now c.as_slice-states.ensures c.as_slice-3.ensures.value c.in_ok-apart.ensures in
+    let names = named_handed ss c.as_slice-states.result.now r c.in_ok-named.named.items c.as_slice-2.result.now (c.as_slice-states.ensures ∙ ap (λ p. p.states) c.protocol.view_is) c.as_slice-2.ensures.value c.in_ok-named.ensures in
+    let apart = apart_handed ss c.as_slice-states.result.now r c.in_ok-apart.apart.items c.as_slice-3.result.now (c.as_slice-states.ensures ∙ ap (λ p. p.states) c.protocol.view_is) c.as_slice-3.ensures.value c.in_ok-apart.ensures in
     record {
       few = few_sets ss r n rows whole;
       kept = not_left ss r n rows c.as_slice.result.now c.as_slice-2.result.now whole circling names c.if-leaves_behind.ensures;
@@ -76,7 +76,7 @@ states_of-requires c =
     let n = length ss in
     let rows = c.as_slice-rows.result.now in
     let whole = subst (λ l. IsWhole ss r n l) (sym c.as_slice-rows.ensures.value) c.requires.whole in
-    let apart = apart_handed ss c.as_slice-states.result.now r c.in_ok-apart.apart.items c.as_slice-3.result.now c.as_slice-states.ensures c.as_slice-3.ensures.value c.in_ok-apart.ensures in
+    let apart = apart_handed ss c.as_slice-states.result.now r c.in_ok-apart.apart.items c.as_slice-3.result.now (c.as_slice-states.ensures ∙ ap (λ p. p.states) c.protocol.view_is) c.as_slice-3.ensures.value c.in_ok-apart.ensures in
     rows_kin ss r n rows whole (not_torn ss r n rows c.as_slice-3.result.now whole apart refl c.if-clashes.ensures)
 
 pub returns-clause-stands : goal.returns-clause-stands
@@ -94,6 +94,13 @@ returns-clause-numbered c =
     let rows = c.as_slice-rows.result.now in
     let whole = subst (λ l. IsWhole ss c.args.role (length ss) l) (sym c.as_slice-rows.ensures.value) c.requires.whole in
     breadth_first (length whole.sets) rows c.in_ok-states_of.field-0 c.in_ok-states_of.ensures whole.numbered
+
+pub returns-clause-distinct : goal.returns-clause-distinct
+returns-clause-distinct c =
+    let ss = c.args.protocol.now.states in
+    let rows = c.as_slice-rows.result.now in
+    let whole = subst (λ l. IsWhole ss c.args.role (length ss) l) (sym c.as_slice-rows.ensures.value) c.requires.whole in
+    labels_distinct ss c.args.role (length ss) rows c.in_ok-states_of.field-0 whole c.in_ok-states_of.ensures
 
 pub returns-clause-ascend : goal.returns-clause-ascend
 returns-clause-ascend c = λ names up.

@@ -1,5 +1,5 @@
 use Rattle.chor_tree.specs.Names.{unknown_process}
-use Rattle.name_resolution.proofs.Firsts.{turn_at}
+use Rattle.chor_base.proofs.Faults.{turn_at}
 use Rattle.name_resolution.proofs.lists.unknown_processes.Goals as goal
 
 pub loop-process-preserved : goal.loop-process-preserved

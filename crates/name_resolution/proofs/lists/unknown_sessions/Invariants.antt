@@ -1,7 +1,7 @@
 use Rattle.std.proofs.Common.{◌≡◌, drop}
 use Rattle.std.specs.List.{flat_map}
 use Rattle.chor_tree.specs.Names.{unknown_session}
-use Rattle.name_resolution.specs.First.{earlier, first_of_all}
+use Rattle.chor_base.specs.Faults.{earlier, first_of_all}
 use Rattle.name_resolution.proofs.lists.unknown_sessions.Given as goal
 
 abbrev pub invariant-loop-session : goal.invariant-loop-session

@@ -1,7 +1,7 @@
 use Rattle.std.proofs.Common.{◌++◌, map}
 use Rattle.std.specs.Prelude.{option_copied}
 use Rattle.chor_tree.specs.Names.{unknown, unknown_role}
-use Rattle.name_resolution.proofs.Firsts.{turn_at}
+use Rattle.chor_base.proofs.Faults.{turn_at}
 use Rattle.name_resolution.proofs.procedures.first_in_holders.Goals as goal
 
 pub loop-holder-preserved : goal.loop-holder-preserved

@@ -1,6 +1,6 @@
 use Rattle.std.proofs.Common.{map, []}
 use Rattle.chor_tree.specs.Names.{repeated}
-use Rattle.name_resolution.proofs.Firsts.{turn_from}
+use Rattle.chor_base.proofs.Faults.{turn_from}
 use Rattle.name_resolution.proofs.procedures.first_in_variables.Goals as goal
 
 pub loop-param-preserved : goal.loop-param-preserved

@@ -1,7 +1,7 @@
 use Rattle.std.proofs.Common.{◌≡◌, drop, map, []}
 use Rattle.std.specs.List.{flat_map}
 use Rattle.chor_tree.specs.Names.{repeated}
-use Rattle.name_resolution.specs.First.{earlier, first_of_all}
+use Rattle.chor_base.specs.Faults.{earlier, first_of_all}
 use Rattle.name_resolution.proofs.procedures.first_in_variables.Given as goal
 
 abbrev pub invariant-loop-param : goal.invariant-loop-param

@@ -1,9 +1,9 @@
 use Rattle.std.proofs.Common.{ap, ◌∙◌, sym, subst, map, [], ◌++◌}
 use Rattle.chor_tree.specs.Names.{is_among, names_in, repeated}
-use Rattle.name_resolution.specs.First.{first_of_all}
+use Rattle.chor_base.specs.Faults.{first_of_all}
 use Rattle.name_resolution.specs.Places.{names_of}
 use Rattle.name_resolution.specs.Sets.{AreAlike}
-use Rattle.name_resolution.proofs.Firsts.{first_of_two}
+use Rattle.chor_base.proofs.Faults.{first_of_two}
 use Rattle.name_resolution.proofs.Repeats.{repeated_append, names_in_map}
 use Rattle.name_resolution.proofs.procedures.repeated_parameters.Goals as goal
 

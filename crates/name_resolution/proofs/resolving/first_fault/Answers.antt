@@ -2,7 +2,7 @@ use Rattle.std.proofs.Common.{sym, ap, ◌∙◌, subst}
 use Rattle.chor_host.specs.Functions.{names_of}
 use Rattle.chor_host.specs.Tables.{functions_of}
 use Rattle.chor_tree.specs.Names.{IsNameFault}
-use Rattle.name_resolution.specs.First.{earlier, IsFirst}
+use Rattle.chor_base.specs.Faults.{earlier, IsFirst}
 use Rattle.name_resolution.proofs.Walks.{file_first}
 use Rattle.name_resolution.proofs.resolving.first_fault.Goals as goal
 

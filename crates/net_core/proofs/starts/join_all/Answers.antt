@@ -1,10 +1,7 @@
-use Rattle.std.proofs.Common.{map}
+use Rattle.std.proofs.Common.{◌∙◌, map}
 use Rattle.net_core.specs.Machines.{standing_of}
 use Rattle.net_core.proofs.Joins.{to_join_more, to_join_here, to_join_all}
 use Rattle.net_core.proofs.starts.join_all.Goals as goal
-
-pub loop-part-init : goal.loop-part-init
-loop-part-init c = record { left = record { joins = c.requires.joins; room = c.requires.room; apart = c.requires.apart; goes = λ last j. j }; bound = c.requires.bound }
 
 pub loop-part-preserved : goal.loop-part-preserved
 loop-part-preserved c = record {
@@ -12,6 +9,7 @@ loop-part-preserved c = record {
       to_join_more c.args.endpoints.now c.args.channel c.args.sid (map standing_of c.args.machines.now) c.args.parts.now c.loop-part.machines c.join_one.new.machines c.loop-part.part-index
       (record { 0 = 0 }, 0) c.loop-part-test.true c.loop-part.invariant.left c.join_one.ensures.put;
   bound = c.join_one.ensures.bound;
+  numbers = c.join_one.ensures.numbers ∙ c.loop-part.invariant.numbers;
 }
 
 pub join_one-requires-clause-joins : goal.join_one-requires-clause-joins

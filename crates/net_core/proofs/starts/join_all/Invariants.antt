@@ -1,7 +1,8 @@
-use Rattle.std.proofs.Common.{drop, map}
+use Rattle.std.proofs.Common.{◌≡◌, drop, map}
 use Rattle.std.specs.Prelude.{All}
+use Rattle.endpoint_machine.specs.Bound.{IsBound}
 use Rattle.net_core.specs.Machines.{standing_of}
-use Rattle.net_core.specs.Bound.{IsBound}
+use Rattle.net_core.specs.Views.{number_of}
 use Rattle.net_core.proofs.Joins.{ToJoin}
 use Rattle.net_core.proofs.starts.join_all.Given as goal
 
@@ -9,4 +10,5 @@ abbrev pub invariant-loop-part : goal.invariant-loop-part
 invariant-loop-part l = record {
   left : ToJoin l.endpoints l.channel l.sid (map standing_of l.fn.machines) l.parts l.machines (drop l.part-index l.parts);
   bound : All (IsBound l.endpoints) (map standing_of l.machines);
+  numbers : map number_of l.machines ≡ map number_of l.fn.machines;
 }

@@ -1,8 +1,44 @@
-use Rattle.std.proofs.Common.{◌≡◌, ◌≤◌, ◌<◌, ◌∙◌, ap, sym, subst, get_or, length, ℕ, arith}
-use Rattle.endpoint_code.specs.Network.{Machine, Sessions}
-use Rattle.net_core.specs.declared.machine.Runner.{Runner}
-use Rattle.net_core.proofs.Joins.{standing_put, room_stays_put, room_taken, room_here}
+use Rattle.std.proofs.Common.{◌≡◌, ◌<◌, ◌∙◌, sym, subst, get_or, length, ℕ, arith, true, List}
+use Rattle.std.specs.Prelude.{All}
+use Rattle.std.proofs.lemmas.List.{take_all}
+use Rattle.chor_base.specs.declared.names.NameId.{NameId}
+use Rattle.endpoint_machine.specs.Bound.{IsBound}
+use Rattle.net_core.specs.Machines.{standing_of}
+use Rattle.net_core.specs.Views.{number_of}
+use Rattle.net_core.specs.Starts.{reserved_in}
+use Rattle.net_core.proofs.Rooms.{reserved_is, is_room}
+use Rattle.net_core.proofs.Joins.{mapped_get, bound_here, reserved_put, reserved_stays, room_taken}
 use Rattle.net_core.proofs.starts.reserve_sessions.Goals as goal
+
+pub reserve-requires-clause-bound : goal.reserve-requires-clause-bound
+reserve-requires-clause-bound c =
+    let i = c.loop-part.part-index in
+    let parts = c.args.parts.now in
+    let ms = c.loop-part.machines in
+    let q = get_or parts i (record { 0 = 0 }, 0) in
+    let d = c.index-machines-part.result in
+    let within : q.1 < length ms = (let a : q.1 < length c.args.machines.now = c.requires.within i (record { 0 = 0 }, 0) c.loop-part-test.true in let b : length ms ≡ length c.args.machines.now = c.loop-part.auto.machines in omega arith) in
+    bound_here c.args.endpoints.now ms q.1 d (subst (All (IsBound c.args.endpoints.now)) (sym c.loop-part.invariant.standing) c.requires.bound) within
+
+pub returns-in_err-reserve-clause-standing : goal.returns-in_err-reserve-clause-standing
+returns-in_err-reserve-clause-standing c =
+    let i = c.loop-part.part-index in
+    let parts = c.args.parts.now in
+    let ms = c.loop-part.machines in
+    let q = get_or parts i (record { 0 = 0 }, 0) in
+    let d = c.index-machines-part.result in
+    let within : q.1 < length ms = (let a : q.1 < length c.args.machines.now = c.requires.within i (record { 0 = 0 }, 0) c.loop-part-test.true in let b : length ms ≡ length c.args.machines.now = c.loop-part.auto.machines in omega arith) in
+    mapped_get standing_of ms q.1 d c.reserve.new.self within c.reserve.ensures.machine ∙ c.loop-part.invariant.standing
+
+pub returns-in_err-reserve-clause-numbers : goal.returns-in_err-reserve-clause-numbers
+returns-in_err-reserve-clause-numbers c =
+    let i = c.loop-part.part-index in
+    let parts = c.args.parts.now in
+    let ms = c.loop-part.machines in
+    let q = get_or parts i (record { 0 = 0 }, 0) in
+    let d = c.index-machines-part.result in
+    let within : q.1 < length ms = (let a : q.1 < length c.args.machines.now = c.requires.within i (record { 0 = 0 }, 0) c.loop-part-test.true in let b : length ms ≡ length c.args.machines.now = c.loop-part.auto.machines in omega arith) in
+    mapped_get number_of ms q.1 d c.reserve.new.self within c.reserve.ensures.number ∙ c.loop-part.invariant.numbers
 
 pub loop-part-preserved : goal.loop-part-preserved
 loop-part-preserved c =
@@ -11,22 +47,17 @@ loop-part-preserved c =
     let ms = c.loop-part.machines in
     let q = get_or parts i (record { 0 = 0 }, 0) in
     let d = c.index-machines-part.result in
-    let n : Runner = record { at = (get_or ms q.1 d).at; vars = (get_or ms q.1 d).vars; sessions = c.reserve.new.self } in
-    let within : q.1 < length ms = (let a : q.1 < length c.args.machines.now = c.requires i (record { 0 = 0 }, 0) c.loop-part-test.true in let b : length ms ≡ length c.args.machines.now = c.loop-part.auto.machines in omega arith) in
+    let within : q.1 < length ms = (let a : q.1 < length c.args.machines.now = c.requires.within i (record { 0 = 0 }, 0) c.loop-part-test.true in let b : length ms ≡ length c.args.machines.now = c.loop-part.auto.machines in omega arith) in
+    let e = c.args.endpoints.now in
     record {
-      standing = standing_put ms q.1 d n within (ap (λ (m : Sessions). let t : Machine = record { at = (get_or ms q.1 d).at; vars = (get_or ms q.1 d).vars.map; sessions = m } in t) c.reserve.ensures.map) ∙ c.loop-part.invariant.standing;
+      standing = mapped_get standing_of ms q.1 d c.reserve.new.self within c.reserve.ensures.machine ∙ c.loop-part.invariant.standing;
+      numbers = mapped_get number_of ms q.1 d c.reserve.new.self within c.reserve.ensures.number ∙ c.loop-part.invariant.numbers;
       room =
-          room_taken ms _ parts i (record { 0 = 0 }, 0) c.loop-part-test.true (λ p. room_stays_put ms q.1 d n p within c.reserve.ensures.kept)
-          (subst (λ (k : ℕ). 1 ≤ k) (sym (room_here ms q.1 n within)) c.in_ok-reserve.ensures.ok)
+          room_taken e ms _ parts i (record { 0 = 0 }, 0) c.loop-part-test.true
+          (λ p. reserved_stays e ms q.1 d c.reserve.new.self p within (λ r. is_room e c.reserve.new.self (c.reserve.ensures.kept (reserved_is e (get_or ms q.1 d) r))))
+          (reserved_put e ms q.1 c.reserve.new.self within (is_room e c.reserve.new.self c.in_ok-reserve.ensures.ok))
           c.loop-part.invariant.room;
     }
 
-pub returns-in_err-reserve-clause-standing : goal.returns-in_err-reserve-clause-standing
-returns-in_err-reserve-clause-standing c =
-    let i = c.loop-part.part-index in
-    let ms = c.loop-part.machines in
-    let q = get_or c.args.parts.now i (record { 0 = 0 }, 0) in
-    let d = c.index-machines-part.result in
-    let n : Runner = record { at = (get_or ms q.1 d).at; vars = (get_or ms q.1 d).vars; sessions = c.reserve.new.self } in
-    let within : q.1 < length ms = (let a : q.1 < length c.args.machines.now = c.requires i (record { 0 = 0 }, 0) c.loop-part-test.true in let b : length ms ≡ length c.args.machines.now = c.loop-part.auto.machines in omega arith) in
-    standing_put ms q.1 d n within (ap (λ (m : Sessions). let t : Machine = record { at = (get_or ms q.1 d).at; vars = (get_or ms q.1 d).vars.map; sessions = m } in t) c.reserve.ensures.map) ∙ c.loop-part.invariant.standing
+pub returns-clause-ok : goal.returns-clause-ok
+returns-clause-ok c = subst (λ (l : List (NameId × ℕ)). All (λ q. reserved_in c.args.endpoints.now c.loop-part.machines q.1 ≡ true) l) (take_all c.loop-part.part-index c.args.parts.now c.loop-part-test.false) c.loop-part.invariant.room

@@ -36,7 +36,7 @@ pub returns-clause-service : goal.returns-clause-service
 returns-clause-service c = the_service
 
 pub returns-clause-whole : goal.returns-clause-whole
-returns-clause-whole c tree kept code inside = record {
+returns-clause-whole c tree kept code inside numbered = record {
   names = refl;
   texts = refl;
   channels = refl;

@@ -1,35 +1,49 @@
-use Rattle.std.proofs.Common.{arith, ◌≡◌, sym, ◌∙◌, Bool, true, false}
-use Rattle.endpoint_code.specs.Trees.{trees_of}
-use Rattle.endpoint_code.proofs.Decides.{no_arms, some_arms, above_none, above_more, in_none, in_rest, in_first, not_first, differs, by_next, by_arms, by_branches, by_head, is_branch, is_if, branch_smaller, branch_inside, name_same, name_apart}
+use Rattle.std.proofs.Common.{refl, arith, ◌≡◌, sym, ◌∙◌, Bool, true, false}
+use Rattle.chor_base.specs.declared.names.NameId.{NameId}
+use Rattle.endpoint_code.specs.declared.code.CodeId.{CodeId}
+use Rattle.endpoint_code.specs.Above.{no_arm}
+use Rattle.endpoint_code.specs.Trees.{trees_of, arms_in, code_at}
+use Rattle.endpoint_code.proofs.Decides.{arm_smaller, has_at, none_next, above_here, above_next, differs, by_next, by_arms, by_branches, by_head, is_branch, is_if, branch_smaller, branch_inside}
 use Rattle.endpoint_code.proofs.code.Code.+above.Goals.{follow_above-in_default-via-in-Branch+in_default, follow_above-in_default-via-in-If+in_default, follow_above-in_default-via-in_default}
 use Rattle.endpoint_code.proofs.code.Code.+above.Goals as goal
 
 not_true : {r : Bool} → r ≡ false → r ≡ true → ⊥
 not_true f t = cc
 
-pub are_above-returns-in-empty : goal.are_above-returns-in-empty
-are_above-returns-in-empty t c = above_none _ (no_arms (trees_of c.args.self.now.nodes) c.args.ps.now c.in-empty.len_below)
+abbrev none : NameId × CodeId
+none = (record { 0 = 0 }, record { 0 = 0 })
 
-pub are_above-returns-then-has_above : goal.are_above-returns-then-has_above
-are_above-returns-then-has_above t c =
-    above_more _ (some_arms (trees_of c.args.self.now.nodes) c.args.ps.now _ c.in-len1-up.len_at_least) (c.has_above.ensures.0 c.if-has_above.true) c.are_above.ensures
+pub are_above-loop-arm-init : goal.are_above-loop-arm-init
+are_above-loop-arm-init t c = no_arm
 
-pub has_above-returns-in-empty : goal.has_above-returns-in-empty
-has_above-returns-in-empty t c = in_none _ _ (no_arms (trees_of c.args.self.now.nodes) c.args.qs.now c.in-empty.len_below)
+pub are_above-has_above-requires : goal.are_above-has_above-requires
+are_above-has_above-requires t c =
+    let smaller = arm_smaller (trees_of c.args.self.now.nodes) c.args.ps.now c.loop-arm.arm-index none c.loop-arm-test.true in
+    (omega arith, (c.requires.qs, c.requires.ps c.loop-arm.arm-index none c.loop-arm-test.true))
 
-pub has_above-returns-then-has_above : goal.has_above-returns-then-has_above
-has_above-returns-then-has_above t c =
-    in_rest _ _ (some_arms (trees_of c.args.self.now.nodes) c.args.qs.now (record { 0 = 0 }, record { 0 = 0 }) c.in-len1-up.len_at_least) c.if-has_above.true (c.has_above.ensures.0 c.if-has_above.true)
+pub are_above-returns-then-not-has_above : goal.are_above-returns-then-not-has_above
+are_above-returns-then-not-has_above t c =
+    let ts = trees_of c.args.self.now.nodes in
+    ((λ f. absurd cc), (λ a. absurd (not_true c.if-not-has_above.true (c.has_above.ensures.1 (above_here ts (arms_in ts c.args.qs.now) c.args.ps.now c.loop-arm.arm-index none c.loop-arm-test.true a)))))
 
-pub has_above-returns-then-eq : goal.has_above-returns-then-eq
-has_above-returns-then-eq t c =
-    in_first _ _ (some_arms (trees_of c.args.self.now.nodes) c.args.qs.now _ c.in-len1-up.len_at_least)
-    (name_same _ _ c.eq.ensures c.if-eq.true) (λ h. not_true c.if-has_above.false (c.has_above.ensures.1 h)) c.is_above.ensures
+pub are_above-loop-arm-preserved : goal.are_above-loop-arm-preserved
+are_above-loop-arm-preserved t c =
+    let ts = trees_of c.args.self.now.nodes in
+    above_next ts (arms_in ts c.args.qs.now) c.args.ps.now c.loop-arm.arm-index none c.loop-arm-test.true c.loop-arm.invariant (c.has_above.ensures.0 c.if-not-has_above.false)
 
-pub has_above-returns-else-eq : goal.has_above-returns-else-eq
-has_above-returns-else-eq t c =
-    not_first _ _ (some_arms (trees_of c.args.self.now.nodes) c.args.qs.now _ c.in-len1-up.len_at_least) c.if-eq.false
-    (name_apart _ _ c.eq.ensures c.if-eq.false) (λ h. not_true c.if-has_above.false (c.has_above.ensures.1 h))
+pub has_above-is_arm_above-requires : goal.has_above-is_arm_above-requires
+has_above-is_arm_above-requires t c =
+    let smaller = arm_smaller (trees_of c.args.self.now.nodes) c.args.qs.now c.loop-arm.arm-index none c.loop-arm-test.true in
+    (omega arith, (c.requires.qs c.loop-arm.arm-index none c.loop-arm-test.true, c.requires.p))
+
+pub has_above-returns-then-is_arm_above : goal.has_above-returns-then-is_arm_above
+has_above-returns-then-is_arm_above t c =
+    ((λ f. has_at (trees_of c.args.self.now.nodes) c.args.label (code_at c.args.self.now.nodes c.args.p) c.args.qs.now c.loop-arm.arm-index none c.loop-arm-test.true (c.is_arm_above.ensures.0 c.if-is_arm_above.true)), (λ a. refl))
+
+pub has_above-loop-arm-preserved : goal.has_above-loop-arm-preserved
+has_above-loop-arm-preserved t c =
+    none_next (trees_of c.args.self.now.nodes) c.args.label (code_at c.args.self.now.nodes c.args.p) c.args.qs.now c.loop-arm.arm-index none c.loop-arm-test.true c.loop-arm.invariant
+    (λ a. not_true c.if-is_arm_above.false (c.is_arm_above.ensures.1 a))
 
 pub follow_above-are_above-requires : goal.follow_above-are_above-requires
 follow_above-are_above-requires t c =

@@ -1,7 +1,7 @@
 use Rattle.std.proofs.Common.{ap, ◌∙◌}
 use Rattle.chor_tree.specs.Names.{unknown, protocols_of, protocol_of, wrong_roles}
-use Rattle.name_resolution.specs.First.{first_of_all}
-use Rattle.name_resolution.proofs.Firsts.{first_of_two}
+use Rattle.chor_base.specs.Faults.{first_of_all}
+use Rattle.chor_base.proofs.Faults.{first_of_two}
 use Rattle.name_resolution.proofs.declared.Declared.first_in_channel.Goals as goal
 
 pub returns : goal.returns

@@ -1,5 +1,5 @@
 use Rattle.chor_tree.specs.Names.{channel_faults}
-use Rattle.name_resolution.proofs.Firsts.{turn_from}
+use Rattle.chor_base.proofs.Faults.{turn_from}
 use Rattle.name_resolution.proofs.declared.Declared.first_in_channels.Goals as goal
 
 pub loop-service-preserved : goal.loop-service-preserved

@@ -1,6 +1,6 @@
 use Rattle.chor_host.specs.Functions.{names_of}
 use Rattle.chor_host.specs.Tables.{functions_of}
-use Rattle.name_resolution.specs.Refusal.{IsFaultInProcedures}
+use Rattle.name_resolution.specs.InProcedures.{IsFaultInProcedures}
 use Rattle.name_resolution.proofs.Walks.{procedures_turn, procedures_end}
 use Rattle.name_resolution.proofs.declared.Declared.first_in_procedure_bodies.Goals as goal
 

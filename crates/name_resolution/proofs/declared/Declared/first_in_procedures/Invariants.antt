@@ -1,7 +1,7 @@
 use Rattle.std.proofs.Common.{◌≡◌, drop}
 use Rattle.std.specs.List.{flat_map}
 use Rattle.chor_tree.specs.Names.{procedure_faults}
-use Rattle.name_resolution.specs.First.{earlier, first_of_all}
+use Rattle.chor_base.specs.Faults.{earlier, first_of_all}
 use Rattle.name_resolution.proofs.declared.Declared.first_in_procedures.Given as goal
 
 abbrev pub invariant-loop-procedure : goal.invariant-loop-procedure

@@ -1,5 +1,5 @@
 use Rattle.chor_tree.specs.Names.{protocol_faults}
-use Rattle.name_resolution.proofs.Firsts.{turn_from}
+use Rattle.chor_base.proofs.Faults.{turn_from}
 use Rattle.name_resolution.proofs.declared.Declared.first_in_protocols.Goals as goal
 
 pub loop-protocol-preserved : goal.loop-protocol-preserved

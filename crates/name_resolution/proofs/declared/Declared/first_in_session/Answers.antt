@@ -1,8 +1,8 @@
 use Rattle.std.proofs.Common.{ap, ◌∙◌, map, [], ◌++◌}
 use Rattle.std.specs.List.{flat_map}
 use Rattle.chor_tree.specs.Names.{repeated, unknown, unknown_role, named_as_channel, protocols_of, protocol_of}
-use Rattle.name_resolution.specs.First.{first_of_all}
-use Rattle.name_resolution.proofs.Firsts.{first_of_two}
+use Rattle.chor_base.specs.Faults.{first_of_all}
+use Rattle.chor_base.proofs.Faults.{first_of_two}
 use Rattle.name_resolution.proofs.declared.Declared.first_in_session.Goals as goal
 
 pub returns : goal.returns

@@ -1,6 +1,6 @@
 use Rattle.std.proofs.Common.{map}
 use Rattle.chor_tree.specs.Names.{session_faults}
-use Rattle.name_resolution.proofs.Firsts.{turn_from}
+use Rattle.chor_base.proofs.Faults.{turn_from}
 use Rattle.name_resolution.proofs.declared.Declared.first_in_sessions.Goals as goal
 
 pub loop-session-preserved : goal.loop-session-preserved

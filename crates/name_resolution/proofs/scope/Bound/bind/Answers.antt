@@ -1,8 +1,8 @@
 use Rattle.std.proofs.Common.{ap, ◌∙◌, map, ◌∷◌, ◌++◌}
 use Rattle.chor_base.specs.declared.rule.Rule.TheVariants.{N2}
-use Rattle.chor_tree.specs.Names.{repeated, fault_if, is_among}
-use Rattle.name_resolution.specs.First.{first_of_all}
-use Rattle.name_resolution.proofs.Firsts.{first_of_two}
+use Rattle.chor_tree.specs.Names.{repeated, fault_at, is_among}
+use Rattle.chor_base.specs.Faults.{first_of_all}
+use Rattle.chor_base.proofs.Faults.{first_of_two}
 use Rattle.name_resolution.proofs.Repeats.{repeated_alike, alike_second}
 use Rattle.name_resolution.proofs.scope.Bound.bind.Goals as goal
 
@@ -11,5 +11,5 @@ returns-clause-fault c =
     let s = c.args.self.now in
     let k = c.args.session.now in
     let qs = map (λ q. q.process) c.args.serve.now in
-    first_of_two (fault_if (is_among (s.processes ++ s.sessions) k.name) N2 k) (repeated (k.name ∷ (s.processes ++ s.sessions)) qs) _ _ _ c.earlier.ensures c.twice-first.ensures
+    first_of_two (fault_at (is_among (s.processes ++ s.sessions) k.name) N2 k) (repeated (k.name ∷ (s.processes ++ s.sessions)) qs) _ _ _ c.earlier.ensures c.twice-first.ensures
     (c.in_ok-rest.ensures.fault ∙ ap first_of_all (repeated_alike _ _ qs (alike_second s _ _ k.name c.self.view_is c.in_ok-add.ensures.names)))

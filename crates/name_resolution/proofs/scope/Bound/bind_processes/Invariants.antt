@@ -1,6 +1,6 @@
 use Rattle.std.proofs.Common.{◌≡◌, ◌++◌, map, drop}
 use Rattle.chor_tree.specs.Names.{repeated}
-use Rattle.name_resolution.specs.First.{earlier, first_of_all}
+use Rattle.chor_base.specs.Faults.{earlier, first_of_all}
 use Rattle.name_resolution.specs.Places.{names_of}
 use Rattle.name_resolution.specs.Sets.{AreAlike, Grows}
 use Rattle.name_resolution.proofs.scope.Bound.bind_processes.Given as goal

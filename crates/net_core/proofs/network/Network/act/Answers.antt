@@ -1,37 +1,65 @@
-use Rattle.std.proofs.Common.{sym, subst, refl, ◌≡◌, true, false}
+use Rattle.std.proofs.Common.{◌≡◌, ◌-◌, sym, subst, refl, true, false, Some, arith}
+use Rattle.std.specs.Prelude.{slice_get, vec_len, vec_capacity}
 use Rattle.net_core.specs.Heads.{steps_at, joins_at_all}
 use Rattle.net_core.specs.Views.{NetworkView}
-use Rattle.net_core.proofs.Fields.{within, stands_in, stepped, grown_put}
-use Rattle.net_core.proofs.Acts.{goes_freely, sound_after, alone_chooses, acts_by_itself}
+use Rattle.net_core.proofs.Fields.{within, shows_in, stepped, grown_put}
+use Rattle.net_core.proofs.Scopes.{bound_at}
+use Rattle.net_core.proofs.Rooms.{room_known, reserved_room, reserved_first}
+use Rattle.net_core.proofs.Alone.{head_there, hostless_there, acts_freely, sound_after, alone_chooses}
 use Rattle.net_core.proofs.network.Network.act.Goals as goal
 
-pub act-event-requires-clause-goes : goal.act-event-requires-clause-goes
-act-event-requires-clause-goes c =
+pub act-event-requires : goal.act-event-requires
+act-event-requires c =
     let i = c.self.inside in
     let p = c.args.pid in
-    goes_freely i.endpoints.now i.machines.items i.queues i.sid p c.index_mut-machine.result.now c.node-node.result.now
-    (stands_in i.machines.items i.queues c.self.view_is p _ c.node-node.ensures) (within i.machines.items i.queues c.self.view_is p c.requires.there) c.index_mut-machine.ensures.value
-    (subst (λ (v : NetworkView). steps_at v.endpoints v.state p ≡ true) (sym c.self.view_is) c.requires.steps)
-    (subst (λ (v : NetworkView). joins_at_all v.endpoints v.state p ≡ false) (sym c.self.view_is) c.requires.alone)
+    let e = i.endpoints.now in
+    let m = c.index_mut-machine.result.now in
+    let in_it = within i.machines.items i.queues c.self.view_is p c.requires.there in
+    let here = c.index_mut-machine.ensures.value in
+    let t = shows_in i.machines.items i.queues c.self.view_is p c.head-head.result c.head-head.ensures in
+    let shown = head_there e i.machines.items i.queues i.sid p m c.head-head.result t in_it here in
+    let k = vec_capacity i.history - vec_len i.history in
+    let room = room_known e k i.queues m c.head-head.result shown
+    (reserved_room e k i.queues i.machines.items p m in_it here (subst (λ (v : NetworkView). slice_get v.reserved p ≡ Some true) (sym c.self.view_is) c.requires.room)) in
+    record {
+      faultless = c.self.invariant.faultless;
+      bound = bound_at e i.machines.items p m c.self.invariant in_it here;
+      hostless = hostless_there e i.machines.items i.queues i.sid p m c.head-head.result t in_it here;
+      head = shown;
+      room = room.1;
+      queue = room.2;
+      goes =
+          acts_freely e i.machines.items i.queues i.sid p m c.head-head.result t in_it here
+          (subst (λ (v : NetworkView). steps_at v.endpoints v.state p ≡ true) (sym c.self.view_is) c.requires.steps)
+          (subst (λ (v : NetworkView). joins_at_all v.endpoints v.state p ≡ false) (sym c.self.view_is) c.requires.alone);
+    }
+
+pub append-requires : goal.append-requires
+append-requires c =
+    let i = c.self.inside in
+    let p = c.args.pid in
+    let k = vec_capacity i.history - vec_len i.history in
+    let more = reserved_first i.endpoints.now k i.queues i.machines.items p (within i.machines.items i.queues c.self.view_is p c.requires.there)
+    (subst (λ (v : NetworkView). slice_get v.reserved p ≡ Some true) (sym c.self.view_is) c.requires.room) in
+    omega arith
 
 pub invariant_of-self : goal.invariant_of-self
 invariant_of-self c =
     let i = c.self.inside in
     let p = c.args.pid in
-    sound_after i.endpoints.now i.machines.items i.queues i.sid p c.index_mut-machine.result.now c.act-event.new.self c.node-node.result.now c.self.invariant
-    (stands_in i.machines.items i.queues c.self.view_is p _ c.node-node.ensures) (within i.machines.items i.queues c.self.view_is p c.requires.there) c.index_mut-machine.ensures.value
-    (acts_by_itself c.args.self.now.endpoints c.args.self.now.state p c.node-node.result.now c.node-node.ensures c.requires.steps c.requires.alone)
-    c.act-event.ensures.goes
+    sound_after i.endpoints.now i.machines.items p c.index_mut-machine.result.now c.act-event.new.machine c.self.invariant
+    (within i.machines.items i.queues c.self.view_is p c.requires.there) c.index_mut-machine.ensures.value c.act-event.ensures.number c.act-event.ensures.bound
 
 pub returns-clause-stepped : goal.returns-clause-stepped
 returns-clause-stepped c =
     let i = c.self.inside in
     let p = c.args.pid in
     stepped i.machines.items i.queues c.self.view_is _ p c.act-event.result _ refl refl c.append.ensures
-    (alone_chooses i.endpoints.now i.machines.items i.queues c.act-event.new.queues i.sid p c.index_mut-machine.result.now c.act-event.new.self c.node-node.result.now c.act-event.result
-    (stands_in i.machines.items i.queues c.self.view_is p _ c.node-node.ensures) (within i.machines.items i.queues c.self.view_is p c.requires.there) c.index_mut-machine.ensures.value
-    (acts_by_itself c.args.self.now.endpoints c.args.self.now.state p c.node-node.result.now c.node-node.ensures c.requires.steps c.requires.alone)
+    (alone_chooses i.endpoints.now i.machines.items i.queues c.act-event.new.queues i.sid p c.index_mut-machine.result.now c.act-event.new.machine c.head-head.result c.act-event.result
+    (shows_in i.machines.items i.queues c.self.view_is p c.head-head.result c.head-head.ensures) c.self.invariant.counted
+    (within i.machines.items i.queues c.self.view_is p c.requires.there) c.index_mut-machine.ensures.value
+    (subst (λ (v : NetworkView). joins_at_all v.endpoints v.state p ≡ false) (sym c.self.view_is) c.requires.alone)
     c.act-event.ensures.acts)
 
 pub returns-clause-grown : goal.returns-clause-grown
-returns-clause-grown c = grown_put c.self.inside.machines.items c.self.inside.queues c.self.view_is _ c.args.pid c.act-event.new.self c.act-event.new.queues refl
+returns-clause-grown c = grown_put c.self.inside.machines.items c.self.inside.queues c.self.view_is _ c.args.pid c.act-event.new.machine c.act-event.new.queues refl

@@ -5,7 +5,7 @@ use Rattle.chor_base.specs.declared.names.NameId.{NameId}
 use Rattle.chor_base.specs.declared.event.Entry.{Entry}
 use Rattle.chor_base.specs.declared.event.Event.TheVariants as event
 use Rattle.endpoint_code.specs.Network.{Machine, NetworkState}
-use Rattle.net_core.specs.declared.machine.Runner.{Runner}
+use Rattle.endpoint_machine.specs.Views.{MachineView}
 use Rattle.net_core.specs.Lanes.{loads_in}
 use Rattle.net_core.specs.Machines.{standing_of}
 use Rattle.net_core.specs.Starts.{Joined}
@@ -24,7 +24,7 @@ returns-clause-ok c =
     ap (map standing_of) (c.as_mut_slice-2.ensures.value ∙ with_items_is i.machines first one) ∙ c.in_ok-reserve_sessions.ensures.standing ∙ ap (map standing_of) c.as_mut_slice.ensures.value
     in
     has_begun i.machines.items i.queues c.self.view_is _ c.args.channel c.args.parts (map standing_of last) refl
-    (ap (λ (ms : List Runner). let n : NetworkState = record { machines = map standing_of ms; queues = loads_in i.queues.lanes; sid = i.sid + 1 } in n) (with_items_is mid last two) ∙ ap (λ (k : ℕ). let n : NetworkState = record { machines = map standing_of last; queues = loads_in i.queues.lanes; sid = k } in n) (add-one i.sid))
+    (ap (λ (ms : List MachineView). let n : NetworkState = record { machines = map standing_of ms; queues = loads_in i.queues.lanes; sid = i.sid + 1 } in n) (with_items_is mid last two) ∙ ap (λ (k : ℕ). let n : NetworkState = record { machines = map standing_of last; queues = loads_in i.queues.lanes; sid = k } in n) (add-one i.sid))
     (c.append.ensures ∙ ap (λ (es : List Entry). es ++ record { worker = 0; event = event.Start c.args.channel i.sid c.args.parts } ∷ []) c.in_ok-reserve.ensures.items)
     (subst (λ (ms : List Machine). Joined i.endpoints.now c.args.channel i.sid ms c.args.parts (map standing_of last)) old
     (subst (λ (ps : List (NameId × ℕ)). Joined i.endpoints.now c.args.channel i.sid (map standing_of c.as_mut_slice-2.result.now) ps (map standing_of last)) c.as_slice-2.ensures c.join_all.ensures.joined))

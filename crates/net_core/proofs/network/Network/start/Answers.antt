@@ -1,30 +1,41 @@
-use Rattle.std.proofs.Common.{◌≡◌, ◌∙◌, sym, ap, subst, List, Some}
+use Rattle.std.proofs.Common.{◌≡◌, ◌∙◌, sym, ap, subst, List, Some, None}
+use Rattle.std.specs.Option.{option_copied}
 use Rattle.endpoint_code.specs.declared.endpoints.Channel.{Channel}
-use Rattle.endpoint_code.specs.declared.code.CodeNode.TheVariants.{Join}
 use Rattle.endpoint_code.specs.Network.{channel_of}
 use Rattle.endpoint_code.specs.Faults.{IsFaultless}
 use Rattle.chor_base.specs.declared.names.NameId.{NameId}
-use Rattle.net_core.specs.Plain.{IsPlain}
+use Rattle.net_core.specs.Plain.{IsHostless}
 use Rattle.net_core.specs.Starts.{IsCast}
-use Rattle.net_core.specs.Heads.{Stands}
 use Rattle.net_core.specs.Views.{NetworkView}
 use Rattle.net_core.specs.Steps.{HasBegun}
 use Rattle.net_core.proofs.Lanes.{on_ok}
 use Rattle.net_core.proofs.Fields.{grown_begun}
 use Rattle.net_core.proofs.Casts.{cast_joins, cast_apart}
-use Rattle.net_core.proofs.Begins.{stands_joining, channel_distinct, begins}
+use Rattle.net_core.proofs.Begins.{stands_joining, channel_distinct, begins, join_stands, join_channel}
 use Rattle.net_core.proofs.network.Network.start.Goals as goal
+
+pub unreachable-requires-in_default-channel_named : goal.unreachable-requires-in_default-channel_named
+unreachable-requires-in_default-channel_named c =
+    let v = c.args.self.now in
+    let active = join_channel v.endpoints v.state c.args.pid c.in-Join.channel c.in-Join.own c.in-Join.ensures in
+    let none : None ≡ channel_of v.endpoints.channels c.in-Join.channel =
+    ap option_copied (sym c.in_default-channel_named.is) ∙ c.channel_named.ensures ∙ ap (λ (ks : List Channel). channel_of ks c.in-Join.channel) c.as_slice.ensures ∙ ap (λ (w : NetworkView). channel_of w.endpoints.channels c.in-Join.channel) c.self.view_is
+    in
+    let no : None ≡ Some active.0 = none ∙ active.1 in
+    cc
 
 pub begin-requires-clause-joins : goal.begin-requires-clause-joins
 begin-requires-clause-joins c =
     let v = c.args.self.now in
-    let s : Stands v.endpoints v.state c.args.pid (Join c.in-Join.channel c.in-Join.own c.in-Join.field-2 c.in-Join.field-3) = subst (Stands v.endpoints v.state c.args.pid) c.in-Join.is c.node.ensures in
+    let t = join_stands v.endpoints v.state c.args.pid c.in-Join.channel c.in-Join.own c.in-Join.ensures in
+    let s = t.2 in
     cast_joins c.in_ok-parts.ensures (stands_joining v.endpoints v.state c.args.pid _ _ _ _ s)
 
 pub begin-requires-clause-apart : goal.begin-requires-clause-apart
 begin-requires-clause-apart c =
     let v = c.args.self.now in
-    let s : Stands v.endpoints v.state c.args.pid (Join c.in-Join.channel c.in-Join.own c.in-Join.field-2 c.in-Join.field-3) = subst (Stands v.endpoints v.state c.args.pid) c.in-Join.is c.node.ensures in
+    let t = join_stands v.endpoints v.state c.args.pid c.in-Join.channel c.in-Join.own c.in-Join.ensures in
+    let s = t.2 in
     let found : channel_of v.endpoints.channels c.in-Join.channel ≡ Some c.in-Some.found.now =
     sym (c.in-Some.ensures ∙ ap (λ (ks : List Channel). channel_of ks c.in-Join.channel) c.as_slice.ensures ∙ ap (λ (w : NetworkView). channel_of w.endpoints.channels c.in-Join.channel) c.self.view_is)
     in
@@ -37,7 +48,8 @@ begin-requires-clause-apart c =
 pub returns-clause-ok : goal.returns-clause-ok
 returns-clause-ok c =
     let v = c.args.self.now in
-    let s : Stands v.endpoints v.state c.args.pid (Join c.in-Join.channel c.in-Join.own c.in-Join.field-2 c.in-Join.field-3) = subst (Stands v.endpoints v.state c.args.pid) c.in-Join.is c.node.ensures in
+    let t = join_stands v.endpoints v.state c.args.pid c.in-Join.channel c.in-Join.own c.in-Join.ensures in
+    let s = t.2 in
     let found : channel_of v.endpoints.channels c.in-Join.channel ≡ Some c.in-Some.found.now =
     sym (c.in-Some.ensures ∙ ap (λ (ks : List Channel). channel_of ks c.in-Join.channel) c.as_slice.ensures ∙ ap (λ (w : NetworkView). channel_of w.endpoints.channels c.in-Join.channel) c.self.view_is)
     in
@@ -51,8 +63,8 @@ returns-clause-ok c =
       state = _;
       becomes = h.becomes;
       chooses =
-          begins v.endpoints v.state c.args.pid c.in-Join.channel c.in-Join.own c.in-Join.field-2 c.in-Join.field-3 c.in-Some.found.now c.in_ok-parts.parts h.machines s
-          (subst (λ (w : NetworkView). IsPlain w.endpoints) c.self.view_is c.self.invariant.plain) found cast h.joined;
+          begins v.endpoints v.state c.args.pid c.in-Join.channel c.in-Join.own t.0 t.1 c.in-Some.found.now c.in_ok-parts.parts h.machines s
+          (subst (λ (w : NetworkView). IsHostless w.endpoints) c.self.view_is c.self.invariant.hostless) found cast h.joined;
     })
     c.begin.ensures.ok
 

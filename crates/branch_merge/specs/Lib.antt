@@ -1,0 +1,4 @@
+pub mod Merged
+pub mod Bounds
+pub mod Meetings
+pub mod Merging

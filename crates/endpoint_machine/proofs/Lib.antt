@@ -1,0 +1,4 @@
+pub mod Bound
+pub mod Scopes
+pub mod Goings
+pub mod Makings

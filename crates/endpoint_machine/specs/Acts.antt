@@ -1,0 +1,96 @@
+-- What a process sends and takes.
+use Rattle.std.specs.Prelude.{ℕ, ◌&&◌, Bool, true, false, Option, Some, None, is_some, if◌then◌else◌}
+use Rattle.std.specs.FinMap as fin
+use Rattle.chor_base.specs.declared.value.Load.{Load}
+use Rattle.chor_base.specs.declared.value.Load.TheVariants.{Value as Carries, Label as Picks}
+use Rattle.chor_base.specs.declared.event.Event.{Event}
+use Rattle.chor_base.specs.declared.event.Event.TheVariants as event
+use Rattle.chor_base.specs.Expr.{term_of, value_of, truth_of}
+use Rattle.chor_base.specs.NameMap.{Variables}
+use Rattle.endpoint_code.specs.declared.code.CodeNode.{CodeNode}
+use Rattle.endpoint_code.specs.declared.code.CodeNode.TheVariants.{Join, Send, Recv, Pick, Branch, Throw, Catch, Set, Show, If, Call}
+use Rattle.endpoint_code.specs.declared.endpoints.Endpoints.{Endpoints}
+use Rattle.endpoint_code.specs.Network.{Machine, Sessions, Place, Taking, place_of, part_load, takes_value, takes_label, takes_part}
+
+-- ---- sending
+
+abbrev pub node_load : Variables → Sessions → CodeNode → Option Load
+node_load vars m (Send k b e next) = Some (Carries (value_of (term_of e) vars))
+node_load vars m (Pick k b l next) = Some (Picks l)
+node_load vars m (Throw k b h next) = part_load (fin.get m h.0)
+node_load vars m _ = None
+
+abbrev pub place_load : Variables → Option Place → Option Load
+place_load vars None = None
+place_load vars (Some q) = node_load vars q.sessions q.node
+
+-- The load that a process sends next
+abbrev pub load_of : Endpoints → Machine → Option Load
+load_of e m = place_load m.vars (place_of e m)
+
+-- a process that has sent at a node
+abbrev pub node_sent : Variables → Sessions → CodeNode → Option Machine
+node_sent vars m (Send k b e next) = Some (record { at = next; vars = vars; sessions = m })
+node_sent vars m (Pick k b l next) = Some (record { at = next; vars = vars; sessions = m })
+node_sent vars m (Throw k b h next) = Some (record { at = next; vars = vars; sessions = fin.remove m h.0 })
+node_sent vars m _ = None
+
+-- ---- taking
+
+abbrev pub node_takes : Variables → Sessions → CodeNode → Load → Option Taking
+node_takes vars m (Recv k a x next) l = takes_value next vars m x l
+node_takes vars m (Branch k a arms) l = takes_label arms vars m l
+node_takes vars m (Catch k a h next) l = takes_part next vars m h l
+node_takes vars m _ l = None
+
+abbrev pub place_takes : Variables → Option Place → Load → Option Taking
+place_takes vars None l = None
+place_takes vars (Some q) l = node_takes vars q.sessions q.node l
+
+-- Where a process goes on that takes this load, if it takes it
+abbrev pub taking_of : Endpoints → Machine → Load → Option Taking
+taking_of e m l = place_takes m.vars (place_of e m) l
+
+-- ---- at a node
+
+-- the sessions that the node names are bound
+abbrev pub knows_sessions : Sessions → CodeNode → Bool
+knows_sessions m (Send k b e next) = is_some (fin.get m k.0)
+knows_sessions m (Recv k a x next) = is_some (fin.get m k.0)
+knows_sessions m (Pick k b l next) = is_some (fin.get m k.0)
+knows_sessions m (Branch k a arms) = is_some (fin.get m k.0)
+knows_sessions m (Throw k b h next) = is_some (fin.get m k.0) && is_some (fin.get m h.0)
+knows_sessions m (Catch k a h next) = is_some (fin.get m k.0)
+knows_sessions m _ = true
+
+abbrev pub is_call : CodeNode → Bool
+is_call (Call f p ss) = true
+is_call _ = false
+
+abbrev pub sends : CodeNode → Bool
+sends (Send k b e next) = true
+sends (Pick k b l next) = true
+sends (Throw k b h next) = true
+sends _ = false
+
+abbrev pub joins : CodeNode → Bool
+joins (Join c r k next) = true
+joins _ = false
+
+-- a node at which a process acts by itself, asking no host function
+abbrev pub acts_alone : CodeNode → Bool
+acts_alone (Set x e next) = true
+acts_alone (Show e next) = true
+acts_alone (If e c d) = true
+acts_alone _ = false
+
+-- what a process does by itself: the event, and the process after it
+pub data Acted : Type 0 where
+  Acts : (x : Event) (m : Machine) → Acted
+
+abbrev pub node_acts : ℕ → Variables → Sessions → CodeNode → Option Acted
+node_acts p vars m (Set x e next) = let w = value_of (term_of e) vars in Some (Acts (event.Set p x w) (record { at = next; vars = fin.insert vars x.0 w; sessions = m }))
+node_acts p vars m (Show e next) = Some (Acts (event.Show p (value_of (term_of e) vars)) (record { at = next; vars = vars; sessions = m }))
+node_acts p vars m (If e c d) =
+    let b = truth_of (value_of (term_of e) vars) in Some (Acts (event.Test p b) (record { at = if b then c else d; vars = vars; sessions = m }))
+node_acts p vars m _ = None

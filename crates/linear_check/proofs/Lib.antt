@@ -1,0 +1,7 @@
+mod Parameters
+mod Tracking
+mod PassedOn
+mod WalksOn
+mod Faults
+mod Settled
+mod Channels

@@ -1,0 +1,18 @@
+use Rattle.std.proofs.Common.{◌≡◌, ℕ, ◌≤◌}
+use Rattle.well_formed.specs.Linear.{Members}
+use Rattle.linear_check.specs.Tracks.{Tracks}
+use Rattle.linear_check.proofs.WalksOn.{GoesOn}
+use Rattle.linear_check.proofs.group.Group.+take_from.Given as goal
+
+abbrev pub decreases-take_from : goal.decreases-take_from
+decreases-take_from l = l.id.0
+
+abbrev pub invariant-loop-node : goal.invariant-loop-node
+invariant-loop-node l = record {
+  on : (m : ℕ → Members) → Tracks l.self.channels.now l.fn.heard m → GoesOn l.self.file.now l.self.channels.now l.fn.heard l.heard m l.fn.id l.at;
+  same : l.sets ≡ l.fn.sets;
+  below : l.at.0 ≤ l.fn.id.0;
+}
+
+abbrev pub decreases-loop-node : goal.decreases-loop-node
+decreases-loop-node l = l.at.0

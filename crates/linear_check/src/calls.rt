@@ -1,0 +1,53 @@
+//! What a call takes away.
+
+ghost use Rattle.std.specs.Prelude.{ℕ, ◌≡◌, [], false, map, IfOk, OnOk};
+ghost use Rattle.chor_base.specs.declared.names.NameId.{NameId};
+ghost use Rattle.chor_tree.specs.Children.{children_of};
+ghost use Rattle.chor_tree.specs.Forms.{head_of};
+ghost use Rattle.linear_check.specs.Sets.{holds};
+ghost use Rattle.linear_check.specs.Takes.{TakesInCall, TakesAtTail};
+
+use crate::heard::Heard;
+use crate::sets::{Parameter, Sets};
+use chor_base::{List, Memory, NameId};
+use chor_tree::{Form, Named};
+
+impl Heard {
+    // Takes away the parameters for which a tail passes a process that hasn't heard, and whether
+    // there was one.
+    pub fn take_at(&self, form: &Form, sets: &mut Sets) -> Result<bool, Memory>
+        requires { children_of form.now ≡ [] }
+        ensures taken { OnOk result (TakesAtTail self.now (head_of form.now) sets.old sets.new) }
+        ensures same { IfOk result (λ changed. changed ≡ false → sets.new ≡ sets.old) }
+    {
+        match form {
+            Form::Call {
+                name,
+                processes,
+                ..
+            } => {
+                let changed = self.take_in_call(name.name, processes, sets)?;
+                Ok(changed)
+            }
+            _ => Ok(false),
+        }
+    }
+
+    fn take_in_call(
+        &self,
+        procedure: NameId,
+        processes: &List<Named>,
+        sets: &mut Sets,
+    ) -> Result<bool, Memory>
+        ensures taken { OnOk result (TakesInCall self.now procedure processes.now sets.old sets.new) }
+        ensures same { IfOk result (λ changed. changed ≡ false → sets.new ≡ sets.old) }
+    {
+        let mut changed = false;
+        for place in 0..processes.count() {
+            let process = processes.at(place as usize);
+            let taken = sets.take(Parameter { procedure, place }, self.get(process.name))?;
+            changed |= taken;
+        }
+        Ok(changed)
+    }
+}

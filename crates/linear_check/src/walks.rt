@@ -1,0 +1,116 @@
+//! Walks of bodies.
+
+ghost use Rattle.std.specs.Prelude.{ℕ, ◌≡◌, false, IfOk, OnOk, option_copied, slice_get};
+ghost use Rattle.chor_base.specs.Faults.{IsFirst};
+ghost use Rattle.chor_tree.specs.Children.{children_of};
+ghost use Rattle.chor_tree.specs.Source.{body_of};
+ghost use Rattle.well_formed.specs.Linear.{Members};
+ghost use Rattle.linear_check.specs.Following.{followers};
+ghost use Rattle.linear_check.specs.Takes.{TakesAway};
+ghost use Rattle.linear_check.specs.Tracks.{Tracks, IsUnorderedOfAny};
+
+use crate::group::Group;
+use crate::heard::Heard;
+use crate::sets::Sets;
+use chor_base::{Fault, Memory, Rule, earlier, fault_if};
+use chor_tree::{Form, Node, NodeId};
+use std::alloc::Global;
+
+// What follows a node.
+pub enum Following {
+    Nothing,
+    One(NodeId),
+    Either(NodeId, NodeId),
+}
+
+fn what_follows(form: &Form) -> Following
+    ensures { followers result ≡ children_of form.now }
+{
+    match form {
+        Form::Start { next, .. }
+        | Form::Value { next, .. }
+        | Form::Label { next, .. }
+        | Form::Give { next, .. }
+        | Form::Set { next, .. }
+        | Form::Host { next, .. }
+        | Form::Show { next, .. } => Following::One(*next),
+        Form::If { first, second, .. } => Following::Either(*first, *second),
+        Form::Call { .. } | Form::End => Following::Nothing,
+    }
+}
+
+impl<'a> Group<'a> {
+    fn node_at(&self, id: NodeId) -> Option<&'a Node>
+        ensures { option_copied result ≡ slice_get self.now.file.now.tree.nodes id.0 }
+    {
+        self.file.tree.nodes.as_slice().get(id.0 as usize)
+    }
+
+    // Takes away the parameters for which a call from a node on passes a process that hasn't heard,
+    // and whether there was one.
+    pub fn take_from(
+        &self,
+        alloc: Global,
+        heard: Heard,
+        id: NodeId,
+        sets: &mut Sets,
+    ) -> Result<bool, Memory>
+        ensures taken { let channels = self.now.channels.now in OnOk result ((m : ℕ → Members) → Tracks channels heard m → TakesAway channels m (body_of self.now.file.now id) sets.old sets.new) }
+        ensures same { IfOk result (λ changed. changed ≡ false → sets.new ≡ sets.old) }
+    {
+        let mut heard = heard;
+        let mut at = id;
+        while let Some(node) = self.node_at(at) {
+            match what_follows(&node.form) {
+                Following::Nothing => {
+                    let changed = heard.take_at(&node.form, sets)?;
+                    return Ok(changed);
+                }
+                Following::One(next) => {
+                    heard.after(alloc, self.channels, &node.form)?;
+                    at = next;
+                }
+                Following::Either(one, other) => {
+                    let same = heard.copy(alloc)?;
+                    let first = self.take_from(alloc, same, one, sets)?;
+                    let second = self.take_from(alloc, heard, other, sets)?;
+                    return Ok(first | second);
+                }
+            }
+        }
+        Ok(false)
+    }
+
+    // The first unordered start from a node on.
+    pub fn first_from(
+        &self,
+        alloc: Global,
+        heard: Heard,
+        id: NodeId,
+    ) -> Result<Option<Fault>, Memory>
+        ensures { let channels = self.now.channels.now in IfOk result (λ first. (m : ℕ → Members) → Tracks channels heard m → IsFirst (IsUnorderedOfAny channels m (body_of self.now.file.now id)) first) }
+    {
+        let mut heard = heard;
+        let mut first = None;
+        let mut at = id;
+        while let Some(node) = self.node_at(at) {
+            let misses = heard.misses(self.channels, &node.form);
+            first = earlier(first, fault_if(misses, Rule::U2, node.place));
+            match what_follows(&node.form) {
+                Following::Nothing => return Ok(first),
+                Following::One(next) => {
+                    heard.after(alloc, self.channels, &node.form)?;
+                    at = next;
+                }
+                Following::Either(one, other) => {
+                    let same = heard.copy(alloc)?;
+                    let here = self.first_from(alloc, same, one)?;
+                    let there = self.first_from(alloc, heard, other)?;
+                    let branches = earlier(here, there);
+                    return Ok(earlier(first, branches));
+                }
+            }
+        }
+        Ok(first)
+    }
+}

@@ -1,0 +1,4 @@
+pub mod Greatest
+pub mod Orders
+pub mod Judged
+pub mod Bits

@@ -1,0 +1,4 @@
+pub mod Linear
+pub mod Taken
+pub mod OrderFaults
+pub mod Marks

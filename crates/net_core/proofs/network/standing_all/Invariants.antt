@@ -1,7 +1,0 @@
-use Rattle.std.proofs.Common.{◌≡◌, take, map}
-use Rattle.endpoint_code.specs.Network.{standing_all}
-use Rattle.net_core.specs.Machines.{standing_of}
-use Rattle.net_core.proofs.network.standing_all.Given as goal
-
-abbrev pub invariant-loop-process : goal.invariant-loop-process
-invariant-loop-process l = map standing_of l.machines.items ≡ standing_all (take l.process-index l.processes)

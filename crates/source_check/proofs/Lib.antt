@@ -1,0 +1,16 @@
+pub mod OneReading
+pub mod WholeTokens
+pub mod Files
+pub mod ClassRules
+pub mod NameRules
+pub mod ProtocolRules
+pub mod ViewRules
+pub mod TypeRules
+pub mod LinearityRules
+pub mod SameBodies
+pub mod SameFaults
+pub mod SameTypes
+pub mod SameLinearity
+pub mod OneClass
+pub mod Checked
+pub mod OneFault

@@ -1,0 +1,11 @@
+pub mod ThinItems
+pub mod ThinSteps
+pub mod ThinRuns
+pub mod ThinBegins
+pub mod ThinEnds
+pub mod ThinParts
+pub mod Faultless
+pub mod Projected
+pub mod Followed
+pub mod Blocks
+pub mod Options

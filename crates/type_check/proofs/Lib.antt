@@ -1,0 +1,6 @@
+mod Begins
+mod HostNames
+mod Names
+mod Procedures
+mod Turns
+mod Walks

@@ -1,0 +1,4 @@
+pub mod Resolved
+pub mod Following
+pub mod InProcedures
+pub mod Typed

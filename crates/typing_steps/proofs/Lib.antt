@@ -1,0 +1,4 @@
+pub mod SortMaps
+pub mod SessionOwners
+pub mod CheckOrder
+pub mod Passed

@@ -1,0 +1,5 @@
+pub mod Sorts
+pub mod Known
+pub mod Messages
+pub mod Starts
+pub mod Arguments

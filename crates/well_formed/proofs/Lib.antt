@@ -1,0 +1,12 @@
+pub mod Absent
+pub mod References
+pub mod Heads
+pub mod Renames
+pub mod Members
+pub mod Instances
+pub mod InstancesGuarded
+pub mod InstancesLinear
+pub mod Trees
+pub mod Fits
+pub mod LinearKept
+pub mod Asked
