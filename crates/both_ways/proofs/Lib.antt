@@ -1,0 +1,12 @@
+pub mod Runs
+pub mod FromSources
+pub mod OwnedInstances
+pub mod OwnedBodies
+pub mod First
+pub mod ToNetwork
+pub mod StartingBack
+pub mod BothWays
+pub mod Capacity
+pub mod Ended
+pub mod NeverStuck
+pub mod NeverWrong

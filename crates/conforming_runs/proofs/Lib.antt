@@ -1,0 +1,3 @@
+pub mod Roots
+pub mod Conforming
+pub mod NeverStuck

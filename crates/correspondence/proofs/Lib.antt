@@ -1,0 +1,15 @@
+pub mod Bodies
+pub mod Next
+pub mod Acts
+pub mod Calls
+pub mod Found
+pub mod Others
+pub mod Actor
+pub mod Holders
+pub mod Queues
+pub mod Services
+pub mod Machines
+pub mod Makes
+pub mod Alone
+pub mod FromNetwork
+pub mod ByNode

@@ -1,0 +1,5 @@
+pub mod FromBelow
+pub mod Places
+pub mod Owners
+pub mod Owned
+pub mod Declared

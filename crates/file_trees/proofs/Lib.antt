@@ -1,0 +1,10 @@
+pub mod FromBelow
+pub mod Channels
+pub mod References
+pub mod Named
+pub mod Sorted
+pub mod Scopes
+pub mod Fit
+pub mod Roles
+pub mod Files
+pub mod Guards

@@ -1,0 +1,14 @@
+//! Greatest sets exist, so that a file in which no start is a fault is linear.
+#![tactic(auto)]
+
+ghost use Rattle.greatest_sets.specs.Laws.{GreatestSetsExist, FaultlessIsLinear};
+
+/// Each channel has greatest sets of parameters that meet the condition on calls.
+pub fn greatest_sets_exist()
+    ensures { GreatestSetsExist }
+{}
+
+/// A file without a fault of U2 is linear.
+pub fn faultless_is_linear()
+    ensures { FaultlessIsLinear }
+{}

@@ -1,0 +1,4 @@
+pub mod Roles
+pub mod Premises
+pub mod Laws
+pub mod Example

@@ -1,0 +1,10 @@
+pub mod Renamed
+pub mod Together
+pub mod Known
+pub mod Bystanders
+pub mod Joiners
+pub mod Opened
+pub mod Roles
+pub mod RolesStarted
+pub mod Joining
+pub mod Starting

@@ -1,0 +1,4 @@
+pub mod Told
+pub mod Context
+pub mod Typing
+pub mod Changes

@@ -1,0 +1,10 @@
+pub mod BlockTrees
+pub mod Sources
+pub mod Mains
+pub mod Resolved
+pub mod ProcedureHeads
+pub mod Scopes
+pub mod Accepted
+pub mod Files
+pub mod Guarded
+pub mod Laws

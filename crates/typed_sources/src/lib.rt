@@ -1,0 +1,17 @@
+//! The runs of a typed source follow its protocols, and its choreography never gets stuck.
+#![tactic(auto)]
+
+ghost use Rattle.typed_sources.specs.Laws.{RunsConform, EndedRunsEnd, NeverStuck};
+
+/// The sessions of each run of a file without faults of names, protocols and types follow their
+/// protocols, and have ended where the run has.
+pub fn runs_conform()
+    ensures conform { RunsConform }
+    ensures end { EndedRunsEnd }
+{}
+
+/// The choreography of such a file that is guarded too always has something that can happen, until
+/// nothing is left.
+pub fn never_stuck()
+    ensures { NeverStuck }
+{}

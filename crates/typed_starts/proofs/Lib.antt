@@ -1,0 +1,5 @@
+pub mod Renamed
+pub mod StartsRenamed
+pub mod NewNumbers
+pub mod Started
+pub mod StartKept

@@ -1,0 +1,2 @@
+//! Typed choreographies stay typed under other references, and by each start.
+#![tactic(auto)]
