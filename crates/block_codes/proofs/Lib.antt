@@ -1,0 +1,5 @@
+pub mod Zips
+pub mod Nodes
+pub mod Parts
+pub mod Joins
+pub mod Walks

@@ -1,0 +1,91 @@
+-- How the codes before a statement are made, one process after another.
+use Rattle.std.proofs.Common.{◌≡◌, ℕ, ◌+◌, ◌<◌, List, [], ◌∷◌, ◌++◌, length, take, get_or, refl, sym, ap, ◌∙◌, subst, Some, None, Ok, Err, arith, length-append}
+use Rattle.std.specs.Prelude.{IfOk, Option, Result}
+use Rattle.std.specs.List.{AllZip}
+use Rattle.chor_base.specs.declared.memory.Memory.{Memory}
+use Rattle.chor_base.specs.declared.names.NameId.{NameId}
+use Rattle.chor_tree.specs.declared.file.Proc.{Proc}
+use Rattle.chor_tree.specs.declared.tree.Form.{Form}
+use Rattle.endpoint_code.specs.declared.code.CodeId.{CodeId}
+use Rattle.endpoint_code.specs.declared.code.CodeNode.{CodeNode}
+use Rattle.endpoint_code.specs.declared.code.CodeNode.TheVariants.{End}
+use Rattle.endpoint_code.specs.Trees.{Ends, code_at, trees_of}
+use Rattle.endpoint_code.proofs.CodeTables.{code_at-pushed}
+use Rattle.branch_merge.specs.Merged.{Keeps}
+use Rattle.branch_merge.proofs.ArmTables.{keeps_all, code_kept, kept_length}
+use Rattle.projection.specs.Codes.{Part}
+use Rattle.projection.specs.Straight.{part_tree}
+use Rattle.projection.specs.Making.{part_at, Puts}
+use Rattle.block_codes.specs.declared.coded.Coded.{Coded}
+use Rattle.block_codes.specs.Nodes.{call_in}
+use Rattle.block_codes.specs.Parts.{IsPut, IsLeaf, IsCallAt, IsCalled}
+use Rattle.block_codes.proofs.Zips.{zip_weaker, zip_step}
+
+-- ---- a statement
+
+pub puts_keeps : {old new : List CodeNode} {part : Part} {next id : CodeId} → Puts old new part next id → Keeps old new
+puts_keeps p = record { more = p.more; is = p.is }
+
+put_kept : {old mid new : List CodeNode} {g : Form} (x y : Coded) → Keeps mid new → IsPut old mid g x y → IsPut old new g x y
+put_kept x y k h = record {
+  process = h.process;
+  inside = let n = kept_length k in let m = h.inside in omega arith;
+  code = code_kept y.code k h.inside ∙ h.code;
+}
+
+put_one : {old mid new : List CodeNode} (g : Form) (x : Coded) (id : CodeId) → Keeps old mid → x.code.0 < length old → Puts mid new (part_at x.process g) x.code id → IsPut old new g x (record { process = x.process; code = id })
+put_one g x id k lt p = record {
+  process = refl;
+  inside = p.inside;
+  code = p.code ∙ ap (part_tree (part_at x.process g)) (code_kept x.code k lt);
+}
+
+-- one turn of the loop
+pub put_more : {old mid new : List CodeNode} (g : Form) (xs : List Coded) (i : ℕ) (d : Coded) (ys zs : List Coded) (id : CodeId) → i < length xs → Keeps old mid → AllZip (IsPut old mid g) (take i xs) ys → (get_or xs i d).code.0 < length old
+    → Puts mid new (part_at (get_or xs i d).process g) (get_or xs i d).code id → zs ≡ ys ++ record { process = (get_or xs i d).process; code = id } ∷ [] → AllZip (IsPut old new g) (take (i + 1) xs) zs
+put_more {old = old} {mid = mid} {new = new} g xs i d ys zs id lt k z inside p e =
+    zip_step (IsPut old new g) xs i d ys zs (record { process = (get_or xs i d).process; code = id }) lt
+    (zip_weaker (IsPut old mid g) (IsPut old new g) (λ x y. put_kept x y (puts_keeps p)) (take i xs) ys z) (put_one g (get_or xs i d) id k inside p) e
+
+-- ---- a call
+
+pub keeps_pushed : (old new : List CodeNode) (n : CodeNode) → new ≡ old ++ n ∷ [] → Keeps old new
+keeps_pushed old new n e = record { more = n ∷ []; is = e }
+
+pub pushed_inside : (old new : List CodeNode) (n : CodeNode) (id : CodeId) → new ≡ old ++ n ∷ [] → id.0 ≡ length old → id.0 < length new
+pushed_inside old new n id e i = omega (arith, ap length e ∙ length-append old (n ∷ []))
+
+pub end_pushed : (old new : List CodeNode) (id : CodeId) → new ≡ old ++ End ∷ [] → id.0 ≡ length old → code_at new id ≡ Ends
+end_pushed old new id e i = code_at-pushed old new End id e i
+
+pub call_ends : (procs : List Proc) (g : Form) (nodes : List CodeNode) (r : NameId) (id : CodeId) (made : Option CodeNode) → IsLeaf (call_in procs r g) made → made ≡ None → id.0 < length nodes → code_at nodes id ≡ Ends → IsCallAt procs g nodes nodes r id
+call_ends procs g nodes r id made leaf e lt ends = record {
+  kept = keeps_all nodes;
+  inside = lt;
+  code = ends ∙ sym (subst (IsLeaf (call_in procs r g)) e leaf);
+}
+
+pub call_pushed : (procs : List Proc) (g : Form) (old new : List CodeNode) (r : NameId) (n : CodeNode) (made : Option CodeNode) (answer : Result CodeId Memory) → IsLeaf (call_in procs r g) made → made ≡ Some n → IfOk answer (λ id. (id.0 ≡ length old) × (new ≡ old ++ n ∷ []))
+    → IfOk answer (IsCallAt procs g old new r)
+call_pushed procs g old new r n made (Ok id) leaf e h =
+    let l = subst (IsLeaf (call_in procs r g)) e leaf in
+    record {
+      kept = keeps_pushed old new n h.1;
+      inside = pushed_inside old new n id h.1 h.0;
+      code = code_at-pushed old new n id h.1 h.0 ∙ l.1 (trees_of old);
+    }
+call_pushed procs g old new r n made (Err m) leaf e h = tt
+
+called_kept : {procs : List Proc} {g : Form} {mid new : List CodeNode} (r : NameId) (y : Coded) → Keeps mid new → IsCalled procs g mid r y → IsCalled procs g new r y
+called_kept r y k h = record {
+  process = h.process;
+  inside = let n = kept_length k in let m = h.inside in omega arith;
+  code = code_kept y.code k h.inside ∙ h.code;
+}
+
+pub called_more : {procs : List Proc} {g : Form} {mid new : List CodeNode} (scope : List NameId) (i : ℕ) (d : NameId) (ys zs : List Coded) (id : CodeId) → i < length scope → AllZip (IsCalled procs g mid) (take i scope) ys
+    → IsCallAt procs g mid new (get_or scope i d) id → zs ≡ ys ++ record { process = get_or scope i d; code = id } ∷ [] → AllZip (IsCalled procs g new) (take (i + 1) scope) zs
+called_more {procs = procs} {g = g} {mid = mid} {new = new} scope i d ys zs id lt z p e =
+    zip_step (IsCalled procs g new) scope i d ys zs (record { process = get_or scope i d; code = id }) lt
+    (zip_weaker (IsCalled procs g mid) (IsCalled procs g new) (λ r y. called_kept r y p.kept) (take i scope) ys z)
+    (record { process = refl; inside = p.inside; code = p.code }) e

@@ -1,0 +1,11 @@
+//! Processes with their codes.
+
+use chor_base::NameId;
+use endpoint_code::CodeId;
+
+/// A process and where its code stands.
+#[derive(Clone, Copy, Debug, PartialEq, Eq)]
+pub struct Coded {
+    pub process: NameId,
+    pub code: CodeId,
+}

@@ -1,0 +1,4 @@
+pub mod Starts
+pub mod Bodies
+pub mod Numbers
+pub mod Projected
