@@ -1,0 +1,11 @@
+//! Tests of endpoint code and of how it and events are written, by public calls alone. They say what no
+//! clause says: that the calls succeed where there is memory, that a wide branch takes no more stack than
+//! a narrow one, and what is written, worked out by hand.
+#![tactic(auto)]
+
+#[cfg(test)]
+mod codes;
+#[cfg(test)]
+mod events;
+#[cfg(test)]
+mod names;

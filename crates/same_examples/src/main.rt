@@ -1,0 +1,33 @@
+//! Compares the folder `examples` with the worked sources: writes a line for each file that it reads
+//! there, and ends with 1 where the file isn't the worked text of its name.
+#![tactic(auto)]
+
+use chor_io::{DiskShelf, Fetched, Shelf};
+use std::alloc::Global;
+use std::io;
+use std::process::ExitCode;
+use worked::sources::EXAMPLES;
+use worked::transcripts;
+
+// How many bytes of a file are read at most.
+const LIMIT: u64 = 1 << 16;
+
+fn main(rt: HostRuntime) -> io::Result<ExitCode> {
+    let mut shelf = DiskShelf::new(rt.alloc(), &rt);
+    let mut status = 0;
+    for (name, text) in EXAMPLES.iter().chain(&[("hello.run", transcripts::HELLO)]) {
+        if holds(rt.alloc(), &mut shelf, name.as_bytes(), text) {
+            println!(rt; "{name} is the worked text")?;
+        } else {
+            println!(rt; "{name} is another text")?;
+            status = 1;
+        }
+    }
+    Ok(ExitCode::from(status))
+}
+
+// Whether the file of this name can be read and has these bytes.
+fn holds<F: Shelf>(alloc: Global, shelf: &mut F, name: &[u8], text: &[u8]) -> bool {
+    let mut bytes = Vec::new(alloc);
+    shelf.fetch(name, LIMIT, &mut bytes) == Fetched::All && bytes.as_slice() == text
+}
