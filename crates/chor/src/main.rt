@@ -29,9 +29,17 @@ fn main(rt: HostRuntime) -> ExitCode {
     let mut shelf = DiskShelf::new(rt.alloc(), &rt);
     let mut out = OutSink::new(&rt);
     let gate = OpenGate;
-    let Some(hosts) = host_functions(rt.alloc()) else {
+    let Some(names) = host_names(rt.alloc()) else {
         return ExitCode::from(NO_MEMORY);
     };
+    // The functions that choreographies may call.
+    let min = HostFn::new(names.min, Meaning::Exact(HostOp::Min), host_min);
+    let max = HostFn::new(names.max, Meaning::Exact(HostOp::Max), host_max);
+    let gap = HostFn::new(names.gap, Meaning::Exact(HostOp::Gap), host_gap);
+    let mut hosts = HostTable::new(rt.alloc());
+    if hosts.add(min).is_err() || hosts.add(max).is_err() || hosts.add(gap).is_err() {
+        return ExitCode::from(NO_MEMORY);
+    }
     let status = chor(rt.alloc(), &words, &hosts, &mut shelf, &mut out, &gate);
     ExitCode::from(status.number())
 }
@@ -41,20 +49,19 @@ fn push_word(alloc: Global, items: &mut List<Word>, bytes: &[u8]) -> Result<(), 
     items.push(word)
 }
 
-// The functions that choreographies may call; none where there is no memory for them.
-fn host_functions(alloc: Global) -> Option<HostTable> {
-    let mut hosts = HostTable::new(alloc);
-    let min = Word::from_slice(alloc, b"min".as_slice()).ok()?;
-    let max = Word::from_slice(alloc, b"max".as_slice()).ok()?;
-    let gap = Word::from_slice(alloc, b"gap".as_slice()).ok()?;
-    hosts
-        .add(HostFn::new(min, Meaning::Exact(HostOp::Min), host_min))
-        .ok()?;
-    hosts
-        .add(HostFn::new(max, Meaning::Exact(HostOp::Max), host_max))
-        .ok()?;
-    hosts
-        .add(HostFn::new(gap, Meaning::Exact(HostOp::Gap), host_gap))
-        .ok()?;
-    Some(hosts)
+// The names of the host functions.
+#[derive(Drop)]
+struct HostNames {
+    min: Word,
+    max: Word,
+    gap: Word,
+}
+
+// None where there is no memory for them.
+fn host_names(alloc: Global) -> Option<HostNames> {
+    Some(HostNames {
+        min: Word::from_slice(alloc, b"min".as_slice()).ok()?,
+        max: Word::from_slice(alloc, b"max".as_slice()).ok()?,
+        gap: Word::from_slice(alloc, b"gap".as_slice()).ok()?,
+    })
 }
