@@ -24,9 +24,11 @@ use Rattle.endpoint_machine.specs.Acts.{node_takes, place_takes, taking_of}
 use Rattle.endpoint_machine.specs.Views.{MachineView}
 use Rattle.endpoint_machine.proofs.Makings.{fits_there}
 use Rattle.net_core.specs.Lanes.{QueuesView, loads_in}
-use Rattle.net_core.specs.Machines.{standing_of, is_join, ActsWith, can_act, fits_first}
+use Rattle.session_starts.specs.Machines.{standing_of}
+use Rattle.net_core.specs.Machines.{is_join, ActsWith, can_act, fits_first}
 use Rattle.net_core.specs.Heads.{Stands, Shows, steps_at, steps_of, why_at, why_of, ended_of, joins_at_all, is_joining}
-use Rattle.net_core.specs.Views.{IsSound, AreCounted, number_of, state_of}
+use Rattle.session_starts.specs.Machines.{AreCounted, number_of}
+use Rattle.net_core.specs.Views.{IsSound, state_of}
 use Rattle.net_core.proofs.Scopes.{waits_empty, runner_at}
 use Rattle.net_core.proofs.Fields.{stands_there}
 use Rattle.net_core.proofs.Rooms.{mapped_at, mapped_put}

@@ -1,9 +1,7 @@
 -- The start that a process makes.
 use Rattle.std.proofs.Common.{◌≡◌, ℕ, suc, ◌==◌, ◌&&◌, Bool, true, false, cond, List, [], ◌∷◌, ◌++◌, length, refl, sym, ap, ◌∙◌, subst, Option, Some, None, arith}
-use Rattle.std.specs.Prelude.{slice_get, map, All, pos}
+use Rattle.std.specs.Prelude.{slice_get, map, pos}
 use Rattle.std.proofs.lemmas.Bool.Decides.{nat_tests}
-use Rattle.std.proofs.lemmas.List.{append-nil}
-use Rattle.std.proofs.lemmas.List.Elements.{All-head, All-tail}
 use Rattle.chor_base.specs.declared.names.NameId.{NameId}
 use Rattle.chor_base.specs.declared.event.Event.TheVariants as event
 use Rattle.endpoint_code.specs.declared.code.CodeId.{CodeId}
@@ -19,9 +17,11 @@ use Rattle.endpoint_code.specs.Network as net
 use Rattle.endpoint_code.specs.NetworkRuns.{joins_there}
 use Rattle.endpoint_code.specs.Scheduled.{Chooses, chosen_at, started, started_on}
 use Rattle.endpoint_code.specs.Faults.{IsFaultless, IsScoped, IsActive, AreDistinct, is_among, joins, sends, receives, picks, offers, gives, gains, sets, shows, asks, tests, calls, ends}
-use Rattle.net_core.specs.Plain.{IsHostless}
 use Rattle.net_core.specs.Heads.{Stands, Shows, is_joining_head}
-use Rattle.net_core.specs.Starts.{IsCast, no_role, one_role, Joined, machines_alone}
+use Rattle.session_starts.specs.Starts.{Joined, machines_alone, HasStarted}
+use Rattle.session_starts.proofs.Places.{name_same}
+use Rattle.session_starts.proofs.Served.{channel_has}
+use Rattle.net_core.specs.Starts.{IsCast, no_role, one_role}
 use Rattle.net_core.proofs.Scopes.{out_same, take_same}
 use Rattle.net_core.proofs.Casts.{cast_partners, cast_paired, distinct_front}
 
@@ -53,18 +53,6 @@ scoped_join (tests h s t) c r k m f = absurd cc
 scoped_join (calls h a b d s) c r k m f = absurd cc
 scoped_join (ends h) c r k m f = absurd cc
 
--- what holds of each channel holds of the one found
-channel_has : (P : Channel → Type 0) (ks : List Channel) (c : NameId) (k : Channel) → All P ks → channel_of ks c ≡ Some k → P k
-channel_has P [] c k all h = absurd cc
-channel_has P (x ∷ ks) c k all h = go (x.name.0 == c.0) refl (λ i. channel_has P ks c k (All-tail P x ks all) i)
-  where
-    go : (b : Bool) → (x.name.0 == c.0) ≡ b → (channel_of ks c ≡ Some k → P k) → P k
-    go true e more =
-        let a : Some x ≡ Some k = sym (ap (λ (b : Bool). cond b (Some x) (channel_of ks c)) e) ∙ h in
-        let same : x ≡ k = cc in
-        subst P same (All-head P x ks all)
-    go false e more = more (sym (ap (λ (b : Bool). cond b (Some x) (channel_of ks c)) e) ∙ h)
-
 pub channel_distinct : (e : Endpoints) (c : NameId) (k : Channel) → IsFaultless e → channel_of e.channels c ≡ Some k → AreDistinct k.active
 channel_distinct e c k f h = distinct_front k.active k.serve (channel_has (λ (x : Channel). AreDistinct (x.active ++ x.serve)) e.channels c k f.names.roles h)
 
@@ -76,13 +64,32 @@ some_part : {e : Endpoints} {ms : List Machine} {c : NameId} {p : ℕ} {own : Na
 some_part no_role r h n k = absurd cc
 some_part (one_role a b) r h n k = refl
 
-pub begins : (e : Endpoints) (n : NetworkState) (p : ℕ) (c own l : NameId) (next : CodeId) (k : Channel) (ps : List (NameId × ℕ)) (ms : List Machine) → Stands e n p (Join c own l next) → IsHostless e → channel_of e.channels c ≡ Some k → IsCast e n.machines c p own k.active ps → Joined e c n.sid n.machines ps ms
-    → Chooses e [] None n p (event.Start c n.sid ps) (record n { machines = ms; sid = suc n.sid })
-begins e n p c own l next k ps ms s plain found cast joined =
+-- a channel is found by its name
+pub channel_named : (ks : List Channel) (c : NameId) (k : Channel) → channel_of ks c ≡ Some k → k.name ≡ c
+channel_named [] c k h = absurd cc
+channel_named (x ∷ ks) c k h = go (x.name.0 == c.0) refl (channel_named ks c k)
+  where
+    go : (b : Bool) → (x.name.0 == c.0) ≡ b → (channel_of ks c ≡ Some k → k.name ≡ c) → k.name ≡ c
+    go true e more =
+        let a : Some x ≡ Some k = sym (ap (λ (b : Bool). cond b (Some x) (channel_of ks c)) e) ∙ h in
+        let same : x ≡ k = cc in
+        ap (λ (y : Channel). y.name) (sym same) ∙ name_same x.name c e
+    go false e more = more (sym (ap (λ (b : Bool). cond b (Some x) (channel_of ks c)) e) ∙ h)
+
+-- the state after a start of channel c
+abbrev started_with : NetworkState → NameId → List (NameId × ℕ) → List Machine → Made
+started_with n c ps ms = Makes (event.Start c n.sid ps) (record n { machines = ms; sid = suc n.sid })
+
+-- a start by the least partners is the choice of the process that makes it
+pub begins : (e : Endpoints) (n : NetworkState) (p : ℕ) (c own l : NameId) (next : CodeId) (k : Channel) (ps : List (NameId × ℕ)) (ms : List Machine) → Stands e n p (Join c own l next) → channel_of e.channels c ≡ Some k → IsCast e n.machines c p own k.active ps → HasStarted e k n.sid n.machines ps ms
+    → Chooses e [] None n p (event.Start k.name n.sid (ps ++ served_parts k.serve (length n.machines))) (record n { machines = ms; sid = suc n.sid })
+begins e n p c own l next k ps ms s found cast h =
     let active = scoped_join s.at_node.bound.scoped c own l next s.at_node.found in
     let same : active.0 ≡ k = (let a : Some active.0 ≡ Some k = sym active.1 ∙ found in cc) in
     let among : is_among own k.active ≡ true = subst (λ (x : Channel). is_among own x.active ≡ true) same active.2 in
-    let serve : k.serve ≡ [] = channel_has (λ (x : Channel). x.serve ≡ []) e.channels c k plain.channels found in
+    let named : k.name ≡ c = channel_named e.channels c k found in
+    let j : Joined e c n.sid n.machines ps h.joined = subst (λ (x : NameId). Joined e x n.sid n.machines ps h.joined) named h.joins in
+    let all = ps ++ served_parts k.serve (length n.machines) in
     record {
       answer = pos 0;
       allowed =
@@ -96,10 +103,10 @@ begins e n p c own l next k ps ms s plain found cast joined =
           ∙ ap (channel_starts e n c (map (λ q. q.1) ps)) found
           ∙ ap (starts_with e n c k) (cast_paired cast)
           ∙ some_part cast own among n k
-          ∙ ap (begun e n c k ps) (joiners_alone e n c n.sid ps ∙ joined.all)
-          ∙ ap (λ (rs : List NameId). Some (Makes (event.Start c n.sid (ps ++ served_parts rs (length n.machines))) (record n { machines = with_machines n.machines joined.joining ++ served e c n.sid rs; sid = suc n.sid }))) serve
-          ∙ ap (λ (qs : List (NameId × ℕ)). Some (Makes (event.Start c n.sid qs) (record n { machines = with_machines n.machines joined.joining ++ []; sid = suc n.sid }))) (append-nil ps)
-          ∙ ap (λ (ns : List Machine). Some (Makes (event.Start c n.sid ps) (record n { machines = ns; sid = suc n.sid }))) (append-nil (with_machines n.machines joined.joining) ∙ joined.placed);
+          ∙ ap (begun e n c k ps) (joiners_alone e n c n.sid ps ∙ j.all)
+          ∙ ap (λ (ns : List Machine). Some (started_with n c all (ns ++ served e c n.sid k.serve))) j.placed
+          ∙ ap (λ (x : NameId). Some (started_with n x all (h.joined ++ served e x n.sid k.serve))) (sym named)
+          ∙ ap (λ (ns : List Machine). Some (started_with n k.name all ns)) (sym h.serves);
     }
 
 join_shape : (m : Sessions) (node : CodeNode) (y z : NameId) → node_head m node ≡ Some (head.Join y z) → (k : NameId) × (next : CodeId) × (node ≡ Join y z k next)

@@ -1,9 +1,8 @@
 -- The partners of a start.
-use Rattle.std.proofs.Common.{◌≡◌, ℕ, zero, suc, ◌+◌, ◌<◌, ◌==◌, ◌||◌, Bool, true, false, cond, List, [], ◌∷◌, ◌++◌, length, refl, sym, ap, ◌∙◌, subst, Option, Some, None, arith, is_some}
+use Rattle.std.proofs.Common.{◌≡◌, ℕ, zero, suc, ◌+◌, ◌==◌, ◌||◌, Bool, true, false, cond, List, [], ◌∷◌, ◌++◌, refl, sym, ap, ◌∙◌, subst, Option, Some, None, arith, is_some}
 use Rattle.std.specs.Prelude.{slice_get, map, All, ◌≢◌}
 use Rattle.std.proofs.lemmas.Bool.Decides.{nat_tests}
 use Rattle.std.proofs.lemmas.List.Elements.{All-cons, All-nil}
-use Rattle.std.proofs.lemmas.Option.{slice_get_within}
 use Rattle.chor_base.specs.declared.names.NameId.{NameId}
 use Rattle.endpoint_code.specs.declared.code.CodeNode.{CodeNode}
 use Rattle.endpoint_code.specs.declared.code.CodeNode.TheVariants.{Join, Send, Recv, Pick, Branch, Throw, Catch, Set, Show, Host, If, Call, End}
@@ -13,9 +12,10 @@ use Rattle.endpoint_code.specs.Network.{Machine, Place, place_of, place_at, pair
 use Rattle.endpoint_code.specs.NetworkRuns.{joins_there, is_joined, absent_among}
 use Rattle.endpoint_code.specs.Scheduled.{least_joiner, partners, partner}
 use Rattle.endpoint_code.specs.Faults.{AreDistinct, no_name, one_more, is_among}
-use Rattle.net_core.specs.Starts.{partner_for, IsCast, no_role, one_role, AllJoin, AreApart, no_part, one_part}
+use Rattle.session_starts.specs.Starts.{AllJoin, AreApart, no_part, one_part}
+use Rattle.net_core.specs.Starts.{partner_for, IsCast, no_role, one_role}
 use Rattle.net_core.proofs.Heads.{joined_least}
-use Rattle.net_core.proofs.Lanes.{name_same, both_true}
+use Rattle.session_starts.proofs.Places.{name_same, both_true}
 
 pub cast_push : {e : Endpoints} {ms : List Machine} {c : NameId} {p : ℕ} {own : NameId} {rs : List NameId} {ps : List (NameId × ℕ)} → IsCast e ms c p own rs ps → (r : NameId) (q : ℕ) → partner_for e ms c p own r ≡ Some q → IsCast e ms c p own (rs ++ r ∷ []) (ps ++ (r, q) ∷ [])
 cast_push no_role r q h = one_role h no_role
@@ -126,10 +126,3 @@ cast_partners {e} {ms} {c} {p} {own} (one_role {r} {q} {rs} {ps} a b) = ap (λ (
 pub cast_paired : {e : Endpoints} {ms : List Machine} {c : NameId} {p : ℕ} {own : NameId} {rs : List NameId} {ps : List (NameId × ℕ)} → IsCast e ms c p own rs ps → paired rs (map (λ q. q.1) ps) ≡ Some ps
 cast_paired no_role = refl
 cast_paired (one_role {r} {q} a b) = ap (one_pair r q) (cast_paired b)
-
-pub joins_within : (e : Endpoints) (ms : List Machine) (c r : NameId) (q : ℕ) → joins_there (place_at e (slice_get ms q)) c r ≡ true → q < length ms
-joins_within e ms c r q h = go (slice_get ms q) refl h
-  where
-    go : (o : Option Machine) → slice_get ms q ≡ o → joins_there (place_at e o) c r ≡ true → q < length ms
-    go None a k = absurd cc
-    go (Some m) a k = slice_get_within ms q m a

@@ -1,5 +1,5 @@
 -- The fields of a network and what contracts see of it.
-use Rattle.std.proofs.Common.{◌≡◌, ℕ, suc, ◌<◌, ◌++◌, ◌∷◌, [], Bool, List, length, get_or, sym, ap, ◌∙◌, subst, refl, Some, None, arith, length-set}
+use Rattle.std.proofs.Common.{◌≡◌, ℕ, suc, ◌+◌, ◌*◌, ◌^◌, ◌<◌, ◌≤◌, ◌==◌, max, cond, true, false, ◌++◌, ◌∷◌, [], Bool, List, length, get_or, sym, ap, ◌∙◌, subst, refl, Some, None, arith, length-set, length-append}
 use Rattle.std.specs.Prelude.{slice_set, map}
 use Rattle.std.proofs.lemmas.List.{length-map}
 use Rattle.chor_base.specs.declared.names.NameId.{NameId}
@@ -8,16 +8,17 @@ use Rattle.chor_base.specs.declared.event.Event.TheVariants as event
 use Rattle.chor_base.specs.declared.event.Entry.{Entry}
 use Rattle.endpoint_code.specs.declared.code.CodeNode.{CodeNode}
 use Rattle.endpoint_code.specs.declared.endpoints.Endpoints.{Endpoints}
-use Rattle.endpoint_code.specs.Network.{Machine, NetworkState, with_machines}
+use Rattle.endpoint_code.specs.declared.endpoints.Channel.{Channel}
+use Rattle.endpoint_code.specs.Network.{Machine, NetworkState, with_machines, served, served_parts, channel_of}
 use Rattle.endpoint_code.specs.Scheduled.{Chooses}
 use Rattle.endpoint_machine.specs.Views.{MachineView}
 use Rattle.net_core.specs.Lanes.{QueuesView, loads_in}
-use Rattle.net_core.specs.Machines.{standing_of}
+use Rattle.session_starts.specs.Machines.{standing_of}
 use Rattle.endpoint_machine.specs.declared.head.Head.{Head}
 use Rattle.net_core.specs.Heads.{Stands, Shows}
 use Rattle.net_core.specs.Views.{NetworkView, IsSame, state_of}
-use Rattle.net_core.specs.Steps.{HasStepped, HasBegun, HasGrown}
-use Rattle.net_core.specs.Starts.{Joined}
+use Rattle.net_core.specs.Steps.{HasStepped, HasBegun, HasGrown, FitsMore, most_served}
+use Rattle.session_starts.specs.Starts.{HasStarted}
 use Rattle.net_core.proofs.Scopes.{runner_at}
 
 abbrev pub fields : Endpoints → List MachineView → QueuesView → ℕ → List Entry → List Bool → NetworkView
@@ -33,19 +34,43 @@ length-with_machines : (ms : List Machine) (js : List (ℕ × Machine)) → leng
 length-with_machines ms [] = refl
 length-with_machines ms (j ∷ js) = length-with_machines (slice_set ms j.0 j.1) js ∙ length-set ms j.0 j.1
 
--- a start draws one session number and no process number
-pub grown_begun : (old : NetworkView) (c : NameId) (parts : List (NameId × ℕ)) (new : NetworkView) → HasBegun old c parts new → HasGrown old new
-grown_begun old c parts new h = record {
-  sid = (let a : new.state.sid ≡ suc old.state.sid = ap (λ (n : NetworkState). n.sid) h.becomes.state in omega arith);
-  kept = (
-      let a : length new.state.machines ≡ length h.machines = ap (λ (n : NetworkState). length n.machines) h.becomes.state in
-      let b : length h.machines ≡ length old.state.machines = sym (ap length h.joined.placed) ∙ length-with_machines old.state.machines h.joined.joining in
-      omega arith);
-  machines = (
-      let a : length new.state.machines ≡ length h.machines = ap (λ (n : NetworkState). length n.machines) h.becomes.state in
-      let b : length h.machines ≡ length old.state.machines = sym (ap length h.joined.placed) ∙ length-with_machines old.state.machines h.joined.joining in
-      omega arith);
-}
+length-served : (e : Endpoints) (c : NameId) (s : ℕ) (rs : List NameId) → length (served e c s rs) ≡ length rs
+length-served e c s [] = refl
+length-served e c s (r ∷ rs) = ap suc (length-served e c s rs)
+
+-- how many processes there are after a start
+length_started : (e : Endpoints) (k : Channel) (s : ℕ) (old new : List Machine) (ps : List (NameId × ℕ)) → HasStarted e k s old ps new → length new ≡ length old + length k.serve
+length_started e k s old new ps h =
+    let a : length new ≡ length (h.joined ++ served e k.name s k.serve) = ap length h.serves in
+    let b = length-append h.joined (served e k.name s k.serve) in
+    let c : length h.joined ≡ length old = sym (ap length h.joins.placed) ∙ length-with_machines old h.joins.joining in
+    let d = length-served e k.name s k.serve in
+    omega arith
+
+-- no channel has more service roles than the most
+pub served_most : (ks : List Channel) (c : NameId) (k : Channel) → channel_of ks c ≡ Some k → length k.serve ≤ most_served ks
+served_most [] c k h = absurd cc
+served_most (x ∷ ks) c k h = go (x.name.0 == c.0) refl (served_most ks c k)
+  where
+    go : (b : Bool) → (x.name.0 == c.0) ≡ b → (channel_of ks c ≡ Some k → length k.serve ≤ most_served ks) → length k.serve ≤ max (length x.serve) (most_served ks)
+    go true e more =
+        let a : Some x ≡ Some k = sym (ap (λ (b : Bool). cond b (Some x) (channel_of ks c)) e) ∙ h in
+        let same : x ≡ k = cc in
+        let as_long : length x.serve ≡ length k.serve = ap (λ (y : Channel). length y.serve) same in
+        omega arith
+    go false e more = let i = more (sym (ap (λ (b : Bool). cond b (Some x) (channel_of ks c)) e) ∙ h) in omega arith
+
+-- a start draws one session number, and a process number for each service role of its channel
+pub grown_begun : (old : NetworkView) (k : Channel) (parts : List (NameId × ℕ)) (new : NetworkView) → channel_of old.endpoints.channels k.name ≡ Some k → HasBegun old k parts new → HasGrown old new
+grown_begun old k parts new found h =
+    let a : length new.state.machines ≡ length h.machines = ap (λ (n : NetworkState). length n.machines) h.becomes.state in
+    let b = length_started old.endpoints k old.state.sid old.state.machines h.machines parts h.started in
+    let c = served_most old.endpoints.channels k.name k found in
+    record {
+      sid = (let s : new.state.sid ≡ suc old.state.sid = ap (λ (n : NetworkState). n.sid) h.becomes.state in omega arith);
+      kept = omega arith;
+      machines = omega arith;
+    }
 
 module _ {e : Endpoints} (ms : List MachineView) (q : QueuesView) {sid : ℕ} {h : List Entry} {res : List Bool} {v : NetworkView} (is : fields e ms q sid h res ≡ v) where
   pub within : (p : ℕ) → p < length v.state.machines → p < length ms
@@ -61,9 +86,30 @@ module _ {e : Endpoints} (ms : List MachineView) (q : QueuesView) {sid : ℕ} {h
   pub same_but_room : (new : NetworkView) → new.endpoints ≡ e → new.state ≡ state_of ms q sid → new.history ≡ h → IsSame v new
   same_but_room new a b d = subst (λ (w : NetworkView). IsSame w new) is (record { endpoints = a; state = b; history = d })
 
-  pub has_begun : (new : NetworkView) (c : NameId) (parts : List (NameId × ℕ)) (ns : List Machine) → new.endpoints ≡ e → new.state ≡ record { machines = ns; queues = loads_in q.lanes; sid = suc sid } → new.history ≡ h ++ record { worker = 0; event = event.Start c sid parts } ∷ [] → Joined e c sid (map standing_of ms) parts ns → HasBegun v c parts new
-  has_begun new c parts ns a b d joined =
-      subst (λ (w : NetworkView). HasBegun w c parts new) is (record { machines = ns; joined = joined; becomes = record { endpoints = a; state = b; history = d } })
+  -- there are numbers for the new processes of a start
+  pub numbers_left : (k : Channel) → channel_of v.endpoints.channels k.name ≡ Some k → FitsMore v 1 → length ms + length k.serve < 2 ^ 32
+  numbers_left k found fits =
+      let most = served_most v.endpoints.channels k.name k found in
+      let one : length v.state.machines + 1 * most_served v.endpoints.channels < 2 ^ 32 = fits.machines in
+      let count : length (map standing_of ms) ≡ length v.state.machines = ap (λ (w : NetworkView). length w.state.machines) is in
+      let same = length-map ms standing_of in
+      omega arith
+
+  pub has_begun : (new : NetworkView) (k : Channel) (parts all : List (NameId × ℕ)) (ns : List Machine) → new.endpoints ≡ e → new.state ≡ record { machines = ns; queues = loads_in q.lanes; sid = suc sid } → new.history ≡ h ++ record { worker = 0; event = event.Start k.name sid all } ∷ [] → all ≡ parts ++ served_parts k.serve (length ms) → HasStarted e k sid (map standing_of ms) parts ns → HasBegun v k parts new
+  has_begun new k parts all ns a b d same started =
+      subst (λ (w : NetworkView). HasBegun w k parts new) is
+      (record {
+        machines = ns;
+        started = started;
+        becomes = record {
+          endpoints = a;
+          state = b;
+          history =
+              d
+              ∙ ap (λ (ps : List (NameId × ℕ)). h ++ record { worker = 0; event = event.Start k.name sid ps } ∷ [])
+              (same ∙ ap (λ (i : ℕ). parts ++ served_parts k.serve i) (sym (length-map ms standing_of)));
+        };
+      })
 
   pub grown_put : (new : NetworkView) (p : ℕ) (t : MachineView) (k : QueuesView) → new.state ≡ state_of (slice_set ms p t) k sid → HasGrown v new
   grown_put new p t k a =

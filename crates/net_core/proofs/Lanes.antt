@@ -6,6 +6,7 @@ use Rattle.chor_base.specs.declared.names.NameId.{NameId}
 use Rattle.chor_base.specs.declared.value.Load.{Load}
 use Rattle.chor_base.specs.Events.{Triple, triple_eq}
 use Rattle.endpoint_code.specs.Network.{loads_for, with_loads}
+use Rattle.session_starts.proofs.Places.{name_same, both_true}
 use Rattle.net_core.specs.Lanes.{LaneView, loads_in, room_among, lane_from}
 
 -- the first lane of the triple is at this place
@@ -44,13 +45,6 @@ lacks_found k (l ∷ ls) t h = go (triple_eq l.triple t) refl (λ e. lacks_found
     go : (b : Bool) → triple_eq l.triple t ≡ b → (lane_from (suc k) ls t ≡ None → Lacks t ls) → Lacks t (l ∷ ls)
     go true e more = let s : Some k ≡ None = sym (ap (λ b. cond b (Some k) (lane_from (suc k) ls t)) e) ∙ h in absurd cc
     go false e more = one_lane e (more (sym (ap (λ b. cond b (Some k) (lane_from (suc k) ls t)) e) ∙ h))
-
-pub name_same : (a b : NameId) → (a.0 == b.0) ≡ true → a ≡ b
-name_same a b h = let e : a.0 ≡ b.0 = grind (arith, nat_tests) in ap (λ (n : ℕ). let r : NameId = record { 0 = n } in r) e
-
-pub both_true : (a b : Bool) → (a && b) ≡ true → (a ≡ true) × (b ≡ true)
-both_true true b h = (refl, h)
-both_true false b h = absurd cc
 
 pub triple_same : (s t : Triple) → triple_eq s t ≡ true → s ≡ t
 triple_same s t h =

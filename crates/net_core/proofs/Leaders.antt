@@ -16,7 +16,7 @@ use Rattle.endpoint_code.specs.NetworkRuns.{has_ended, ends_there, joins_there, 
 use Rattle.endpoint_code.specs.Scheduled.{is_listed, listed, listed_from, listed_at, first_role}
 use Rattle.endpoint_code.specs.Faults.{is_among, IsActive}
 use Rattle.net_core.specs.Heads.{Stands, EachStands}
-use Rattle.net_core.proofs.Lanes.{name_same, both_true}
+use Rattle.session_starts.proofs.Places.{name_same, both_true}
 use Rattle.net_core.proofs.Begins.{scoped_join}
 
 -- a place where a process joins

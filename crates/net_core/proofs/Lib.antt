@@ -6,7 +6,6 @@ pub mod Heads
 pub mod Fields
 pub mod Rooms
 pub mod Alone
-pub mod Joins
 pub mod Casts
 pub mod Begins
 pub mod Leaders

@@ -22,4 +22,4 @@ asks_none (Call f o ns) h = refl
 asks_none End h = refl
 
 pub plain_hostless : (e : Endpoints) → IsPlain e → IsHostless e
-plain_hostless e p = record { nodes = λ k d lt. asks_none (get_or e.code.nodes k d) (p.nodes k d lt); channels = p.channels }
+plain_hostless e p = λ k d lt. asks_none (get_or e.code.nodes k d) (p k d lt)

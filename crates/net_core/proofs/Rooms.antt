@@ -5,15 +5,16 @@ use Rattle.std.proofs.lemmas.Option.{slice_get-get_or, slice_get-map, get_or_fro
 use Rattle.std.proofs.lemmas.Bool.Decides.{nat_tests}
 use Rattle.chor_base.specs.Events.{Triple}
 use Rattle.endpoint_code.specs.declared.endpoints.Endpoints.{Endpoints}
-use Rattle.endpoint_code.specs.Network.{Machine, node_at}
+use Rattle.endpoint_code.specs.Network.{Machine}
 use Rattle.endpoint_machine.specs.declared.head.Head.{Head}
 use Rattle.endpoint_machine.specs.declared.head.Head.TheVariants as head
 use Rattle.endpoint_machine.specs.Heads.{head_of}
-use Rattle.endpoint_machine.specs.Views.{MachineView, IsReserved, passes}
+use Rattle.endpoint_machine.specs.Views.{MachineView}
 use Rattle.net_core.specs.Lanes.{QueuesView, room_on}
-use Rattle.net_core.specs.Machines.{is_reserved, has_queue_room}
+use Rattle.session_starts.specs.Machines.{is_reserved}
+use Rattle.net_core.specs.Machines.{has_queue_room}
 use Rattle.net_core.specs.Views.{has_room}
-use Rattle.net_core.proofs.Lanes.{both_true}
+use Rattle.session_starts.proofs.Places.{both_true}
 use Rattle.net_core.proofs.Turns.{turn}
 
 abbrev got : {X Y : Type 0} → (X → Y) → Option X → Option Y
@@ -88,20 +89,3 @@ reserved_first e k q ms p lt r =
     let h = reserved_room e k q ms p t.item lt (sym (get_or_from_slice_get ms p t.item t.item t.there)) r in
     let a : nat_lt 0 k ≡ true = (both_true (nat_lt 0 k) (is_reserved e t.item && has_queue_room q (head_of e t.item.machine)) h).0 in
     grind (arith, nat_tests)
-
--- the parts of a process's room
-pub reserved_is : (e : Endpoints) (m : MachineView) → is_reserved e m ≡ true → IsReserved e m
-reserved_is e m h =
-    let parts = both_true (nat_lt 0 m.room.variables) (nat_lt 0 m.room.sessions && nat_lt (passes (node_at e m.machine.at)) m.room.beyond) h in
-    let others = both_true (nat_lt 0 m.room.sessions) (nat_lt (passes (node_at e m.machine.at)) m.room.beyond) parts.1 in
-    let a : nat_lt 0 m.room.variables ≡ true = parts.0 in
-    let b : nat_lt 0 m.room.sessions ≡ true = others.0 in
-    let c : nat_lt (passes (node_at e m.machine.at)) m.room.beyond ≡ true = others.1 in
-    record { variables = grind (arith, nat_tests); sessions = grind (arith, nat_tests); beyond = grind (arith, nat_tests) }
-
-pub is_room : (e : Endpoints) (m : MachineView) → IsReserved e m → is_reserved e m ≡ true
-is_room e m r =
-    let a : nat_lt 0 m.room.variables ≡ true = (let i = r.variables in grind (arith, nat_tests)) in
-    let b : nat_lt 0 m.room.sessions ≡ true = (let i = r.sessions in grind (arith, nat_tests)) in
-    let c : nat_lt (passes (node_at e m.machine.at)) m.room.beyond ≡ true = (let i = r.beyond in grind (arith, nat_tests)) in
-    ap (λ (t : Bool). t && (nat_lt 0 m.room.sessions && nat_lt (passes (node_at e m.machine.at)) m.room.beyond)) a ∙ ap (λ (t : Bool). t && nat_lt (passes (node_at e m.machine.at)) m.room.beyond) b ∙ c

@@ -19,7 +19,7 @@ use Rattle.net_core.specs.Heads.{steps_at, steps_of, why_at, why_of, ended_at, e
 use Rattle.net_core.specs.Views.{NetworkView}
 use Rattle.net_core.specs.Steps.{FitsMore, HasGrown, most_served}
 use Rattle.net_core.specs.Picks.{GoesOn, stays, goes, entries_of, HasRun, HasGone, Runs, HasTurned, HasClosed, Turns, IsStuck}
-use Rattle.net_core.proofs.Lanes.{both_true}
+use Rattle.session_starts.proofs.Places.{both_true}
 
 -- ---- the first process that hasn't ended
 

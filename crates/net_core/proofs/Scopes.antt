@@ -26,10 +26,13 @@ use Rattle.endpoint_machine.specs.Views.{MachineView}
 use Rattle.endpoint_machine.proofs.Scopes.{some_node, stands_plainly, stands_beyond, called, procedure_all}
 use Rattle.net_core.specs.Lanes.{QueuesView}
 use Rattle.net_core.specs.Plain.{IsHostless}
-use Rattle.net_core.specs.Machines.{standing_of, is_join}
+use Rattle.session_starts.specs.Machines.{standing_of}
+use Rattle.net_core.specs.Machines.{is_join}
 use Rattle.net_core.specs.Heads.{Stands, Shows, EachStands, ended_of, why_of, is_joining, is_end, is_joining_head, is_taking, joins_as, leads_as, why_by}
-use Rattle.net_core.specs.Views.{IsSound, AreCounted, state_of}
-use Rattle.net_core.proofs.Turns.{all_at, turn}
+use Rattle.session_starts.specs.Machines.{AreCounted}
+use Rattle.net_core.specs.Views.{IsSound, state_of}
+use Rattle.session_starts.proofs.Places.{all_at}
+use Rattle.net_core.proofs.Turns.{turn}
 
 -- ---- the action of a node
 
@@ -213,7 +216,7 @@ stands_at e ms q sid p r sound lt h =
         sessions = s.1;
         there = runner_at ms p r lt h;
         at_node = s.2;
-        hostless = hostless_node s.0 (all_at (λ n. asks_known (λ f. false) n ≡ true) e.code.nodes s.2.id.0 s.0 sound.hostless.nodes s.2.found);
+        hostless = hostless_node s.0 (all_at (λ n. asks_known (λ f. false) n ≡ true) e.code.nodes s.2.id.0 s.0 sound.hostless s.2.found);
         bound = bound;
       },
     )

@@ -1,7 +1,7 @@
 -- Loops over the processes of a network.
-use Rattle.std.proofs.Common.{◌≡◌, ℕ, suc, ◌+◌, ◌<◌, ◌&&◌, Bool, cond, List, [], ◌∷◌, ◌++◌, length, drop, get_or, refl, sym, ap, ◌∙◌, subst, Option, Some, None, arith, add-one}
-use Rattle.std.specs.Prelude.{slice_get, All}
-use Rattle.std.proofs.lemmas.Option.{slice_get-get_or, get_or_from_slice_get, slice_get_within}
+use Rattle.std.proofs.Common.{◌≡◌, ℕ, suc, ◌+◌, ◌<◌, ◌&&◌, Bool, cond, List, [], ◌∷◌, ◌++◌, length, drop, get_or, refl, sym, ap, ◌∙◌, Option, Some, None, arith, add-one}
+use Rattle.std.specs.Prelude.{slice_get}
+use Rattle.std.proofs.lemmas.Option.{slice_get-get_or}
 use Rattle.std.proofs.lemmas.List.{drop_more}
 use Rattle.chor_base.specs.declared.names.NameId.{NameId}
 use Rattle.chor_base.specs.declared.event.Why.{Why}
@@ -22,9 +22,6 @@ pub turn : {X : Type 0} (xs : List X) (i : ℕ) → i < length xs → Turn xs i
 turn [] i lt = absurd (omega arith)
 turn (x ∷ xs) i lt =
     record { item = get_or (x ∷ xs) i x; there = slice_get-get_or (x ∷ xs) i x lt; rest = drop_more (x ∷ xs) i x lt }
-
-pub all_at : {X : Type 0} (P : X → Type 0) (xs : List X) (i : ℕ) (x : X) → All P xs → slice_get xs i ≡ Some x → P x
-all_at P xs i x all h = subst P (get_or_from_slice_get xs i x x h) (all i x (slice_get_within xs i x h))
 
 pub ended_turn : (e : Endpoints) (n : NetworkState) (i : ℕ) (b : Bool) → i < length n.machines → b ≡ ended_at e n i → all_ended e (drop i n.machines) ≡ (b && all_ended e (drop (i + 1) n.machines))
 ended_turn e n i b lt h =

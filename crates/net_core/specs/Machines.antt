@@ -1,26 +1,18 @@
 -- What one process of a network does by itself.
-use Rattle.std.specs.Prelude.{ℕ, ◌≡◌, ◌&&◌, Bool, true, false, Option, Some, None, slice_get, slice_set, nat_lt, ℤ, is_some}
+use Rattle.std.specs.Prelude.{ℕ, ◌≡◌, Bool, true, false, Option, Some, None, slice_get, slice_set, nat_lt, ℤ, is_some}
 use Rattle.chor_base.specs.declared.value.Load.{Load}
 use Rattle.chor_base.specs.declared.event.Event.{Event}
 use Rattle.endpoint_code.specs.declared.code.CodeNode.{CodeNode}
 use Rattle.endpoint_code.specs.declared.code.CodeNode.TheVariants.{Join}
 use Rattle.endpoint_code.specs.declared.endpoints.Endpoints.{Endpoints}
-use Rattle.endpoint_code.specs.Network.{Machine, NetworkState, Makes, node_at, machine_makes, loads_for}
+use Rattle.endpoint_code.specs.Network.{Machine, NetworkState, Makes, machine_makes, loads_for}
 use Rattle.endpoint_machine.specs.declared.head.Head.{Head}
 use Rattle.endpoint_machine.specs.declared.head.Head.TheVariants as head
 use Rattle.endpoint_machine.specs.Acts.{taking_of}
-use Rattle.endpoint_machine.specs.Views.{MachineView, passes}
+use Rattle.endpoint_machine.specs.Views.{MachineView}
 use Rattle.net_core.specs.Lanes.{QueuesView, loads_in, room_on}
 
--- where a process stands, without its number and its room
-abbrev pub standing_of : MachineView → Machine
-standing_of m = m.machine
-
 -- ---- room
-
--- a process has room for its next event
-abbrev pub is_reserved : Endpoints → MachineView → Bool
-is_reserved e m = nat_lt 0 m.room.variables && (nat_lt 0 m.room.sessions && nat_lt (passes (node_at e m.machine.at)) m.room.beyond)
 
 -- its queue has room for what a process sends
 abbrev pub has_queue_room : QueuesView → Option Head → Bool

@@ -1,5 +1,5 @@
 -- The endpoint programs that a network here runs.
-use Rattle.std.specs.Prelude.{◌≡◌, Bool, true, false, [], All}
+use Rattle.std.specs.Prelude.{◌≡◌, Bool, true, false, All}
 use Rattle.endpoint_code.specs.declared.code.CodeNode.{CodeNode}
 use Rattle.endpoint_code.specs.declared.code.CodeNode.TheVariants.{Join, Send, Recv, End}
 use Rattle.endpoint_code.specs.declared.endpoints.Endpoints.{Endpoints}
@@ -12,12 +12,10 @@ is_plain (Recv k a x next) = true
 is_plain End = true
 is_plain _ = false
 
--- Programs that join, send and receive values and end, without service roles
-pub record IsPlain (e : Endpoints) : Type 0 where
-  pub nodes : All (λ n. is_plain n ≡ true) e.code.nodes
-  pub channels : All (λ k. k.serve ≡ []) e.channels
+-- Programs that join, send and receive values and end
+abbrev pub IsPlain : Endpoints → Type 0
+IsPlain e = All (λ n. is_plain n ≡ true) e.code.nodes
 
--- Programs that ask no host function, without service roles
-pub record IsHostless (e : Endpoints) : Type 0 where
-  pub nodes : AsksKnown (λ f. false) e
-  pub channels : All (λ k. k.serve ≡ []) e.channels
+-- Programs that ask no host function
+abbrev pub IsHostless : Endpoints → Type 0
+IsHostless e = AsksKnown (λ f. false) e

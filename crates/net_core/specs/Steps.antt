@@ -1,16 +1,16 @@
 -- What a step of a network answers.
-use Rattle.std.specs.Prelude.{ℕ, suc, ◌≡◌, ◌+◌, ◌*◌, ◌^◌, ◌<◌, ◌≤◌, max, true, List, [], ◌∷◌, length, Some, None}
+use Rattle.std.specs.Prelude.{ℕ, suc, ◌≡◌, ◌+◌, ◌*◌, ◌^◌, ◌<◌, ◌≤◌, ◌++◌, max, true, List, [], ◌∷◌, length, Some, None}
 use Rattle.chor_base.specs.declared.names.NameId.{NameId}
 use Rattle.chor_base.specs.declared.event.Event.{Event}
 use Rattle.chor_base.specs.declared.event.Event.TheVariants as event
-use Rattle.endpoint_code.specs.Network.{Machine, NetworkState}
+use Rattle.endpoint_code.specs.Network.{Machine, NetworkState, served_parts}
 use Rattle.endpoint_code.specs.Scheduled.{Chooses}
 use Rattle.endpoint_code.specs.declared.endpoints.Channel.{Channel}
 use Rattle.net_core.specs.declared.answer.Step.{Step}
 use Rattle.net_core.specs.declared.answer.Step.TheVariants.{Did, Waits, Ended, Memory}
 use Rattle.net_core.specs.Heads.{steps_at, why_at, ended_at, joins_at_all}
 use Rattle.net_core.specs.Views.{NetworkView, Becomes, IsSame, IsReserved}
-use Rattle.net_core.specs.Starts.{Joined}
+use Rattle.session_starts.specs.Starts.{HasStarted}
 
 -- a process has made one event, with the least partners where it starts a session
 pub record HasStepped (old : NetworkView) (p : ℕ) (new : NetworkView) : Type 0 where
@@ -19,11 +19,11 @@ pub record HasStepped (old : NetworkView) (p : ℕ) (new : NetworkView) : Type 0
   pub becomes : Becomes old new event state
   pub chooses : Chooses old.endpoints [] None old.state p event state
 
--- a session has started on channel c with these parts
-pub record HasBegun (old : NetworkView) (c : NameId) (parts : List (NameId × ℕ)) (new : NetworkView) : Type 0 where
+-- a session has started on a channel with these parts, and with new processes for the service roles
+pub record HasBegun (old : NetworkView) (k : Channel) (parts : List (NameId × ℕ)) (new : NetworkView) : Type 0 where
   pub machines : List Machine
-  pub joined : Joined old.endpoints c old.state.sid old.state.machines parts machines
-  pub becomes : Becomes old new (event.Start c old.state.sid parts) (record old.state { machines = machines; sid = suc old.state.sid })
+  pub started : HasStarted old.endpoints k old.state.sid old.state.machines parts machines
+  pub becomes : Becomes old new (event.Start k.name old.state.sid (parts ++ served_parts k.serve (length old.state.machines))) (record old.state { machines = machines; sid = suc old.state.sid })
 
 -- ---- numbers
 

@@ -10,7 +10,8 @@ use Rattle.endpoint_machine.specs.Heads.{head_of}
 use Rattle.endpoint_machine.specs.Views.{MachineView}
 use Rattle.net_core.specs.Lanes.{QueuesView, loads_in}
 use Rattle.net_core.specs.Plain.{IsHostless}
-use Rattle.net_core.specs.Machines.{standing_of, is_reserved, has_queue_room}
+use Rattle.session_starts.specs.Machines.{standing_of, is_reserved, AreCounted}
+use Rattle.net_core.specs.Machines.{has_queue_room}
 
 -- the programs, the state, the events so far, and for each process whether there is room for its next event
 pub record NetworkView : Type 0 where
@@ -43,13 +44,6 @@ state_of ms q sid = record { machines = map standing_of ms; queues = loads_in q.
 -- a process has room for its next event, where so many entries more fit the history
 abbrev pub has_room : Endpoints → ℕ → QueuesView → MachineView → Bool
 has_room e entries q m = nat_lt 0 entries && (is_reserved e m && has_queue_room q (head_of e m.machine))
-
-abbrev pub number_of : MachineView → ℕ
-number_of m = m.number
-
--- each process's number is its place
-abbrev pub AreCounted : List MachineView → Type 0
-AreCounted ms = (p n : ℕ) → slice_get (map number_of ms) p ≡ Some n → n ≡ p
 
 -- the programs are without fault, there are fewer than 2^32 processes, each knows its sessions and its number
 pub record IsSound (e : Endpoints) (machines : List MachineView) : Type 0 where

@@ -8,7 +8,8 @@ ghost use Rattle.endpoint_machine.specs.declared.head.Head.TheVariants as head;
 ghost use Rattle.endpoint_machine.specs.Bound.{IsBound};
 ghost use Rattle.endpoint_machine.specs.Heads.{head_of, asks_host};
 ghost use Rattle.net_core.specs.Lanes.{loads_in, room_on};
-ghost use Rattle.net_core.specs.Machines.{is_reserved, has_queue_room, fits_first, can_act, ActsWith};
+ghost use Rattle.session_starts.specs.Machines.{is_reserved};
+ghost use Rattle.net_core.specs.Machines.{has_queue_room, fits_first, can_act, ActsWith};
 
 use crate::queues::Queues;
 use chor_base::{Event, Memory, NameId};

@@ -7,7 +7,6 @@ mod network;
 mod parts;
 mod queues;
 mod schedule;
-mod starts;
 
 pub use answer::{Picked, Step};
 pub use network::Network;

@@ -10,17 +10,18 @@ ghost use Rattle.net_core.specs.Plain.{IsHostless};
 ghost use Rattle.endpoint_machine.specs.declared.head.Head.TheVariants as head;
 ghost use Rattle.net_core.specs.Views.{IsSame, IsReserved};
 ghost use Rattle.net_core.specs.Steps.{HasStepped, HasBegun, HasGrown, FitsMore, Answers};
-ghost use Rattle.net_core.specs.Starts.{partner_for, IsCast, AllJoin, AreApart};
+ghost use Rattle.session_starts.specs.Starts.{AllJoin, AreApart};
+ghost use Rattle.net_core.specs.Starts.{partner_for, IsCast};
 ghost use Rattle.net_core.specs.Heads.{Shows, EachStands, ended_at, why_at, steps_at, is_listed_at, joins_in, leads_at, joins_at_all};
 
 use crate::acts::{act, reserve};
 use crate::answer::Step;
 use crate::parts::{append, channel_named, standing_all};
 use crate::queues::Queues;
-use crate::starts::{join_all, reserve_sessions};
 use chor_base::{Entry, Event, List, Memory, NameId, Why};
-use endpoint_code::Endpoints;
+use endpoint_code::{Channel, Endpoints};
 use endpoint_machine::{Head, Machine};
+use session_starts::start_session;
 use std::alloc::Global;
 use std::marker::Model;
 
@@ -37,7 +38,7 @@ pub struct Network<'a> {
 
 impl<'a> Model for Network<'a> {
     ghost use Rattle.std.specs.Prelude.{map, vec_capacity, vec_len, ◌-◌};
-    ghost use Rattle.net_core.specs.Machines.{standing_of};
+    ghost use Rattle.session_starts.specs.Machines.{standing_of};
     ghost use Rattle.net_core.specs.Views.{NetworkView, IsSound, state_of, has_room};
 
     ghost Value = { NetworkView };
@@ -339,7 +340,7 @@ impl<'a> Network<'a> {
         requires there { pid < length self.old.state.machines }
         requires steps { steps_at self.old.endpoints self.old.state pid ≡ true }
         requires joins { joins_at_all self.old.endpoints self.old.state pid ≡ true }
-        requires fits { self.old.state.sid + 1 < 2 ^ 32 }
+        requires fits { FitsMore self.old 1 }
         ensures ok { OnOk result (HasStepped self.old pid self.new) }
         ensures grown { OnOk result (HasGrown self.old self.new) }
         ensures err { OnErr result (IsSame self.old self.new) }
@@ -352,31 +353,24 @@ impl<'a> Network<'a> {
             unreachable!()
         };
         let parts = self.cast(pid, channel, own, found.active.as_slice())?;
-        self.begin(channel, parts)
+        self.begin(found, parts)
     }
 
     // Starts a session on a channel with these processes.
-    fn begin(&mut self, channel: NameId, parts: List<(NameId, u32)>) -> Result<(), Memory>
-        requires joins { AllJoin self.old.endpoints self.old.state.machines channel parts }
+    fn begin(&mut self, channel: &Channel, parts: List<(NameId, u32)>) -> Result<(), Memory>
+        requires channel { channel_of self.old.endpoints.channels channel.now.name ≡ Some channel.now }
+        requires joins { AllJoin self.old.endpoints self.old.state.machines channel.now.name parts }
         requires apart { AreApart parts }
-        requires fits { self.old.state.sid + 1 < 2 ^ 32 }
-        ensures ok { OnOk result (HasBegun self.old channel parts self.new) }
+        requires fits { FitsMore self.old 1 }
+        ensures ok { OnOk result (HasBegun self.old channel.now parts self.new) }
         ensures err { OnErr result (IsSame self.old self.new) }
     {
         self.history.reserve(1)?;
-        let endpoints = self.endpoints;
-        reserve_sessions(endpoints, self.machines.as_mut_slice(), parts.as_slice())?;
         let sid = self.sid;
-        join_all(
-            endpoints,
-            self.machines.as_mut_slice(),
-            channel,
-            sid,
-            parts.as_slice(),
-        );
+        let parts = start_session(self.endpoints, &mut self.machines, channel, sid, parts)?;
         self.sid = sid + 1;
         let event = Event::Start {
-            channel,
+            channel: channel.name,
             sid,
             parts,
         };

@@ -3,8 +3,7 @@
 ghost use Rattle.std.specs.Prelude.{◌≡◌, ◌<◌, ◌^◌, ◌++◌, ◌∷◌, [], length, map, IfOk, vec_len, vec_capacity};
 ghost use Rattle.std.specs.Option.{option_copied};
 ghost use Rattle.endpoint_code.specs.Network.{channel_of, standing_all};
-ghost use Rattle.net_core.specs.Machines.{standing_of};
-ghost use Rattle.net_core.specs.Views.{AreCounted};
+ghost use Rattle.session_starts.specs.Machines.{standing_of, AreCounted};
 
 use chor_base::{Entry, Event, List, Memory, NameId};
 use endpoint_code::{Channel, Process};

@@ -24,7 +24,6 @@ use Rattle.chor_semantics.proofs.Grown.{length-trees_of}
 use Rattle.endpoint_code.specs.declared.code.CodeId.{CodeId}
 use Rattle.endpoint_code.specs.declared.code.CodeNode.{CodeNode}
 use Rattle.endpoint_code.specs.declared.code.CodeNode.TheVariants.{Join, Send, Recv, Pick, Branch, Throw, Catch, Set, Show, Host, If, Call, End}
-use Rattle.endpoint_code.specs.declared.endpoints.Channel.{Channel}
 use Rattle.endpoint_code.specs.declared.endpoints.Endpoints.{Endpoints}
 use Rattle.endpoint_code.specs.declared.endpoints.Process.{Process}
 use Rattle.endpoint_code.specs.Code.{children_of, IsClosed}
@@ -408,10 +407,4 @@ plain_node f t n h (is_part p) =
     plain_code n ∙ ap is_light_code (p.does.tree []) ∙ light_part p.process.name p.node (light_thin t p.node stands)
 
 pub projected_plain : (f : File) (e : Endpoints) (t : Thin) → HasShape f t → Projects f e → HoldsOnly f e → IsPlain e
-projected_plain f e t h p o = record {
-  nodes = λ k d lt. plain_node f t (get_or e.code.nodes k d) h (o.nodes k d lt);
-  channels = subst (λ (ks : List Channel). All (λ (k : Channel). k.serve ≡ []) ks) (sym (p.channels ∙ channels_of f t h)) (All-cons (λ k. k.serve ≡ []) the_channel [] refl (All-nil (λ k. k.serve ≡ [])));
-}
-  where
-    the_channel : Channel
-    the_channel = record { name = t.channel; active = t.first_role ∷ t.second_role ∷ []; serve = [] }
+projected_plain f e t h p o k d lt = plain_node f t (get_or e.code.nodes k d) h (o.nodes k d lt)

@@ -3,11 +3,11 @@ use Rattle.std.proofs.lemmas.List.{take_more, map_push, length-map}
 use Rattle.endpoint_code.specs.Network.{Machine, standing_all}
 use Rattle.endpoint_code.specs.declared.endpoints.Process.{Process}
 use Rattle.endpoint_machine.specs.Views.{MachineView}
-use Rattle.net_core.specs.Machines.{standing_of}
-use Rattle.net_core.specs.Views.{AreCounted}
+use Rattle.session_starts.specs.Machines.{standing_of}
+use Rattle.session_starts.specs.Machines.{AreCounted}
 use Rattle.net_core.proofs.Turns.{standing_push}
 use Rattle.net_core.proofs.Scopes.{length-standing_all}
-use Rattle.net_core.proofs.Counts.{counted_push}
+use Rattle.session_starts.proofs.Counts.{counted_push}
 use Rattle.net_core.proofs.parts.standing_all.Goals as goal
 
 length_take : {X : Type 0} (i : ℕ) (xs : List X) → i < length xs → length (take i xs) ≡ i

@@ -1,7 +1,7 @@
 use Rattle.std.proofs.Common.{◌≡◌, take, map}
 use Rattle.endpoint_code.specs.Network.{standing_all}
-use Rattle.net_core.specs.Machines.{standing_of}
-use Rattle.net_core.specs.Views.{AreCounted}
+use Rattle.session_starts.specs.Machines.{standing_of}
+use Rattle.session_starts.specs.Machines.{AreCounted}
 use Rattle.net_core.proofs.parts.standing_all.Given as goal
 
 abbrev pub invariant-loop-process : goal.invariant-loop-process

@@ -6,7 +6,8 @@ use Rattle.endpoint_code.specs.Network.{Machine, NetworkState}
 use Rattle.endpoint_machine.specs.Heads.{head_of}
 use Rattle.endpoint_machine.specs.Bound.{IsBound}
 use Rattle.net_core.specs.Lanes.{loads_in}
-use Rattle.net_core.specs.Machines.{standing_of, is_reserved, has_queue_room}
+use Rattle.session_starts.specs.Machines.{standing_of, is_reserved}
+use Rattle.net_core.specs.Machines.{has_queue_room}
 use Rattle.net_core.specs.Views.{NetworkView, has_room}
 use Rattle.net_core.proofs.Lanes.{on_both}
 use Rattle.net_core.proofs.Fields.{within, shows_in, same_but_room}

@@ -4,14 +4,14 @@ use Rattle.endpoint_code.specs.declared.endpoints.Channel.{Channel}
 use Rattle.endpoint_code.specs.Network.{channel_of}
 use Rattle.endpoint_code.specs.Faults.{IsFaultless}
 use Rattle.chor_base.specs.declared.names.NameId.{NameId}
-use Rattle.net_core.specs.Plain.{IsHostless}
+use Rattle.session_starts.specs.Starts.{AllJoin}
 use Rattle.net_core.specs.Starts.{IsCast}
 use Rattle.net_core.specs.Views.{NetworkView}
 use Rattle.net_core.specs.Steps.{HasBegun}
 use Rattle.net_core.proofs.Lanes.{on_ok}
 use Rattle.net_core.proofs.Fields.{grown_begun}
 use Rattle.net_core.proofs.Casts.{cast_joins, cast_apart}
-use Rattle.net_core.proofs.Begins.{stands_joining, channel_distinct, begins, join_stands, join_channel}
+use Rattle.net_core.proofs.Begins.{stands_joining, channel_distinct, channel_named, begins, join_stands, join_channel}
 use Rattle.net_core.proofs.network.Network.start.Goals as goal
 
 pub unreachable-requires-in_default-channel_named : goal.unreachable-requires-in_default-channel_named
@@ -24,49 +24,55 @@ unreachable-requires-in_default-channel_named c =
     let no : None ≡ Some active.0 = none ∙ active.1 in
     cc
 
-pub begin-requires-clause-joins : goal.begin-requires-clause-joins
-begin-requires-clause-joins c =
+pub begin-requires : goal.begin-requires
+begin-requires c =
     let v = c.args.self.now in
-    let t = join_stands v.endpoints v.state c.args.pid c.in-Join.channel c.in-Join.own c.in-Join.ensures in
-    let s = t.2 in
-    cast_joins c.in_ok-parts.ensures (stands_joining v.endpoints v.state c.args.pid _ _ _ _ s)
-
-pub begin-requires-clause-apart : goal.begin-requires-clause-apart
-begin-requires-clause-apart c =
-    let v = c.args.self.now in
-    let t = join_stands v.endpoints v.state c.args.pid c.in-Join.channel c.in-Join.own c.in-Join.ensures in
-    let s = t.2 in
-    let found : channel_of v.endpoints.channels c.in-Join.channel ≡ Some c.in-Some.found.now =
+    let s = (join_stands v.endpoints v.state c.args.pid c.in-Join.channel c.in-Join.own c.in-Join.ensures).2 in
+    let k = c.in-Some.found.now in
+    let found : channel_of v.endpoints.channels c.in-Join.channel ≡ Some k =
     sym (c.in-Some.ensures ∙ ap (λ (ks : List Channel). channel_of ks c.in-Join.channel) c.as_slice.ensures ∙ ap (λ (w : NetworkView). channel_of w.endpoints.channels c.in-Join.channel) c.self.view_is)
     in
-    let cast : IsCast v.endpoints v.state.machines c.in-Join.channel c.args.pid c.in-Join.own c.in-Some.found.now.active c.in_ok-parts.parts =
+    let named = channel_named v.endpoints.channels c.in-Join.channel k found in
+    let cast : IsCast v.endpoints v.state.machines c.in-Join.channel c.args.pid c.in-Join.own k.active c.in_ok-parts.parts =
     subst (λ (rs : List NameId). IsCast v.endpoints v.state.machines c.in-Join.channel c.args.pid c.in-Join.own rs c.in_ok-parts.parts) c.as_slice-2.ensures c.in_ok-parts.ensures
     in
-    cast_apart cast (channel_distinct v.endpoints c.in-Join.channel c.in-Some.found.now (subst (λ (w : NetworkView). IsFaultless w.endpoints) c.self.view_is c.self.invariant.faultless) found)
-    (stands_joining v.endpoints v.state c.args.pid _ _ _ _ s)
+    let joins = stands_joining v.endpoints v.state c.args.pid _ _ _ _ s in
+    record {
+      channel = subst (λ (x : NameId). channel_of v.endpoints.channels x ≡ Some k) (sym named) found;
+      joins = subst (λ (x : NameId). AllJoin v.endpoints v.state.machines x c.in_ok-parts.parts) (sym named) (cast_joins cast joins);
+      apart =
+          cast_apart cast (channel_distinct v.endpoints c.in-Join.channel k (subst (λ (w : NetworkView). IsFaultless w.endpoints) c.self.view_is c.self.invariant.faultless) found)
+          joins;
+      fits = c.requires.fits;
+    }
 
 pub returns-clause-ok : goal.returns-clause-ok
 returns-clause-ok c =
     let v = c.args.self.now in
     let t = join_stands v.endpoints v.state c.args.pid c.in-Join.channel c.in-Join.own c.in-Join.ensures in
-    let s = t.2 in
-    let found : channel_of v.endpoints.channels c.in-Join.channel ≡ Some c.in-Some.found.now =
+    let k = c.in-Some.found.now in
+    let found : channel_of v.endpoints.channels c.in-Join.channel ≡ Some k =
     sym (c.in-Some.ensures ∙ ap (λ (ks : List Channel). channel_of ks c.in-Join.channel) c.as_slice.ensures ∙ ap (λ (w : NetworkView). channel_of w.endpoints.channels c.in-Join.channel) c.self.view_is)
     in
-    let cast : IsCast v.endpoints v.state.machines c.in-Join.channel c.args.pid c.in-Join.own c.in-Some.found.now.active c.in_ok-parts.parts =
+    let cast : IsCast v.endpoints v.state.machines c.in-Join.channel c.args.pid c.in-Join.own k.active c.in_ok-parts.parts =
     subst (λ (rs : List NameId). IsCast v.endpoints v.state.machines c.in-Join.channel c.args.pid c.in-Join.own rs c.in_ok-parts.parts) c.as_slice-2.ensures c.in_ok-parts.ensures
     in
     on_ok c.begin.result
-    (λ (h : HasBegun c.args.self.now c.in-Join.channel c.in_ok-parts.parts c.begin.new.self).
+    (λ (h : HasBegun c.args.self.now k c.in_ok-parts.parts c.begin.new.self).
     record {
       event = _;
       state = _;
       becomes = h.becomes;
-      chooses =
-          begins v.endpoints v.state c.args.pid c.in-Join.channel c.in-Join.own t.0 t.1 c.in-Some.found.now c.in_ok-parts.parts h.machines s
-          (subst (λ (w : NetworkView). IsHostless w.endpoints) c.self.view_is c.self.invariant.hostless) found cast h.joined;
+      chooses = begins v.endpoints v.state c.args.pid c.in-Join.channel c.in-Join.own t.0 t.1 k c.in_ok-parts.parts h.machines t.2 found cast h.started;
     })
     c.begin.ensures.ok
 
 pub returns-clause-grown : goal.returns-clause-grown
-returns-clause-grown c = on_ok c.begin.result (grown_begun c.args.self.now c.in-Join.channel c.in_ok-parts.parts c.begin.new.self) c.begin.ensures.ok
+returns-clause-grown c =
+    let v = c.args.self.now in
+    let k = c.in-Some.found.now in
+    let found : channel_of v.endpoints.channels c.in-Join.channel ≡ Some k =
+    sym (c.in-Some.ensures ∙ ap (λ (ks : List Channel). channel_of ks c.in-Join.channel) c.as_slice.ensures ∙ ap (λ (w : NetworkView). channel_of w.endpoints.channels c.in-Join.channel) c.self.view_is)
+    in
+    let here : channel_of v.endpoints.channels k.name ≡ Some k = subst (λ (x : NameId). channel_of v.endpoints.channels x ≡ Some k) (sym (channel_named v.endpoints.channels c.in-Join.channel k found)) found in
+    on_ok c.begin.result (grown_begun c.args.self.now k c.in_ok-parts.parts c.begin.new.self here) c.begin.ensures.ok

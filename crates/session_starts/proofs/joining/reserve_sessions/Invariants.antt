@@ -1,9 +1,9 @@
 use Rattle.std.proofs.Common.{◌≡◌, true, take, map}
 use Rattle.std.specs.Prelude.{All}
-use Rattle.net_core.specs.Machines.{standing_of}
-use Rattle.net_core.specs.Views.{number_of}
-use Rattle.net_core.specs.Starts.{reserved_in}
-use Rattle.net_core.proofs.starts.reserve_sessions.Given as goal
+use Rattle.session_starts.specs.Machines.{standing_of}
+use Rattle.session_starts.specs.Machines.{number_of}
+use Rattle.session_starts.specs.Starts.{reserved_in}
+use Rattle.session_starts.proofs.joining.reserve_sessions.Given as goal
 
 abbrev pub invariant-loop-part : goal.invariant-loop-part
 invariant-loop-part l = record {

@@ -1,6 +1,6 @@
-use Rattle.net_core.specs.Views.{number_of}
-use Rattle.net_core.proofs.Joins.{one_joins, one_bound, room_within, mapped_get}
-use Rattle.net_core.proofs.starts.join_one.Goals as goal
+use Rattle.session_starts.specs.Machines.{number_of}
+use Rattle.session_starts.proofs.Joins.{one_joins, one_bound, room_within, mapped_get}
+use Rattle.session_starts.proofs.joining.join_one.Goals as goal
 
 pub returns-clause-put : goal.returns-clause-put
 returns-clause-put c =

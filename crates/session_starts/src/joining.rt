@@ -5,9 +5,9 @@ ghost use Rattle.endpoint_code.specs.Network.{place_at};
 ghost use Rattle.endpoint_code.specs.NetworkRuns.{joins_there};
 ghost use Rattle.endpoint_code.specs.Faults.{IsFaultless};
 ghost use Rattle.endpoint_machine.specs.Bound.{IsBound};
-ghost use Rattle.net_core.specs.Machines.{standing_of};
-ghost use Rattle.net_core.specs.Views.{number_of};
-ghost use Rattle.net_core.specs.Starts.{AllJoin, AreApart, reserved_in, Joined, JoinsOne};
+ghost use Rattle.session_starts.specs.Machines.{standing_of};
+ghost use Rattle.session_starts.specs.Machines.{number_of};
+ghost use Rattle.session_starts.specs.Starts.{AllJoin, AreApart, reserved_in, Joined, JoinsOne};
 
 use chor_base::{Memory, NameId};
 use endpoint_code::Endpoints;

@@ -1,7 +1,7 @@
 use Rattle.std.proofs.Common.{◌∙◌, map}
-use Rattle.net_core.specs.Machines.{standing_of}
-use Rattle.net_core.proofs.Joins.{to_join_more, to_join_here, to_join_all}
-use Rattle.net_core.proofs.starts.join_all.Goals as goal
+use Rattle.session_starts.specs.Machines.{standing_of}
+use Rattle.session_starts.proofs.Joins.{to_join_more, to_join_here, to_join_all}
+use Rattle.session_starts.proofs.joining.join_all.Goals as goal
 
 pub loop-part-preserved : goal.loop-part-preserved
 loop-part-preserved c = record {

@@ -1,10 +1,10 @@
 use Rattle.std.proofs.Common.{◌≡◌, drop, map}
 use Rattle.std.specs.Prelude.{All}
 use Rattle.endpoint_machine.specs.Bound.{IsBound}
-use Rattle.net_core.specs.Machines.{standing_of}
-use Rattle.net_core.specs.Views.{number_of}
-use Rattle.net_core.proofs.Joins.{ToJoin}
-use Rattle.net_core.proofs.starts.join_all.Given as goal
+use Rattle.session_starts.specs.Machines.{standing_of}
+use Rattle.session_starts.specs.Machines.{number_of}
+use Rattle.session_starts.proofs.Joins.{ToJoin}
+use Rattle.session_starts.proofs.joining.join_all.Given as goal
 
 abbrev pub invariant-loop-part : goal.invariant-loop-part
 invariant-loop-part l = record {

@@ -3,12 +3,12 @@ use Rattle.std.specs.Prelude.{All}
 use Rattle.std.proofs.lemmas.List.{take_all}
 use Rattle.chor_base.specs.declared.names.NameId.{NameId}
 use Rattle.endpoint_machine.specs.Bound.{IsBound}
-use Rattle.net_core.specs.Machines.{standing_of}
-use Rattle.net_core.specs.Views.{number_of}
-use Rattle.net_core.specs.Starts.{reserved_in}
-use Rattle.net_core.proofs.Rooms.{reserved_is, is_room}
-use Rattle.net_core.proofs.Joins.{mapped_get, bound_here, reserved_put, reserved_stays, room_taken}
-use Rattle.net_core.proofs.starts.reserve_sessions.Goals as goal
+use Rattle.session_starts.specs.Machines.{standing_of}
+use Rattle.session_starts.specs.Machines.{number_of}
+use Rattle.session_starts.specs.Starts.{reserved_in}
+use Rattle.session_starts.proofs.Places.{reserved_is, is_room}
+use Rattle.session_starts.proofs.Joins.{mapped_get, bound_here, reserved_put, reserved_stays, room_taken}
+use Rattle.session_starts.proofs.joining.reserve_sessions.Goals as goal
 
 pub reserve-requires-clause-bound : goal.reserve-requires-clause-bound
 reserve-requires-clause-bound c =

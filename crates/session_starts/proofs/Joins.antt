@@ -1,7 +1,8 @@
 -- Starts of sessions.
 use Rattle.std.proofs.Common.{◌≡◌, ℕ, zero, suc, ◌+◌, ◌<◌, ◌≤◌, ◌==◌, true, List, [], ◌∷◌, length, get_or, drop, take, refl, sym, ap, ◌∙◌, subst, Option, Some, None, arith}
 use Rattle.std.specs.Prelude.{slice_get, slice_set, map, All, ◌≢◌}
-use Rattle.std.proofs.lemmas.List.{drop_more, drop_all, map-set}
+use Rattle.std.proofs.lemmas.List.{drop_more, drop_all, map-set, length-map}
+use Rattle.std.proofs.lemmas.Option.{slice_get_within}
 use Rattle.std.proofs.lemmas.List.Elements.{All-set, All-head, All-tail, All-more, All-weaker}
 use Rattle.chor_base.specs.declared.names.NameId.{NameId}
 use Rattle.endpoint_code.specs.declared.code.CodeNode.{CodeNode}
@@ -10,20 +11,34 @@ use Rattle.endpoint_code.specs.declared.endpoints.Endpoints.{Endpoints}
 use Rattle.endpoint_code.specs.Network.{Machine, NetworkState, Sessions, Place, node_at, place_of, place_in, place_at, node_joins, place_joins, joiners, one_joiner, with_machines}
 use Rattle.endpoint_code.specs.Network as net
 use Rattle.endpoint_code.specs.NetworkRuns.{joins_there}
-use Rattle.net_core.specs.Machines.{standing_of, is_reserved}
+use Rattle.session_starts.specs.Machines.{standing_of, is_reserved}
 use Rattle.endpoint_machine.specs.declared.head.Head.TheVariants as head
 use Rattle.endpoint_machine.specs.Bound.{IsBound}
 use Rattle.endpoint_machine.specs.Heads.{place_head, head_of}
 use Rattle.endpoint_machine.specs.Steps.{HasJoined}
 use Rattle.endpoint_machine.specs.Views.{MachineView}
-use Rattle.net_core.specs.Starts.{AllJoin, AreApart, one_part, reserved_of, reserved_in, machines_alone, Joined, JoinsOne}
-use Rattle.net_core.proofs.Turns.{all_at}
-use Rattle.net_core.proofs.Lanes.{both_true, name_same}
+use Rattle.session_starts.specs.Starts.{AllJoin, AreApart, one_part, reserved_of, reserved_in, machines_alone, Joined, JoinsOne}
+use Rattle.session_starts.proofs.Places.{all_at}
+use Rattle.session_starts.proofs.Places.{both_true, name_same}
 
 pub room_within : (e : Endpoints) (ms : List MachineView) (p : ℕ) → reserved_in e ms p ≡ true → p < length ms
 room_within e [] p h = absurd cc
 room_within e (m ∷ ms) zero h = omega arith
 room_within e (m ∷ ms) (suc p) h = let k = room_within e ms p h in omega arith
+
+joins_within : (e : Endpoints) (ms : List Machine) (c r : NameId) (q : ℕ) → joins_there (place_at e (slice_get ms q)) c r ≡ true → q < length ms
+joins_within e ms c r q h = go (slice_get ms q) refl h
+  where
+    go : (o : Option Machine) → slice_get ms q ≡ o → joins_there (place_at e o) c r ≡ true → q < length ms
+    go None a k = absurd cc
+    go (Some m) a k = slice_get_within ms q m a
+
+-- who joins is there
+pub all_within : (e : Endpoints) (ms : List MachineView) (c : NameId) (ps qs : List (NameId × ℕ)) → qs ≡ ps → AllJoin e (map standing_of ms) c ps → All (λ q. q.1 < length ms) qs
+all_within e ms c ps qs same all =
+    subst (All (λ q. q.1 < length ms)) (sym same)
+    (All-weaker (λ (q : NameId × ℕ). joins_there (place_at e (slice_get (map standing_of ms) q.1)) c q.0 ≡ true) (λ (q : NameId × ℕ). q.1 < length ms)
+    (λ q h. let k = joins_within e (map standing_of ms) c q.0 q.1 h in let l = length-map ms standing_of in omega arith) ps all)
 
 runner_in : (ms : List MachineView) (p : ℕ) (d : MachineView) → p < length ms → slice_get (map standing_of ms) p ≡ Some (standing_of (get_or ms p d))
 runner_in [] p d lt = absurd (omega arith)

@@ -1,0 +1,5 @@
+pub mod Places
+pub mod Joins
+pub mod Counts
+pub mod Served
+pub mod Started

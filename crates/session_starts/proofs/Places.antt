@@ -1,0 +1,37 @@
+-- Names, and places of lists.
+use Rattle.std.proofs.Common.{◌≡◌, ℕ, ◌==◌, ◌&&◌, Bool, true, false, List, refl, ap, ◌∙◌, subst, Some, arith}
+use Rattle.std.specs.Prelude.{slice_get, All, nat_lt}
+use Rattle.std.proofs.lemmas.Bool.Decides.{nat_tests}
+use Rattle.std.proofs.lemmas.Option.{get_or_from_slice_get, slice_get_within}
+use Rattle.chor_base.specs.declared.names.NameId.{NameId}
+use Rattle.endpoint_code.specs.declared.endpoints.Endpoints.{Endpoints}
+use Rattle.endpoint_code.specs.Network.{node_at}
+use Rattle.endpoint_machine.specs.Views.{MachineView, IsReserved, passes}
+use Rattle.session_starts.specs.Machines.{is_reserved}
+
+pub name_same : (a b : NameId) → (a.0 == b.0) ≡ true → a ≡ b
+name_same a b h = let e : a.0 ≡ b.0 = grind (arith, nat_tests) in ap (λ (n : ℕ). let r : NameId = record { 0 = n } in r) e
+
+pub both_true : (a b : Bool) → (a && b) ≡ true → (a ≡ true) × (b ≡ true)
+both_true true b h = (refl, h)
+both_true false b h = absurd cc
+
+pub all_at : {X : Type 0} (P : X → Type 0) (xs : List X) (i : ℕ) (x : X) → All P xs → slice_get xs i ≡ Some x → P x
+all_at P xs i x all h = subst P (get_or_from_slice_get xs i x x h) (all i x (slice_get_within xs i x h))
+
+-- the parts of a process's room
+pub reserved_is : (e : Endpoints) (m : MachineView) → is_reserved e m ≡ true → IsReserved e m
+reserved_is e m h =
+    let parts = both_true (nat_lt 0 m.room.variables) (nat_lt 0 m.room.sessions && nat_lt (passes (node_at e m.machine.at)) m.room.beyond) h in
+    let others = both_true (nat_lt 0 m.room.sessions) (nat_lt (passes (node_at e m.machine.at)) m.room.beyond) parts.1 in
+    let a : nat_lt 0 m.room.variables ≡ true = parts.0 in
+    let b : nat_lt 0 m.room.sessions ≡ true = others.0 in
+    let c : nat_lt (passes (node_at e m.machine.at)) m.room.beyond ≡ true = others.1 in
+    record { variables = grind (arith, nat_tests); sessions = grind (arith, nat_tests); beyond = grind (arith, nat_tests) }
+
+pub is_room : (e : Endpoints) (m : MachineView) → IsReserved e m → is_reserved e m ≡ true
+is_room e m r =
+    let a : nat_lt 0 m.room.variables ≡ true = (let i = r.variables in grind (arith, nat_tests)) in
+    let b : nat_lt 0 m.room.sessions ≡ true = (let i = r.sessions in grind (arith, nat_tests)) in
+    let c : nat_lt (passes (node_at e m.machine.at)) m.room.beyond ≡ true = (let i = r.beyond in grind (arith, nat_tests)) in
+    ap (λ (t : Bool). t && (nat_lt 0 m.room.sessions && nat_lt (passes (node_at e m.machine.at)) m.room.beyond)) a ∙ ap (λ (t : Bool). t && nat_lt (passes (node_at e m.machine.at)) m.room.beyond) b ∙ c
