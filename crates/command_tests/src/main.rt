@@ -1,0 +1,34 @@
+//! Tests of the commands. Each case of the files that the file `cases` lists is put to `chor`, and the
+//! answer is written: the case's title, the status's number, and the text. The file `stdout` of this
+//! crate has the right answers, worked out by hand.
+//!
+//! A file of cases begins with a line that says what it is about. A line `=== WORDS: NAME` begins a case: the
+//! words of the command line, in which `FILE` is the case's source, and what the case shows. The
+//! lines after it, up to the next `===`, are the source. What stands after a line `=== head` comes
+//! before each source of that file. What stands after a line `=== base` is a source of which the
+//! cases of that file are changes: the text of lines that begin with `- ` stands in it once, and
+//! the text of the lines with `+ ` that follow comes in its place.
+#![tactic(auto)]
+
+use crate::cases::answer_cases;
+use crate::hosts::host_functions;
+use crate::made::answer_made;
+use std::fs;
+
+mod calls;
+mod cases;
+mod changes;
+mod hosts;
+mod made;
+
+fn main(rt: HostRuntime) -> anyhow::Result<()> {
+    let hosts = host_functions(rt.alloc())?;
+    let index = fs::read_to_string(&rt, "cases")?;
+    for name in index.lines() {
+        let text = fs::read_to_string(&rt, name)?;
+        println!(rt; "##### {name}")?;
+        answer_cases(&rt, rt.alloc(), &hosts, text.as_str())?;
+    }
+    println!(rt; "##### made")?;
+    answer_made(&rt, rt.alloc(), &hosts)
+}
