@@ -11,4 +11,3 @@ pub mod local_types;
 pub mod refusals;
 pub mod sources;
 pub mod transcripts;
-pub mod typing;
