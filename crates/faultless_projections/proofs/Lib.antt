@@ -1,0 +1,9 @@
+pub mod Names
+pub mod Knows
+pub mod Passed
+pub mod Along
+pub mod Lists
+pub mod Starts
+pub mod Heads
+pub mod Files
+pub mod Whole
