@@ -1,11 +1,9 @@
 -- The units of a file, from the codes of their bodies.
-use Rattle.std.proofs.Common.{◌≡◌, ℕ, ◌+◌, ◌<◌, ◌≤◌, true, List, [], ◌∷◌, ◌++◌, length, take, drop, get_or, map, refl, sym, ap, ◌∙◌, subst, arith, append_assoc}
-use Rattle.std.specs.Prelude.{All, nat_lt}
-use Rattle.std.specs.List.{AllZip, flat_map, list_all}
-use Rattle.std.proofs.lemmas.Bool.{and_parts}
-use Rattle.std.proofs.lemmas.Bool.Decides.{nat_tests}
+use Rattle.std.proofs.Common.{◌≡◌, ℕ, ◌+◌, ◌<◌, ◌≤◌, List, [], ◌∷◌, ◌++◌, length, take, drop, get_or, map, refl, sym, ap, ◌∙◌, subst, arith, append_assoc}
+use Rattle.std.specs.Prelude.{All}
+use Rattle.std.specs.List.{AllZip, flat_map}
 use Rattle.std.proofs.lemmas.List.{take_more, take-append-drop, take_all}
-use Rattle.std.proofs.lemmas.List.Elements.{All-nil, All-cons, All-append, All-same}
+use Rattle.std.proofs.lemmas.List.Elements.{All-nil, All-append, All-same}
 use Rattle.chor_base.specs.declared.names.NameId.{NameId}
 use Rattle.chor_tree.specs.declared.file.File.{File}
 use Rattle.chor_tree.specs.declared.file.Named.{Named as Written}
@@ -31,22 +29,11 @@ use Rattle.block_codes.specs.declared.stop.Stop.{Stop}
 use Rattle.block_codes.specs.Walks.{IsCoded, AreCodes, StopsAt}
 use Rattle.block_codes.proofs.Zips.{zip_weaker}
 use Rattle.block_codes.proofs.Walks.{stops_left, stops_right}
+use Rattle.service_codes.proofs.Names.{procs_inside}
+use Rattle.file_codes.specs.declared.units.Units.{Units}
 use Rattle.file_codes.specs.Units.{params_of, procedure_from, process_from, sites_in_procs, IsProcedureIn, AreProcedures, AreUnits}
 
 -- ---- bodies stand in the table
-
-below : (m n : ℕ) → nat_lt m n ≡ true → m < n
-below m n h = grind (arith, nat_tests)
-
-pub body_inside : (f : File) → f.body.0 < length f.tree.nodes
-body_inside f = below f.body.0 (length f.tree.nodes) (and_parts _ _ f.kept.begin).0
-
-pub procs_inside : (f : File) → All (λ h. h.body.0 < length f.tree.nodes) f.procs
-procs_inside f = all f.procs (and_parts _ _ f.kept.begin).1
-  where
-    all : (hs : List Proc) → list_all (λ (b : NodeId). nat_lt b.0 (length f.tree.nodes)) (map (λ p. p.body) hs) ≡ true → All (λ h. h.body.0 < length f.tree.nodes) hs
-    all [] e = All-nil (λ h. h.body.0 < length f.tree.nodes)
-    all (h ∷ hs) e = let both = and_parts _ _ e in All-cons (λ h. h.body.0 < length f.tree.nodes) h hs (below h.body.0 (length f.tree.nodes) both.0) (all hs both.1)
 
 -- the body of a procedure at a place
 pub proc_inside : (f : File) (hs : List Proc) (i : ℕ) (h : Proc) → hs ≡ f.procs → i < length hs → h ≡ get_or hs i h → h.body.0 < length f.tree.nodes
@@ -62,7 +49,7 @@ code_here f id nodes r x h = record {
   code = subst (λ (c : Choreography). IsCodeOf f.procs r c (code_at nodes x.code)) (block_choreography f.tree.nodes id) h.code;
 }
 
-has_kept : {f : File} {r : NameId} {c : Choreography} {old new : List CodeNode} (id : _) → Keeps old new → HasCode f r c old id → HasCode f r c new id
+pub has_kept : {f : File} {r : NameId} {c : Choreography} {old new : List CodeNode} (id : _) → Keeps old new → HasCode f r c old id → HasCode f r c new id
 has_kept {f = f} {r = r} {c = c} id k h = record {
   inside = let n = kept_length k in let m = h.inside in omega arith;
   code = subst (IsCodeOf f.procs r c) (sym (code_kept id k h.inside)) h.code;
@@ -195,3 +182,11 @@ module _ (f : File) where
           (All-append (λ t. HasClash f t → ⊥) (sites_in_procs f f.procs) in_main p.clean
           (subst (λ (l : List NameId). All (λ t. HasClash f t → ⊥) (sites_in l (body_of f f.body))) is c.clean));
     }
+
+-- units whose table has grown
+pub units_kept : (f : File) (u : Units) (code : Code) → Keeps u.code.nodes code.nodes → AreUnits f u → AreUnits f (record { procedures = u.procedures; processes = u.processes; code = code })
+units_kept f u code k h = record {
+  procedures = zip_weaker (IsProcedureIn f u.code.nodes) (IsProcedureIn f code.nodes) (λ p q. procedure_kept p q k) (parameters_of f.procs) u.procedures h.procedures;
+  processes = zip_weaker (IsProcessIn f u.code.nodes) (IsProcessIn f code.nodes) (λ w q p. record { name = p.name; body = has_kept q.body k p.body }) f.processes u.processes h.processes;
+  clean = h.clean;
+}

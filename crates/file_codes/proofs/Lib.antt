@@ -1,4 +1,3 @@
-pub mod Starts
 pub mod Bodies
 pub mod Numbers
 pub mod Projected

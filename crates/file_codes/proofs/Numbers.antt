@@ -1,7 +1,7 @@
 -- The names of a file's units are in its tables.
-use Rattle.std.proofs.Common.{◌≡◌, Bool, true, false, if◌then◌else◌, List, [], ◌∷◌, map, refl, ap, ◌∙◌}
+use Rattle.std.proofs.Common.{◌≡◌, Bool, true, false, if◌then◌else◌, List, [], ◌∷◌, map, ◌&&◌, refl, ap, ◌∙◌}
 use Rattle.std.specs.Prelude.{All}
-use Rattle.std.specs.List.{AllZip, list_all, filter}
+use Rattle.std.specs.List.{AllZip, list_all, filter, flat_map}
 use Rattle.std.proofs.lemmas.Bool.{and_parts, and_from}
 use Rattle.std.proofs.lemmas.List.Elements.{All-nil, All-cons, All-head, All-tail, All-append}
 use Rattle.chor_base.specs.declared.names.NameId.{NameId}
@@ -14,11 +14,13 @@ use Rattle.chor_tree.specs.declared.file.SessionParam.{SessionParam}
 use Rattle.chor_tree.specs.Kept.{names_there, proc_there, process_param_there, session_param_there, service_there as declared_there}
 use Rattle.endpoint_code.specs.declared.code.CodeNode.{CodeNode}
 use Rattle.endpoint_code.specs.declared.endpoints.Procedure.{Procedure}
+use Rattle.endpoint_code.specs.declared.endpoints.ServiceCode.{ServiceCode}
 use Rattle.endpoint_code.specs.declared.endpoints.Process.{Process}
-use Rattle.endpoint_code.specs.Kept.{channel_there, procedure_there}
+use Rattle.endpoint_code.specs.Kept.{channel_there, procedure_there, service_there}
 use Rattle.projection.specs.Codes.{holds, sessions_for}
 use Rattle.projection.specs.Projects.{channel_from, names_of, parameters_of}
 use Rattle.projection.specs.Making.{IsProcessIn}
+use Rattle.service_codes.specs.Services.{IsServiceIn}
 use Rattle.file_codes.specs.Units.{IsProcedureIn}
 
 module _ (n : NameId → Bool) where
@@ -87,3 +89,34 @@ module _ (n : NameId → Bool) where
       let s : list_all n q.sessions ≡ true = ap (list_all n) z.0.sessions ∙ sessions_are x.1.name.name x.0.sessions t.sessions in
       All-cons (λ (q : Procedure). procedure_there n q ≡ true) q qs (and_from _ _ (and_from _ _ (ap n z.0.name ∙ t.name) (ap n z.0.param ∙ t.param)) s)
       (procedures_are f nodes xs qs (All-tail ParamThere x xs h) z.1)
+
+  -- ---- services
+
+  abbrev PairThere : Written × Written → Type 0
+  PairThere x = (n x.0.name && n x.1.name) ≡ true
+
+  pairs_there : (s : Service) (rs : List Written) → n s.name.name ≡ true → names_there n rs ≡ true → All PairThere (map (λ r. (s.name, r)) rs)
+  pairs_there s [] a h = All-nil PairThere
+  pairs_there s (r ∷ rs) a h = let both = and_parts _ _ h in All-cons PairThere (s.name, r) (map (λ r. (s.name, r)) rs) (and_from _ _ a both.0) (pairs_there s rs a both.1)
+
+  pub roles_there : (test : Service → Bool) (ss : List Service) → list_all (declared_there n) ss ≡ true → All PairThere (flat_map (λ s. map (λ r. (s.name, r)) s.serve) (filter test ss))
+  roles_there test [] h = All-nil PairThere
+  roles_there test (s ∷ ss) h = go (test s) (roles_there test ss (and_parts _ _ h).1)
+    where
+      here : All PairThere (map (λ r. (s.name, r)) s.serve)
+      here =
+          let all = and_parts _ _ (and_parts _ _ h).0 in
+          let front = and_parts _ _ all.0 in
+          pairs_there s s.serve (and_parts _ _ front.0).0 all.1
+
+      go : (b : Bool) → All PairThere (flat_map (λ s. map (λ r. (s.name, r)) s.serve) (filter test ss)) → All PairThere (flat_map (λ s. map (λ r. (s.name, r)) s.serve) (if b then s ∷ filter test ss else filter test ss))
+      go true i = All-append PairThere (map (λ r. (s.name, r)) s.serve) (flat_map (λ s. map (λ r. (s.name, r)) s.serve) (filter test ss)) here i
+      go false i = i
+
+  pub services_are : (f : File) (nodes : List CodeNode) (xs : List (Written × Written)) (qs : List ServiceCode) → All PairThere xs → AllZip (IsServiceIn f nodes) xs qs → All (λ (q : ServiceCode). service_there n q ≡ true) qs
+  services_are f nodes [] [] h z = All-nil (λ (q : ServiceCode). service_there n q ≡ true)
+  services_are f nodes [] (q ∷ qs) h z = absurd z
+  services_are f nodes (x ∷ xs) [] h z = absurd z
+  services_are f nodes (x ∷ xs) (q ∷ qs) h z =
+      let both = and_parts _ _ (All-head PairThere x xs h) in
+      All-cons (λ (q : ServiceCode). service_there n q ≡ true) q qs (and_from _ _ (ap n z.0.channel ∙ both.0) (ap n z.0.role ∙ both.1)) (services_are f nodes xs qs (All-tail PairThere x xs h) z.1)

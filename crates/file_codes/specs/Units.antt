@@ -1,11 +1,10 @@
 -- The procedures and processes of a file with their codes.
-use Rattle.std.specs.Prelude.{◌≡◌, List, [], ◌∷◌, map}
+use Rattle.std.specs.Prelude.{◌≡◌, List, map}
 use Rattle.std.specs.List.{AllZip, All, flat_map}
 use Rattle.chor_base.specs.declared.names.NameId.{NameId}
 use Rattle.chor_tree.specs.declared.file.File.{File}
 use Rattle.chor_tree.specs.declared.file.Proc.{Proc}
 use Rattle.chor_tree.specs.declared.file.ProcParam.{ProcParam}
-use Rattle.chor_tree.specs.declared.tree.NodeId.{NodeId}
 use Rattle.chor_tree.specs.Source.{body_of}
 use Rattle.endpoint_code.specs.declared.code.CodeNode.{CodeNode}
 use Rattle.endpoint_code.specs.declared.endpoints.Procedure.{Procedure}
@@ -16,14 +15,7 @@ use Rattle.projection.specs.Projects.{body_at, parameters_of}
 use Rattle.projection.specs.Making.{HasCode, IsProcessIn}
 use Rattle.projection.specs.MergeFaults.{Site, sites_in, sites_of, HasClash}
 use Rattle.block_codes.specs.declared.coded.Coded.{Coded}
-use Rattle.file_codes.specs.declared.channels.Followers.{Followers}
-use Rattle.file_codes.specs.declared.channels.Followers.TheVariants.{Nothing, Next, Branches}
 use Rattle.file_codes.specs.declared.units.Units.{Units}
-
-abbrev pub nodes_in : Followers → List NodeId
-nodes_in Nothing = []
-nodes_in (Next next) = next ∷ []
-nodes_in (Branches first second) = first ∷ second ∷ []
 
 abbrev pub params_of : List ProcParam → List NameId
 params_of ps = map (λ p. p.name.name) ps

@@ -1,6 +1,4 @@
 //! The projection of whole source files.
-//!
-//! So far `project` handles files whose channels have no service roles.
 #![tactic(auto)]
 
 mod channels;

@@ -4,7 +4,8 @@ use Rattle.projection.specs.MergeFaults.{sites_of}
 use Rattle.block_codes.specs.Walks.{StopsAt}
 use Rattle.block_codes.proofs.Zips.{stops_by}
 use Rattle.file_codes.specs.Units.{process_from}
-use Rattle.file_codes.proofs.Bodies.{body_inside, stops_in_procs, stops_in_main, units_made}
+use Rattle.service_codes.proofs.Names.{body_inside}
+use Rattle.file_codes.proofs.Bodies.{stops_in_procs, stops_in_main, units_made}
 use Rattle.file_codes.proofs.units.units_of.Goals as goal
 
 pub codes-requires : goal.codes-requires
