@@ -1,0 +1,10 @@
+pub mod Answers
+pub mod Cuts
+pub mod Numerals
+pub mod Frees
+pub mod NamedTexts
+pub mod Quoted
+pub mod ValueTexts
+pub mod PartTexts
+pub mod EventBodies
+pub mod Spellings

@@ -1,0 +1,18 @@
+use Rattle.std.proofs.Common.{refl, sym, ◌∙◌}
+use Rattle.std.specs.Fmt.{signed_decimal}
+use Rattle.event_reader.proofs.Cuts.{uncut, one_cut}
+use Rattle.event_reader.proofs.Frees.{signed_free}
+use Rattle.event_reader.proofs.fronts.int_before.Goals as goal
+
+pub returns-in_err-field-clause-all : goal.returns-in_err-field-clause-all
+returns-in_err-field-clause-all c = λ x rest h e. absurd (uncut 32 c.args.bytes.now (signed_decimal x) rest c.in_err-field.ensures.none e)
+
+pub returns-in_err-int_of-clause-all : goal.returns-in_err-int_of-clause-all
+returns-in_err-int_of-clause-all c = λ x rest h e.
+    let m = one_cut 32 c.in_ok-field.field.now (signed_decimal x) c.in_ok-field.rest.now rest c.in_ok-field.ensures.some.1 (signed_free 32 x refl refl h) (sym c.in_ok-field.ensures.some.0 ∙ e) in
+    absurd (c.in_err-int_of.ensures x h m.front)
+
+pub returns-clause-all : goal.returns-clause-all
+returns-clause-all c = λ x rest h e.
+    let m = one_cut 32 c.in_ok-field.field.now (signed_decimal x) c.in_ok-field.rest.now rest c.in_ok-field.ensures.some.1 (signed_free 32 x refl refl h) (sym c.in_ok-field.ensures.some.0 ∙ e) in
+    m.rest

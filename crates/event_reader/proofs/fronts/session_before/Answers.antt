@@ -1,0 +1,18 @@
+use Rattle.std.proofs.Common.{refl, sym, ◌∙◌}
+use Rattle.event_reader.specs.Bodies.{session_text}
+use Rattle.event_reader.proofs.Cuts.{uncut, one_cut}
+use Rattle.event_reader.proofs.Frees.{session_free}
+use Rattle.event_reader.proofs.fronts.session_before.Goals as goal
+
+pub returns-in_err-field-clause-all : goal.returns-in_err-field-clause-all
+returns-in_err-field-clause-all c = λ x rest h e. absurd (uncut 32 c.args.bytes.now (session_text x) rest c.in_err-field.ensures.none e)
+
+pub returns-in_err-session_of-clause-all : goal.returns-in_err-session_of-clause-all
+returns-in_err-session_of-clause-all c = λ x rest h e.
+    let m = one_cut 32 c.in_ok-field.field.now (session_text x) c.in_ok-field.rest.now rest c.in_ok-field.ensures.some.1 (session_free 32 x refl refl h) (sym c.in_ok-field.ensures.some.0 ∙ e) in
+    absurd (c.in_err-session_of.ensures x h m.front)
+
+pub returns-clause-all : goal.returns-clause-all
+returns-clause-all c = λ x rest h e.
+    let m = one_cut 32 c.in_ok-field.field.now (session_text x) c.in_ok-field.rest.now rest c.in_ok-field.ensures.some.1 (session_free 32 x refl refl h) (sym c.in_ok-field.ensures.some.0 ∙ e) in
+    m.rest

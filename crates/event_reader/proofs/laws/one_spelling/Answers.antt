@@ -1,0 +1,5 @@
+use Rattle.event_reader.proofs.Spellings.{one_spelling}
+use Rattle.event_reader.proofs.laws.one_spelling.Goals as goal
+
+pub returns : goal.returns
+returns c = one_spelling

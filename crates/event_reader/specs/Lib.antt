@@ -1,0 +1,5 @@
+pub mod Fields
+pub mod Known
+pub mod Readings
+pub mod Bodies
+pub mod Messages

@@ -1,0 +1,19 @@
+//! Reads the text of events.
+#![tactic(auto)]
+
+mod bodies;
+mod fault;
+mod fields;
+mod fronts;
+mod kind;
+mod laws;
+mod literal;
+mod named;
+mod numbers;
+mod parts;
+mod reader;
+mod values;
+
+pub use fault::LineFault;
+pub use laws::one_spelling;
+pub use reader::read_event;

@@ -1,0 +1,67 @@
+//! Numbers in their one spelling.
+
+ghost use Rattle.std.specs.Prelude.{◌≡◌, ◌<◌, ◌≤◌, ◌-◌, ◌^◌, pos, negsuc};
+ghost use Rattle.std.specs.Fmt.{decimal, signed_decimal};
+ghost use Rattle.event_reader.specs.Known.{IsSmall, IsInt};
+ghost use Rattle.std.specs.Option.{SomeIff};
+ghost use Rattle.event_reader.specs.Readings.{IsReading};
+
+use crate::fields::after;
+
+// The number that is written so.
+pub fn number_of(digits: &[u8]) -> Option<u64>
+    ensures { IsReading (λ n. n < 2 ^ 64) decimal digits.now result }
+{
+    let first = *digits.first()?;
+    if first == b'+' {
+        return None;
+    }
+    if first == b'0' && digits.len() > 1 {
+        return None;
+    }
+    match str::from_utf8(digits) {
+        Ok(text) => text.parse::<u64>().ok(),
+        Err(_) => None,
+    }
+}
+
+// The number of 32 bits that is written so.
+pub fn small_of(digits: &[u8]) -> Option<u32>
+    ensures { IsReading IsSmall decimal digits.now result }
+{
+    let number = number_of(digits)?;
+    if number > u64::from(u32::MAX) {
+        return None;
+    }
+    Some(number as u32)
+}
+
+// The number that is written so, with its sign.
+pub fn int_of(field: &[u8]) -> Option<i64>
+    ensures { IsReading IsInt signed_decimal field.now result }
+{
+    match after(field, b'-') {
+        Some(digits) => negative(number_of(digits)?),
+        None => positive(number_of(field)?),
+    }
+}
+
+// The number itself.
+fn positive(size: u64) -> Option<i64>
+    ensures { SomeIff result (size < 2 ^ 63) (pos size) }
+{
+    if size > i64::MAX as u64 {
+        return None;
+    }
+    Some(size as i64)
+}
+
+// The number below zero that is so far from it.
+fn negative(size: u64) -> Option<i64>
+    ensures { SomeIff result ((0 < size) × (size ≤ 2 ^ 63)) (negsuc (size - 1)) }
+{
+    if size == 0 || size > 1 << 63 {
+        return None;
+    }
+    Some(-1 - (size - 1) as i64)
+}
