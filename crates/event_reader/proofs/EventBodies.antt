@@ -21,8 +21,8 @@ use Rattle.event_reader.specs.declared.bodies.Message.{Message}
 use Rattle.event_reader.specs.Fields.{IsFree, BeginsWith}
 use Rattle.event_reader.specs.Known.{IsSmall, HasName, HasPart, HasEvent}
 use Rattle.event_reader.specs.Bodies.{content_of, kind_of, kind_text, session_text, head_then, body}
-use Rattle.event_reader.specs.Messages.{HasMessage}
-use Rattle.event_reader.specs.Messages as messages
+use Rattle.event_reader.specs.Fronts.{HasMessage}
+use Rattle.event_reader.specs.Fronts as fronts
 use Rattle.event_reader.specs.Readings.{IsAnswer}
 use Rattle.event_reader.proofs.Cuts.{SameParts, one_cut, one_field}
 use Rattle.event_reader.proofs.Frees.{decimal_free, session_free}
@@ -127,14 +127,14 @@ wrong_number w i found line digits rest e small fits parts free is other q =
 
 -- ---- one kind of event
 
-pub only_sent : (w : Words) (bs : List ℕ) (k : Content) → ((m : Message) → HasMessage w k m → bs ≡ messages.message_text w m → ⊥) → (e : Event) → (kind_of e ≡ kind.Send k) × HasEvent w e → bs ≡ body w e → ⊥
+pub only_sent : (w : Words) (bs : List ℕ) (k : Content) → ((m : Message) → HasMessage w k m → bs ≡ fronts.message_text w m → ⊥) → (e : Event) → (kind_of e ≡ kind.Send k) × HasEvent w e → bs ≡ body w e → ⊥
 only_sent w bs k f (Send p s a b l) h q = let same : content_of l ≡ k = send_one (content_of l) k h.0 in f (record { head = record { pid = p; sid = s; from = a; to = b }; load = l }) (same, h.1.0, h.1.1) q
   where
     send_one : (j k : Content) → kind.Send j ≡ kind.Send k → j ≡ k
     send_one j k e = cc
 only_sent w bs k f _ h q = let no_kind = h.0 in absurd cc
 
-pub only_received : (w : Words) (bs : List ℕ) (k : Content) → ((m : Message) → HasMessage w k m → bs ≡ messages.message_text w m → ⊥) → (e : Event) → (kind_of e ≡ kind.Recv k) × HasEvent w e → bs ≡ body w e → ⊥
+pub only_received : (w : Words) (bs : List ℕ) (k : Content) → ((m : Message) → HasMessage w k m → bs ≡ fronts.message_text w m → ⊥) → (e : Event) → (kind_of e ≡ kind.Recv k) × HasEvent w e → bs ≡ body w e → ⊥
 only_received w bs k f (Recv p s a b l) h q = let same : content_of l ≡ k = recv_one (content_of l) k h.0 in f (record { head = record { pid = p; sid = s; from = a; to = b }; load = l }) (same, h.1.0, h.1.1) q
   where
     recv_one : (j k : Content) → kind.Recv j ≡ kind.Recv k → j ≡ k

@@ -2,4 +2,5 @@ pub mod Fields
 pub mod Known
 pub mod Readings
 pub mod Bodies
-pub mod Messages
+pub mod Fronts
+pub mod Spelling

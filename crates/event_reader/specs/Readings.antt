@@ -1,5 +1,6 @@
 -- What a reader answers.
-use Rattle.std.specs.Prelude.{◌≡◌, ℕ, List, Option, Some, None, Result, Ok, Err}
+use Rattle.std.specs.Borrow.{Bor}
+use Rattle.std.specs.Prelude.{◌++◌, ◌∷◌, MatchOption, ◌≡◌, ℕ, List, Option, Some, None, Result, Ok, Err}
 use Rattle.event_reader.specs.declared.fault.LineFault.{LineFault}
 use Rattle.event_reader.specs.declared.fault.LineFault.TheVariants.{BadLine, Memory}
 
@@ -13,3 +14,11 @@ abbrev pub IsAnswer : {A : Type 0} → (A → Type 0) → (A → List ℕ) → L
 IsAnswer {A} is text bs (Ok x) = is x × (bs ≡ text x)
 IsAnswer {A} is text bs (Err BadLine) = (x : A) → is x → bs ≡ text x → ⊥
 IsAnswer {A} is text bs (Err Memory) = Unit {0}
+
+-- the text of this one stands first, then the byte, and these bytes follow it
+abbrev pub IsFront : {A : Type 0} → (A → Type 0) → (A → List ℕ) → ℕ → List ℕ → A × Bor (List ℕ) → Type 0
+IsFront {A} is text end bs r = is r.0 × (bs ≡ text r.0 ++ end ∷ r.1.now)
+
+-- wherever such a text and the byte stand first, what follows them is answered
+abbrev pub FindsFronts : {A : Type 0} → (A → Type 0) → (A → List ℕ) → ℕ → List ℕ → Option (A × Bor (List ℕ)) → Type 0
+FindsFronts {A} is text end bs result = (x : A) (rest : List ℕ) → is x → bs ≡ text x ++ end ∷ rest → MatchOption result ⊥ (λ r. r.1.now ≡ rest)

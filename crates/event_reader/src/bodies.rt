@@ -1,13 +1,12 @@
 //! What a line tells after the word for its kind.
 
-ghost use Rattle.std.specs.Prelude.{◌≡◌, ℕ, List, IfSome, MatchOption};
-ghost use Rattle.chor_base.specs.declared.names.NameId.{NameId as Named};
+ghost use Rattle.std.specs.Prelude.{◌≡◌, IfSome};
 ghost use Rattle.chor_base.specs.declared.event.Event.TheVariants as happened;
 ghost use Rattle.transcript.specs.Books.{words};
 ghost use Rattle.event_reader.specs.declared.kind.Kind.TheVariants as kinds;
-ghost use Rattle.event_reader.specs.Known.{AreWords, HasHead, HasEvent};
-ghost use Rattle.event_reader.specs.Bodies.{kind_of, head_then, body};
-ghost use Rattle.event_reader.specs.Messages.{HasMessage, message_text};
+ghost use Rattle.event_reader.specs.Known.{AreWords, HasEvent};
+ghost use Rattle.event_reader.specs.Bodies.{kind_of, body};
+ghost use Rattle.event_reader.specs.Fronts.{IsHeadFront, FindsHeads, HasMessage, message_text};
 ghost use Rattle.event_reader.specs.Readings.{IsReading, IsAnswer};
 
 use crate::fault::LineFault;
@@ -116,8 +115,8 @@ impl Message {
 // What stands before the load, and what follows it.
 fn head_before<'a>(bytes: &'a [u8], book: &Book) -> Option<(Head, &'a [u8])>
     requires { AreWords (words book.now).names }
-    ensures found { IfSome result (λ r. HasHead (words book.now) r.0.pid r.0.sid r.0.from r.0.to × (bytes.now ≡ head_then (words book.now) r.0.pid r.0.sid r.0.from r.0.to r.1.now)) }
-    ensures all { (p s : ℕ) (a b : Named) (rest : List ℕ) → HasHead (words book.now) p s a b → bytes.now ≡ head_then (words book.now) p s a b rest → MatchOption result ⊥ (λ r. r.1.now ≡ rest) }
+    ensures found { IfSome result (IsHeadFront (words book.now) bytes.now) }
+    ensures all { FindsHeads (words book.now) bytes.now result }
 {
     let (pid, rest) = process_before(bytes, book)?;
     let (sid, rest) = session_before(rest)?;

@@ -1,12 +1,12 @@
 //! Parts of a line that others follow.
 
-ghost use Rattle.std.specs.Prelude.{◌≡◌, ◌++◌, ◌∷◌, ℕ, ℤ, List, false, IfSome, MatchOption};
+ghost use Rattle.std.specs.Prelude.{◌≡◌, false, IfSome};
 ghost use Rattle.std.specs.Fmt.{signed_decimal};
-ghost use Rattle.chor_base.specs.declared.names.NameId.{NameId as Named};
 ghost use Rattle.transcript.specs.Books.{words};
 ghost use Rattle.transcript.specs.Text.{name_text, process_text};
 ghost use Rattle.event_reader.specs.Known.{AreWords, HasName, HasProcess, IsSmall, IsInt};
 ghost use Rattle.event_reader.specs.Bodies.{session_text};
+ghost use Rattle.event_reader.specs.Readings.{IsFront, FindsFronts};
 ghost use Rattle.chor_lexer.specs.Lexeme.{is_word_byte};
 
 use crate::fields::split;
@@ -18,8 +18,8 @@ use transcript::Book;
 // The process before the first space, and what follows the space.
 pub fn process_before<'a>(bytes: &'a [u8], book: &Book) -> Option<(u32, &'a [u8])>
     requires { AreWords (words book.now).names }
-    ensures found { IfSome result (λ r. HasProcess (words book.now) r.0 × (bytes.now ≡ process_text (words book.now) r.0 ++ 32 ∷ r.1.now)) }
-    ensures all { (p : ℕ) (rest : List ℕ) → HasProcess (words book.now) p → bytes.now ≡ process_text (words book.now) p ++ 32 ∷ rest → MatchOption result ⊥ (λ r. r.1.now ≡ rest) }
+    ensures found { IfSome result (IsFront (HasProcess (words book.now)) (process_text (words book.now)) 32 bytes.now) }
+    ensures all { FindsFronts (HasProcess (words book.now)) (process_text (words book.now)) 32 bytes.now result }
 {
     let (field, rest) = split(bytes, b' ')?;
     Some((process_of(field, book)?, rest))
@@ -29,8 +29,8 @@ pub fn process_before<'a>(bytes: &'a [u8], book: &Book) -> Option<(u32, &'a [u8]
 pub fn name_before<'a>(bytes: &'a [u8], end: u8, book: &Book) -> Option<(NameId, &'a [u8])>
     requires words { AreWords (words book.now).names }
     requires end { is_word_byte end ≡ false }
-    ensures found { IfSome result (λ r. HasName (words book.now) r.0 × (bytes.now ≡ name_text (words book.now) r.0 ++ end ∷ r.1.now)) }
-    ensures all { (x : Named) (rest : List ℕ) → HasName (words book.now) x → bytes.now ≡ name_text (words book.now) x ++ end ∷ rest → MatchOption result ⊥ (λ r. r.1.now ≡ rest) }
+    ensures found { IfSome result (IsFront (HasName (words book.now)) (name_text (words book.now)) end bytes.now) }
+    ensures all { FindsFronts (HasName (words book.now)) (name_text (words book.now)) end bytes.now result }
 {
     let (field, rest) = split(bytes, end)?;
     Some((name_of(field, book)?, rest))
@@ -38,8 +38,8 @@ pub fn name_before<'a>(bytes: &'a [u8], end: u8, book: &Book) -> Option<(NameId,
 
 // The session before the first space, and what follows the space.
 pub fn session_before(bytes: &[u8]) -> Option<(u32, &[u8])>
-    ensures found { IfSome result (λ r. IsSmall r.0 × (bytes.now ≡ session_text r.0 ++ 32 ∷ r.1.now)) }
-    ensures all { (s : ℕ) (rest : List ℕ) → IsSmall s → bytes.now ≡ session_text s ++ 32 ∷ rest → MatchOption result ⊥ (λ r. r.1.now ≡ rest) }
+    ensures found { IfSome result (IsFront IsSmall session_text 32 bytes.now) }
+    ensures all { FindsFronts IsSmall session_text 32 bytes.now result }
 {
     let (field, rest) = split(bytes, b' ')?;
     Some((session_of(field)?, rest))
@@ -47,8 +47,8 @@ pub fn session_before(bytes: &[u8]) -> Option<(u32, &[u8])>
 
 // The number before the first space, and what follows the space.
 pub fn int_before(bytes: &[u8]) -> Option<(i64, &[u8])>
-    ensures found { IfSome result (λ r. IsInt r.0 × (bytes.now ≡ signed_decimal r.0 ++ 32 ∷ r.1.now)) }
-    ensures all { (z : ℤ) (rest : List ℕ) → IsInt z → bytes.now ≡ signed_decimal z ++ 32 ∷ rest → MatchOption result ⊥ (λ r. r.1.now ≡ rest) }
+    ensures found { IfSome result (IsFront IsInt signed_decimal 32 bytes.now) }
+    ensures all { FindsFronts IsInt signed_decimal 32 bytes.now result }
 {
     let (field, rest) = split(bytes, b' ')?;
     Some((int_of(field)?, rest))

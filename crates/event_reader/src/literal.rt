@@ -1,8 +1,9 @@
 //! Texts between quotes.
 
 ghost use Rattle.std.specs.Prelude.{◌≡◌, ◌≢◌, ◌<◌, ◌++◌, ◌∷◌, [], ℕ, List, length, OnOk, IfOk, IfErr, MatchOption};
-ghost use Rattle.chor_base.specs.Writing.{escaped, escaped_byte, literal_in};
+ghost use Rattle.chor_base.specs.Writing.{escaped, literal_in};
 ghost use Rattle.event_reader.specs.declared.fault.LineFault.TheVariants.{BadLine as NoText};
+ghost use Rattle.event_reader.specs.Fronts.{IsByteFront};
 ghost use Rattle.event_reader.specs.Readings.{IsAnswer};
 
 use crate::fault::LineFault;
@@ -60,7 +61,7 @@ fn put(text: &mut Vec<u8>, byte: u8) -> Result<(), Memory>
 
 // The byte of the text that stands first, and what follows it.
 fn byte_before(bytes: &[u8]) -> Option<(u8, &[u8])>
-    ensures { MatchOption result ((b : ℕ) (rest : List ℕ) → bytes.now ≢ escaped_byte b ++ rest) (λ r. bytes.now ≡ escaped_byte r.0 ++ r.1.now) }
+    ensures { IsByteFront bytes.now result }
 {
     let (first, rest) = bytes.split_first()?;
     match *first {
@@ -72,7 +73,7 @@ fn byte_before(bytes: &[u8]) -> Option<(u8, &[u8])>
 
 // The byte that a backslash before these bytes means, and what follows it.
 fn escape_before(bytes: &[u8]) -> Option<(u8, &[u8])>
-    ensures { MatchOption result ((b : ℕ) (rest : List ℕ) → 92 ∷ bytes.now ≢ escaped_byte b ++ rest) (λ r. 92 ∷ bytes.now ≡ escaped_byte r.0 ++ r.1.now) }
+    ensures { IsByteFront (92 ∷ bytes.now) result }
 {
     let (first, rest) = bytes.split_first()?;
     match *first {

@@ -1,12 +1,11 @@
 //! The parts of a start.
 
-ghost use Rattle.std.specs.Prelude.{◌≡◌, ◌++◌, ◌∷◌, ℕ, List, IfSome, MatchOption};
-ghost use Rattle.chor_base.specs.declared.names.NameId.{NameId as Named};
+ghost use Rattle.std.specs.Prelude.{IfSome};
 ghost use Rattle.std.specs.List.{AllByRecursion};
 ghost use Rattle.transcript.specs.Books.{words};
 ghost use Rattle.transcript.specs.Text.{parts_text};
 ghost use Rattle.event_reader.specs.Known.{AreWords, HasPart};
-ghost use Rattle.event_reader.specs.Fields.{BeginsWith};
+ghost use Rattle.event_reader.specs.Fronts.{IsPartFront, FindsParts};
 ghost use Rattle.event_reader.specs.Bodies.{part_text};
 ghost use Rattle.event_reader.specs.Readings.{IsReading, IsAnswer};
 
@@ -38,8 +37,8 @@ pub fn parts_of(alloc: Global, bytes: &[u8], book: &Book) -> Result<List<(NameId
 // The part that stands first after a space, and what follows it.
 fn part_before<'a>(bytes: &'a [u8], book: &Book) -> Option<((NameId, u32), &'a [u8])>
     requires { AreWords (words book.now).names }
-    ensures found { IfSome result (λ r. HasPart (words book.now) r.0 × (bytes.now ≡ 32 ∷ (part_text (words book.now) r.0 ++ r.1.now)) × BeginsWith 32 r.1.now) }
-    ensures all { (q : Named × ℕ) (rest : List ℕ) → HasPart (words book.now) q → BeginsWith 32 rest → bytes.now ≡ 32 ∷ (part_text (words book.now) q ++ rest) → MatchOption result ⊥ (λ r. r.1.now ≡ rest) }
+    ensures found { IfSome result (IsPartFront (words book.now) bytes.now) }
+    ensures all { FindsParts (words book.now) bytes.now result }
 {
     let (text, rest) = field(after(bytes, b' ')?, b' ');
     Some((part_of(text, book)?, rest))

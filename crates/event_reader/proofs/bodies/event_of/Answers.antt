@@ -3,7 +3,7 @@ use Rattle.std.proofs.lemmas.Result.{err_from_is_err_and}
 use Rattle.transcript.specs.Books.{words}
 use Rattle.event_reader.specs.Known.{HasEvent}
 use Rattle.event_reader.specs.Bodies.{kind_of, body}
-use Rattle.event_reader.specs.Messages.{HasMessage, message_text}
+use Rattle.event_reader.specs.Fronts.{HasMessage, message_text}
 use Rattle.event_reader.proofs.Answers.{hand_on}
 use Rattle.event_reader.proofs.EventBodies.{only_sent, only_received}
 use Rattle.event_reader.proofs.bodies.event_of.Goals as goal
