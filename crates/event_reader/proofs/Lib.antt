@@ -8,3 +8,4 @@ pub mod ValueTexts
 pub mod PartTexts
 pub mod EventBodies
 pub mod Spellings
+pub mod WordBytes

@@ -13,7 +13,9 @@ mod numbers;
 mod parts;
 mod reader;
 mod values;
+mod words;
 
 pub use fault::LineFault;
 pub use laws::one_spelling;
 pub use reader::read_event;
+pub use words::are_words;
