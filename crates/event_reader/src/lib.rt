@@ -17,5 +17,6 @@ mod words;
 
 pub use fault::LineFault;
 pub use laws::one_spelling;
+pub use numbers::number_of;
 pub use reader::read_event;
 pub use words::are_words;

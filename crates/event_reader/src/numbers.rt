@@ -8,7 +8,7 @@ ghost use Rattle.event_reader.specs.Readings.{IsReading};
 
 use crate::fields::after;
 
-// The number that is written so.
+/// The number that is written so in decimal digits, without zeros before it and without a sign.
 pub fn number_of(digits: &[u8]) -> Option<u64>
     ensures { IsReading (λ n. n < 2 ^ 64) decimal digits.now result }
 {

@@ -12,9 +12,9 @@ const BUYER: NameId = NameId(1);
 
 const SELLER: NameId = NameId(2);
 
-const FIRST: NameId = NameId(3);
+pub const FIRST: NameId = NameId(3);
 
-const SECOND: NameId = NameId(4);
+pub const SECOND: NameId = NameId(4);
 
 const VARIABLE: NameId = NameId(5);
 
@@ -22,7 +22,7 @@ const LABEL: NameId = NameId(6);
 
 const FUNCTION: NameId = NameId(7);
 
-fn names(alloc: Global) -> Result<Names, Fail> {
+pub fn names(alloc: Global) -> Result<Names, Fail> {
     let words = [
         b"a".as_slice(),
         b"Buyer",
@@ -37,7 +37,7 @@ fn names(alloc: Global) -> Result<Names, Fail> {
 }
 
 // Text number 0 has each escape, and number 1 no byte.
-fn texts(alloc: Global) -> Result<Texts, Fail> {
+pub fn texts(alloc: Global) -> Result<Texts, Fail> {
     let mut texts = Texts::new(alloc);
     texts.intern(b"a \"b\" \\ c\n".as_slice())?;
     texts.intern(b"".as_slice())?;

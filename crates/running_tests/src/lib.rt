@@ -9,3 +9,5 @@ mod codes;
 mod events;
 #[cfg(test)]
 mod names;
+#[cfg(test)]
+mod reading;
