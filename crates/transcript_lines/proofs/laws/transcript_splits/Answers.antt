@@ -1,0 +1,5 @@
+use Rattle.transcript_lines.proofs.FeedFree.{transcript_splits}
+use Rattle.transcript_lines.proofs.laws.transcript_splits.Goals as goal
+
+pub returns : goal.returns
+returns c = λ w words h last has fits free. transcript_splits w h last words has fits free
