@@ -6,5 +6,5 @@ mod laws;
 mod lines;
 
 pub use last::{Last, last_of};
-pub use laws::transcript_splits;
+pub use laws::{one_history, transcript_splits};
 pub use lines::first_line;
