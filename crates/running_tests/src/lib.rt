@@ -1,6 +1,6 @@
-//! Tests of endpoint code and of how it and events are written, by public calls alone. They say what no
-//! clause says: that the calls succeed where there is memory, that a wide branch takes no more stack than
-//! a narrow one, and what is written, worked out by hand.
+//! Tests of endpoint code, of how it and events are written, and of how lines are read as events, by public
+//! calls alone. They say what no clause says: that the calls succeed where there is memory, that a wide
+//! branch takes no more stack than a narrow one, and what is written and read, worked out by hand.
 #![tactic(auto)]
 
 #[cfg(test)]
