@@ -239,23 +239,27 @@ module _ {N : Type 0} (r : Rules N) where
 
   -- ---- and back
 
-  pub without : {Q : Allowed} (g : Grammar N) (s : Symbol) → IsClear g → next r g s ≡ skips → (us : List Lexeme) → CanBe r Q g us us
-  without empty s c e us = record { value = tt; is = is_empty }
-  without (one k) s c e us = absurd (taken_skips (is_of k s) empty e)
-  without {Q = Q} (seq g h) s c e us =
-      let p = skips_both (next r g s) h (next r h s) e in
-      let a = without {Q = Q} g s c.1 p.0 us in
-      let b = without {Q = Q} h s c.2 p.1 us in
+  -- what can be without a token
+  pub nothing : {Q : Allowed} (g : Grammar N) → IsClear g → is_nullable g ≡ true → (us : List Lexeme) → CanBe r Q g us us
+  nothing empty c n us = record { value = tt; is = is_empty }
+  nothing (one k) c n us = absurd cc
+  nothing {Q = Q} (seq g h) c n us =
+      let p = two (is_nullable g) (is_nullable h) n in
+      let a = nothing {Q = Q} g c.1 p.0 us in
+      let b = nothing {Q = Q} h c.2 p.1 us in
       record { value = (a.value, b.value); is = in_turn a.is b.is }
-  without {Q = Q} (alt g h) s c e us = elim (skips_either (next r g s) (next r h s) e) [
-    | inl i ↦ let a = without {Q = Q} g s c.2 i us in record { value = inl a.value; is = the_first a.is }
-    | inr i ↦ let a = without {Q = Q} h s c.3 i us in record { value = inr a.value; is = the_second a.is }
+  nothing {Q = Q} (alt g h) c n us = elim (some_or (is_nullable g) (is_nullable h) n) [
+    | inl i ↦ let a = nothing {Q = Q} g c.2 i us in record { value = inl a.value; is = the_first a.is }
+    | inr i ↦ let a = nothing {Q = Q} h c.3 i us in record { value = inr a.value; is = the_second a.is }
   ]
-  without (many f n g) s c e us = record { value = []; is = none_of_many }
-  without (more f n k g) s c e us = record { value = []; is = no_more }
-  without (within f n g) s c e us = absurd (never_both (is_nullable g) c.0 (skips_null g s (skips_limited (next r g s) f (is_full n) e)))
-  without {Q = Q} (short f n g) s c e us = let w = without {Q = Q} g s c (skips_clipped (next r g s) f n e) us in record { value = w.value; is = in_short (no_token refl) w.is }
-  without (after k n) s c e us = absurd (taken_skips (is_of k s) (r.rule n) e)
+  nothing (many f k g) c n us = record { value = []; is = none_of_many }
+  nothing (more f k d g) c n us = record { value = []; is = no_more }
+  nothing (within f k g) c n us = absurd (never_both (is_nullable g) c.0 n)
+  nothing {Q = Q} (short f k g) c n us = let w = nothing {Q = Q} g c n us in record { value = w.value; is = in_short (no_token refl) w.is }
+  nothing (after k m) c n us = absurd cc
+
+  pub without : {Q : Allowed} (g : Grammar N) (s : Symbol) → IsClear g → next r g s ≡ skips → (us : List Lexeme) → CanBe r Q g us us
+  without {Q = Q} g s c e us = nothing {Q = Q} g c (skips_null g s e) us
 
   -- what two in turn derive
   record Split (Q : Allowed) (g h : Grammar N) (ts rest : List Lexeme) (v : Value r.V g × Value r.V h) : Type 0 where

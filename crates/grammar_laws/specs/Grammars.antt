@@ -47,6 +47,12 @@ row [] = empty
 row (g ∷ []) = g
 row (g ∷ h ∷ gs) = seq g (row (h ∷ gs))
 
+-- one of these
+abbrev pub choice : {N : Type 0} → List (Grammar N) → Grammar N
+choice [] = empty
+choice (g ∷ []) = g
+choice (g ∷ h ∷ gs) = alt g (choice (h ∷ gs))
+
 -- [ g ]
 abbrev pub optional : {N : Type 0} → Grammar N → Grammar N
 optional g = alt g empty
@@ -202,26 +208,39 @@ abbrev pub is_finished : {N : Type 0} → (N → Grammar N) → ℕ → Grammar 
 is_finished rule zero g = is_finished_by (λ n. false) g
 is_finished rule (suc d) g = is_finished_by (λ n. is_finished rule d (rule n)) g
 
--- no token of it is the end of the file
-abbrev pub is_endless : {N : Type 0} → Grammar N → Bool
-is_endless empty = true
-is_endless (one c) = is_apart c the_end
-is_endless (seq g h) = is_endless g && is_endless h
-is_endless (alt g h) = is_endless g && is_endless h
-is_endless (many e n g) = is_endless g
-is_endless (more e n c g) = is_apart c the_end && is_endless g
-is_endless (within e n g) = is_endless g
-is_endless (short e n g) = is_endless g
-is_endless (after c n) = is_apart c the_end
+-- no token of it is the end of the file, where `ends` tells which rules may take that
+abbrev pub is_endless : {N : Type 0} → (N → Bool) → Grammar N → Bool
+is_endless ends empty = true
+is_endless ends (one c) = is_apart c the_end
+is_endless ends (seq g h) = is_endless ends g && is_endless ends h
+is_endless ends (alt g h) = is_endless ends g && is_endless ends h
+is_endless ends (many e n g) = is_endless ends g
+is_endless ends (more e n c g) = is_apart c the_end && is_endless ends g
+is_endless ends (within e n g) = is_endless ends g
+is_endless ends (short e n g) = is_endless ends g
+is_endless ends (after c n) = is_apart c the_end && not (ends n)
 
--- in each rule the next token tells what comes; nothing goes on with it; it can be completed; and it doesn't take the end
+-- nothing need come after the end of the file
+abbrev pub is_ending : {N : Type 0} → (N → Bool) → Grammar N → Bool
+is_ending ends empty = true
+is_ending ends (one c) = true
+is_ending ends (seq g h) = is_endless ends g && is_ending ends h
+is_ending ends (alt g h) = is_ending ends g && is_ending ends h
+is_ending ends (many e n g) = is_endless ends g
+is_ending ends (more e n c g) = is_apart c the_end && is_endless ends g
+is_ending ends (within e n g) = is_ending ends g
+is_ending ends (short e n g) = is_ending ends g
+is_ending ends (after c n) = is_apart c the_end
+
+-- in each rule the next token tells what comes; nothing goes on with it; and it can be completed
 pub record AreClear {N : Type 0} (r : Rules N) : Type 0 where
   pub clear : (n : N) → is_clear (r.rule n) ≡ true
   pub closed : (n : N) → furthers (r.rule n) ≡ []
   pub depth : ℕ
   pub finished : (n : N) → is_finished r.rule depth (r.rule n) ≡ true
-  pub endless : (n : N) → is_endless (r.rule n) ≡ true
 
--- a grammar and then the end
-abbrev pub whole : {N : Type 0} → Grammar N → Grammar N
-whole g = seq g (one the_end)
+-- in each rule the end of the file is the last token, if it is one at all
+pub record AreEnding {N : Type 0} (r : Rules N) : Type 0 where
+  pub ends : N → Bool
+  pub endless : (n : N) → ends n ≡ false → is_endless ends (r.rule n) ≡ true
+  pub ending : (n : N) → is_ending ends (r.rule n) ≡ true
