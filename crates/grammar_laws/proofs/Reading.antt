@@ -2,10 +2,12 @@
 use Rattle.std.proofs.Common.{◌≡◌, inl, inr, true, false, List, [], ◌∷◌, Option, Some, None, refl, sym, ap, ◌∙◌, subst}
 use Rattle.chor_base.specs.declared.rule.Place.{Place}
 use Rattle.chor_base.specs.declared.rule.Rule.{Rule}
+use Rattle.grammar_laws.proofs.Apart.{class_apart}
+use Rattle.grammar_laws.proofs.Nexts.{is_false}
 use Rattle.chor_base.specs.declared.rule.Denied.{Denied}
 use Rattle.chor_base.specs.declared.rule.Denied.TheVariants.{Memory}
 use Rattle.chor_lexer.specs.Lexeme.{Lexeme}
-use Rattle.grammar_laws.specs.Classes.{Class, is_of, says}
+use Rattle.grammar_laws.specs.Classes.{Class, is_of, is_apart, says}
 use Rattle.grammar_laws.specs.Grammars.{Grammar, empty, one, seq, alt, many, more, within, after, Room, is_full, less, Value, Rules, nowhere, HasRoom, Derives, is_empty, is_one, in_turn, the_first, the_second, none_of_many, one_of_many, no_more, one_more, with_room, by_rule}
 use Rattle.grammar_laws.specs.Machine.{Next, goes, skips, refuses, taken, followed, either, over, limited, repeated, next, Stop, at, stopped, stop}
 use Rattle.grammar_laws.specs.Readers.{Reads, Halts, Leads, Refuses, Stands, Lacks, Begins, Misses}
@@ -71,6 +73,9 @@ module _ {N : Type 0} (r : Rules N) where
   pub reads_same : {g : Grammar N} {ts us : List Lexeme} {x y : Value r.V g} → x ≡ y → Reads r g ts x us → Reads r g ts y us
   reads_same {g} {ts} {us} e a = subst (λ (v : Value r.V g). Reads r g ts v us) e a
 
+  pub this_token : {l m : Lexeme} {ts us vs : List Lexeme} → ts ≡ l ∷ us → ts ≡ m ∷ vs → l ≡ m
+  this_token {l} {m} {ts} {us} {vs} p q = let e : l ∷ us ≡ m ∷ vs = sym p ∙ q in cc
+
   -- ---- what comes next
 
   -- the next token is taken, and exceeds this limit, if any
@@ -83,6 +88,9 @@ module _ {N : Type 0} (r : Rules N) where
 
   pub token_comes : {c : Class} {l : Lexeme} {ts us : List Lexeme} → Stands c l ts us → Comes None (one c) ts
   token_comes s = record { token = _; rest = _; parts = s.parts; left = empty; next_is = ap (λ b. taken b empty refuses) s.is }
+
+  pub rule_comes : {c : Class} {l : Lexeme} {ts us : List Lexeme} (n : N) → Stands c l ts us → Comes None (after c n) ts
+  rule_comes n s = record { token = _; rest = _; parts = s.parts; left = r.rule n; next_is = ap (λ b. taken b (r.rule n) refuses) s.is }
 
   pub comes_then : {o : Option Rule} {g h : Grammar N} {ts : List Lexeme} → Comes o g ts → Comes o (seq g h) ts
   comes_then {h = h} k = record { token = k.token; rest = k.rest; parts = k.parts; left = seq k.left h; next_is = ap (λ n. followed n h (next r h k.token.symbol)) k.next_is }
@@ -101,6 +109,10 @@ module _ {N : Type 0} (r : Rules N) where
 
   pub begun_by : {g : Grammar N} {ts : List Lexeme} → Comes None g ts → Begins r g ts
   begun_by b = record { token = b.token; rest = b.rest; parts = b.parts; left = b.left; next_is = b.next_is }
+
+  -- a token of another class stands there
+  pub other_stands : {c d : Class} {l : Lexeme} {ts us : List Lexeme} → is_apart c d ≡ true → Stands c l ts us → Lacks d ts
+  other_stands {c} {d} a s = record { by = λ l us e. is_false (is_of d l.symbol) (λ h. class_apart c d l.symbol a (subst (λ (t : Lexeme). is_of c t.symbol ≡ true) (this_token s.parts e) s.is) h) }
 
   pub token_misses : {c : Class} {ts : List Lexeme} → Lacks c ts → Misses r (one c) ts
   token_misses m = record { by = λ l us e. ap (λ b. taken b empty refuses) (m.by l us e) }
@@ -163,9 +175,6 @@ module _ {N : Type 0} (r : Rules N) where
       go : (us : List Lexeme) → ((l : Lexeme) (vs : List Lexeme) → us ≡ l ∷ vs → next r g l.symbol ≡ next r g' l.symbol) → stop r (seq g h) us ≡ stop r (seq g' h) us
       go [] s = refl
       go (l ∷ us) s = same_next g g' h l us (s l us refl)
-
-  pub this_token : {l m : Lexeme} {ts us vs : List Lexeme} → ts ≡ l ∷ us → ts ≡ m ∷ vs → l ≡ m
-  this_token {l} {m} {ts} {us} {vs} p q = let e : l ∷ us ≡ m ∷ vs = sym p ∙ q in cc
 
   -- in place of a choice its first part, where it comes
   pub first_next : {o : Option Rule} {g : Grammar N} {ts : List Lexeme} (h : Grammar N) → Comes o g ts → (l : Lexeme) (us : List Lexeme) → ts ≡ l ∷ us → next r (alt g h) l.symbol ≡ next r g l.symbol

@@ -1,0 +1,4 @@
+pub mod Rooms
+pub mod Ranks
+pub mod Operands
+pub mod Levels

@@ -1,0 +1,206 @@
+//! Tokens, one by one.
+
+ghost use Rattle.std.specs.Prelude.{◌≡◌, ◌-◌, IfSome, IfNone, IfOk, IfErr, OnOk, Some, true, false};
+ghost use Rattle.chor_base.specs.declared.rule.Rule.TheVariants.{E1, E4};
+ghost use Rattle.chor_base.specs.Writing.{name_in};
+ghost use Rattle.grammar_laws.specs.Classes.{a_mark, a_word, a_name, is_of};
+ghost use Rattle.grammar_laws.specs.Grammars.{one, within, is_full};
+ghost use Rattle.grammar_laws.specs.Readers.{Reads, Halts, Refuses, Stands, Lacks, HasOne, Missed, ReadsIn, HaltsIn};
+ghost use Rattle.endpoint_grammar.specs.Grammar.{NAME, word as word_of, mark as mark_of};
+ghost use Rattle.endpoint_grammar.specs.Values.{rules};
+ghost use Rattle.endpoint_reader.specs.Tokens.{from, symbol_of, named, IsAt, IsNowhere};
+
+use chor_base::{Denied, NameId, Names, Place, Refusal, Rule, Texts};
+use chor_lexer::{Kind, Mark, Token, Tokens, is_keyword};
+
+/// A name and where it stands.
+#[derive(Clone, Copy, Debug, PartialEq, Eq)]
+pub struct Named {
+    pub name: NameId,
+    pub place: Place,
+}
+
+/// The tokens of a file, and the tables in which its words and texts have their numbers.
+#[derive(Drop)]
+pub struct Input<'a> {
+    pub tokens: &'a Tokens,
+    pub names: &'a Names,
+    pub texts: &'a Texts,
+}
+
+impl Input<'_> {
+    // The token that stands here.
+    pub fn token_at(&self, at: usize) -> Option<Token>
+        ensures found { IfSome result (λ t. IsAt self.now at t) }
+        ensures none { IfNone result (IsNowhere self.now at) }
+    {
+        let token = *self.tokens.items.as_slice().get(at)?;
+        Some(token)
+    }
+
+    // The bytes of a word: none where it isn't in the table.
+    fn word_of(&self, name: NameId) -> &[u8]
+        ensures { result.now ≡ name_in self.now.names.now name }
+    {
+        if (name.0 as usize) < self.names.len() {
+            self.names.at(name)
+        } else {
+            b"".as_slice()
+        }
+    }
+
+    // Whether it is this word.
+    pub fn is_word(&self, kind: Kind, word: &[u8]) -> bool
+        ensures { result ≡ is_of (a_word word.now) (symbol_of self.now kind) }
+    {
+        match kind {
+            Kind::Word(name) => word == self.word_of(name),
+            _ => false,
+        }
+    }
+
+    // Whether it is this mark.
+    pub fn is_mark(&self, kind: Kind, mark: Mark) -> bool
+        ensures { result ≡ is_of (a_mark mark) (symbol_of self.now kind) }
+    {
+        match kind {
+            Kind::Mark(found) => mark.spelling() == found.spelling(),
+            _ => false,
+        }
+    }
+
+    // Whether it is a name.
+    pub fn is_name(&self, kind: Kind) -> bool
+        ensures { result ≡ is_of a_name (symbol_of self.now kind) }
+    {
+        match kind {
+            Kind::Word(name) => !is_keyword(self.word_of(name)),
+            _ => false,
+        }
+    }
+
+    // The name that stands here, and the place after it.
+    pub fn name_at(&self, at: usize) -> Option<(Named, usize)>
+        ensures found { IfSome result (λ x. Stands a_name (named self.now x.0) (from self.now at) (from self.now x.1)) }
+        ensures none { IfNone result (Lacks a_name (from self.now at)) }
+    {
+        let token = self.token_at(at)?;
+        let Kind::Word(name) = token.kind else {
+            return None;
+        };
+        if !self.is_name(token.kind) {
+            return None;
+        }
+        let place = token.place;
+        Some((Named { name, place }, at + 1))
+    }
+
+    // The place after this word, if it stands here.
+    pub fn after_word(&self, at: usize, word: &[u8]) -> Option<usize>
+        ensures found { IfSome result (λ after. HasOne (a_word word.now) (from self.now at) (from self.now after)) }
+        ensures none { IfNone result (Lacks (a_word word.now) (from self.now at)) }
+    {
+        let token = self.token_at(at)?;
+        if self.is_word(token.kind, word) {
+            Some(at + 1)
+        } else {
+            None
+        }
+    }
+
+    // The place after this mark, if it stands here.
+    pub fn after_mark(&self, at: usize, mark: Mark) -> Option<usize>
+        ensures found { IfSome result (λ after. HasOne (a_mark mark) (from self.now at) (from self.now after)) }
+        ensures none { IfNone result (Lacks (a_mark mark) (from self.now at)) }
+    {
+        let token = self.token_at(at)?;
+        if self.is_mark(token.kind, mark) {
+            Some(at + 1)
+        } else {
+            None
+        }
+    }
+
+    // The refusal of the token that stands here.
+    pub fn refused(&self, rule: Rule, at: usize) -> Denied
+        ensures { Refuses rule (from self.now at) result }
+    {
+        match self.token_at(at) {
+            Some(token) => Denied::Refused(Refusal {
+                rule,
+                place: token.place,
+                who: None,
+            }),
+            None => Denied::Memory,
+        }
+    }
+
+    // The name that has to stand here, and the place after it.
+    pub fn take_name(&self, at: usize) -> Result<(Named, usize), Denied>
+        ensures reads { IfOk result (λ x. Reads rules NAME (from self.now at) (named self.now x.0) (from self.now x.1)) }
+        ensures halts { IfErr result (Halts rules NAME (from self.now at)) }
+    {
+        match self.name_at(at) {
+            Some(found) => Ok(found),
+            None => Err(self.refused(Rule::E1, at)),
+        }
+    }
+
+    // The name that has to stand here where there is room for it, and the place after it.
+    pub fn take_item(&self, at: usize, room: usize) -> Result<(Named, usize), Denied>
+        ensures reads { IfOk result (λ x. Reads rules (within E4 (Some room) NAME) (from self.now at) (named self.now x.0) (from self.now x.1)) }
+        ensures halts { IfErr result (Halts rules (within E4 (Some room) NAME) (from self.now at)) }
+    {
+        match self.name_at(at) {
+            Some(found) if room > 0 => Ok(found),
+            Some(_) => Err(self.refused(Rule::E4, at)),
+            None => Err(self.refused(Rule::E1, at)),
+        }
+    }
+
+    // The place after this word, which has to stand here.
+    pub fn take_word(&self, at: usize, word: &[u8]) -> Result<usize, Denied>
+        ensures reads { IfOk result (λ after. Reads rules (word_of word.now) (from self.now at) tt (from self.now after)) }
+        ensures halts { IfErr result (Halts rules (word_of word.now) (from self.now at)) }
+    {
+        match self.after_word(at, word) {
+            Some(after) => Ok(after),
+            None => Err(self.refused(Rule::E1, at)),
+        }
+    }
+
+    // The place after this mark, which has to stand here.
+    pub fn take_mark(&self, at: usize, mark: Mark) -> Result<usize, Denied>
+        ensures reads { IfOk result (λ after. Reads rules (mark_of mark) (from self.now at) tt (from self.now after)) }
+        ensures halts { IfErr result (Halts rules (mark_of mark) (from self.now at)) }
+        ensures missed { IfErr result (Missed E1 (a_mark mark) (from self.now at)) }
+    {
+        match self.after_mark(at, mark) {
+            Some(after) => Ok(after),
+            None => Err(self.refused(Rule::E1, at)),
+        }
+    }
+
+    // The place after this mark, which has to stand here, within an expression that may have so many more tokens.
+    pub fn take_mark_in(&self, at: usize, room: usize, mark: Mark) -> Result<usize, Denied>
+        ensures reads { IfOk result (λ after. ReadsIn rules E4 (Some room) (mark_of mark) (from self.now at) tt (Some (room - 1)) (from self.now after)) }
+        ensures halts { IfErr result (HaltsIn rules E4 (Some room) (mark_of mark) (from self.now at)) }
+    {
+        match self.after_mark(at, mark) {
+            Some(after) if room > 0 => Ok(after),
+            Some(_) => Err(self.refused(Rule::E4, at)),
+            None => Err(self.refused(Rule::E1, at)),
+        }
+    }
+
+    // What begins here may come where there is room for more of it.
+    pub fn check_room(&self, at: usize, room: usize) -> Result<(), Denied>
+        ensures room { OnOk result (is_full (Some room) ≡ false) }
+        ensures full { IfErr result (λ d. (is_full (Some room) ≡ true) × Refuses E4 (from self.now at) d) }
+    {
+        if room == 0 {
+            return Err(self.refused(Rule::E4, at));
+        }
+        Ok(())
+    }
+}
