@@ -2,3 +2,5 @@ pub mod Rooms
 pub mod Ranks
 pub mod Operands
 pub mod Levels
+pub mod NameLists
+pub mod Nodes

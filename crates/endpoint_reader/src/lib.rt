@@ -3,6 +3,8 @@
 
 mod expression;
 mod input;
+mod lists;
+mod node;
 mod operand;
 
 pub use expression::read_expression;

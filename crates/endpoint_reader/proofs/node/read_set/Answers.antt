@@ -1,0 +1,13 @@
+use Rattle.grammar_laws.proofs.Sequences.{then_halts, now_halts}
+use Rattle.grammar_laws.proofs.Passing.{passes}
+use Rattle.endpoint_reader.proofs.Nodes.{sets_told}
+use Rattle.endpoint_reader.proofs.node.read_set.Goals as goal
+
+pub returns-in_err-variable-clause-halts : goal.returns-in_err-variable-clause-halts
+returns-in_err-variable-clause-halts c = passes _ _ c.from_residual.ensures.1 (now_halts c.in_err-variable.ensures.halts)
+
+pub returns-in_err-expr-clause-halts : goal.returns-in_err-expr-clause-halts
+returns-in_err-expr-clause-halts c = passes _ _ c.from_residual-in_err-expr.ensures.1 (then_halts c.in_ok-variable.ensures.reads c.in_err-expr.ensures.halts)
+
+pub returns-clause-reads : goal.returns-clause-reads
+returns-clause-reads c = sets_told c.in_ok-variable.ensures.reads c.in_ok-expr.ensures.reads

@@ -1,0 +1,107 @@
+//! Lists of names.
+
+ghost use Rattle.std.specs.Prelude.{IfOk, IfErr, ◌∷◌, []};
+ghost use Rattle.grammar_laws.specs.Readers.{Reads, Halts, Tells, split_of};
+ghost use Rattle.endpoint_grammar.specs.Grammar.{two_names, three_names, role_of_channel, names, sessions};
+ghost use Rattle.endpoint_grammar.specs.Values.{rules, session_list};
+ghost use Rattle.endpoint_reader.specs.Tokens.{from, named, all_named};
+
+use crate::input::{Input, Named};
+use chor_base::{Denied, List};
+use chor_lexer::Mark;
+use std::alloc::Global;
+
+/// How many sessions a procedure may have.
+const SESSIONS: usize = 8;
+
+/// Two names, one after another.
+#[derive(Clone, Copy, Debug, PartialEq, Eq)]
+pub struct Two {
+    pub first: Named,
+    pub second: Named,
+}
+
+/// Three names, one after another.
+#[derive(Clone, Copy, Debug, PartialEq, Eq)]
+pub struct Three {
+    pub first: Named,
+    pub second: Named,
+    pub third: Named,
+}
+
+// NAME NAME
+pub fn read_two_names(input: &Input, at: usize) -> Result<(Two, usize), Denied>
+    ensures reads { IfOk result (λ x. Reads rules two_names (from input.now at) (named input.now x.0.first, named input.now x.0.second) (from input.now x.1)) }
+    ensures halts { IfErr result (Halts rules two_names (from input.now at)) }
+{
+    let (first, at) = input.take_name(at)?;
+    let (second, at) = input.take_name(at)?;
+    Ok((Two { first, second }, at))
+}
+
+// NAME NAME NAME
+pub fn read_three_names(input: &Input, at: usize) -> Result<(Three, usize), Denied>
+    ensures reads { IfOk result (λ x. Reads rules three_names (from input.now at) (named input.now x.0.first, (named input.now x.0.second, named input.now x.0.third)) (from input.now x.1)) }
+    ensures halts { IfErr result (Halts rules three_names (from input.now at)) }
+{
+    let (first, at) = input.take_name(at)?;
+    let (second, at) = input.take_name(at)?;
+    let (third, at) = input.take_name(at)?;
+    Ok((
+        Three {
+            first,
+            second,
+            third,
+        },
+        at,
+    ))
+}
+
+// NAME "[" NAME "]"
+pub fn read_role_of_channel(input: &Input, at: usize) -> Result<(Two, usize), Denied>
+    ensures reads { IfOk result (λ x. Reads rules role_of_channel (from input.now at) (named input.now x.0.first, (tt, (named input.now x.0.second, tt))) (from input.now x.1)) }
+    ensures halts { IfErr result (Halts rules role_of_channel (from input.now at)) }
+{
+    let (first, at) = input.take_name(at)?;
+    let at = input.take_mark(at, Mark::OpenBracket)?;
+    let (second, at) = input.take_name(at)?;
+    let at = input.take_mark(at, Mark::CloseBracket)?;
+    Ok((Two { first, second }, at))
+}
+
+// [ names ], for sessions
+pub fn read_sessions(
+    alloc: Global,
+    input: &Input,
+    at: usize,
+) -> Result<(List<Named>, usize), Denied>
+    ensures reads { IfOk result (λ x. Tells rules sessions session_list (from input.now at) (all_named input.now x.0) (from input.now x.1)) }
+    ensures halts { IfErr result (Halts rules sessions (from input.now at)) }
+{
+    let Some(_) = input.name_at(at) else {
+        return Ok((List::new(alloc), at));
+    };
+    let (names, after) = read_names(alloc, input, at, SESSIONS)?;
+    Ok((names, after))
+}
+
+// NAME { "," NAME }, so many
+fn read_names(
+    alloc: Global,
+    input: &Input,
+    at: usize,
+    limit: usize,
+) -> Result<(List<Named>, usize), Denied>
+    ensures reads { IfOk result (λ x. Reads rules (names limit) (from input.now at) (split_of (all_named input.now x.0)) (from input.now x.1)) }
+    ensures halts { IfErr result (Halts rules (names limit) (from input.now at)) }
+{
+    let (first, mut at) = input.take_item(at, limit)?;
+    let mut names = List::new(alloc);
+    names.push(first)?;
+    while let Some(after) = input.after_mark(at, Mark::Comma) {
+        let (name, more) = input.take_item(after, limit.saturating_sub(names.len()))?;
+        names.push(name)?;
+        at = more;
+    }
+    Ok((names, at))
+}
