@@ -4,3 +4,4 @@ pub mod Operands
 pub mod Levels
 pub mod NameLists
 pub mod Nodes
+pub mod RoleLists

@@ -7,7 +7,10 @@ use Rattle.grammar_laws.specs.Classes.{a_name, is_of}
 use Rattle.grammar_laws.specs.Grammars.{Room, less, within, nowhere, Derives, is_one, in_turn, with_room}
 use Rattle.grammar_laws.specs.Readers.{Reads, Halts, Stands, Lacks, Tells, split_of}
 use Rattle.grammar_laws.proofs.Reading.{past, reads_past, first_of_two, nothing_comes, comes_within, comes_then, token_comes, token_misses, misses_within, misses_then}
-use Rattle.endpoint_grammar.specs.Grammar.{NAME, names, sessions}
+use Rattle.endpoint_grammar.specs.Grammar.{NAME, names, sessions, two_names, mark, signature}
+use Rattle.endpoint_reader.specs.Signatures.{signed}
+use Rattle.grammar_laws.proofs.Sequences.{then_reads}
+use Rattle.chor_lexer.specs.declared.mark.Mark.TheVariants.{OpenParen, CloseParen}
 use Rattle.endpoint_grammar.specs.Values.{rules, session_list}
 
 pub splits : (x : Lexeme) (xs : List Lexeme) → split_of (x ∷ xs) ≡ (x, xs)
@@ -45,3 +48,6 @@ sessions_halt h a = past _ (first_of_two _ (comes_then _ (comes_within _ (token_
 
 pub no_sessions : {ts : List Lexeme} → Lacks a_name ts → Tells rules sessions session_list ts [] ts
 no_sessions n = record { value = inr tt; reads = nothing_comes _ (misses_then _ (misses_within _ (token_misses _ n))); is = refl }
+
+pub signature_told : {ts us vs ws xs : List Lexeme} {f x : Lexeme} {ss : List Lexeme} → Reads rules two_names ts (f, x) us → Reads rules (mark OpenParen) us tt vs → Tells rules sessions session_list vs ss ws → Reads rules (mark CloseParen) ws tt xs → Tells rules signature signed ts ((f, x), ss) xs
+signature_told {f = f} {x = x} r o t c = record { value = ((f, x), (tt, (t.value, tt))); reads = then_reads r (then_reads o (then_reads t.reads c)); is = ap (λ l. ((f, x), l)) t.is }

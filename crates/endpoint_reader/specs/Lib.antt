@@ -1,3 +1,4 @@
 pub mod Tokens
 pub mod Phrases
 pub mod Nodes
+pub mod Signatures

@@ -6,6 +6,7 @@ mod input;
 mod lists;
 mod node;
 mod operand;
+mod roles;
 
 pub use expression::read_expression;
 pub use input::{Input, Named};

@@ -2,9 +2,10 @@
 
 ghost use Rattle.std.specs.Prelude.{IfOk, IfErr, ◌∷◌, []};
 ghost use Rattle.grammar_laws.specs.Readers.{Reads, Halts, Tells, split_of};
-ghost use Rattle.endpoint_grammar.specs.Grammar.{two_names, three_names, role_of_channel, names, sessions};
+ghost use Rattle.endpoint_grammar.specs.Grammar.{two_names, three_names, role_of_channel, names, sessions, signature};
 ghost use Rattle.endpoint_grammar.specs.Values.{rules, session_list};
 ghost use Rattle.endpoint_reader.specs.Tokens.{from, named, all_named};
+ghost use Rattle.endpoint_reader.specs.Signatures.{signed, signature_of};
 
 use crate::input::{Input, Named};
 use chor_base::{Denied, List};
@@ -27,6 +28,14 @@ pub struct Three {
     pub first: Named,
     pub second: Named,
     pub third: Named,
+}
+
+/// A procedure and one of its parameters, and names of sessions.
+#[derive(Drop)]
+pub struct Signature {
+    pub name: Named,
+    pub param: Named,
+    pub sessions: List<Named>,
 }
 
 // NAME NAME
@@ -104,4 +113,21 @@ fn read_names(
         at = more;
     }
     Ok((names, at))
+}
+
+// NAME NAME "(" [ names ] ")"
+pub fn read_signature(alloc: Global, input: &Input, at: usize) -> Result<(Signature, usize), Denied>
+    ensures reads { IfOk result (λ x. Tells rules signature signed (from input.now at) (signature_of input.now x.0) (from input.now x.1)) }
+    ensures halts { IfErr result (Halts rules signature (from input.now at)) }
+{
+    let (names, at) = read_two_names(input, at)?;
+    let at = input.take_mark(at, Mark::OpenParen)?;
+    let (sessions, at) = read_sessions(alloc, input, at)?;
+    let at = input.take_mark(at, Mark::CloseParen)?;
+    let signature = Signature {
+        name: names.first,
+        param: names.second,
+        sessions,
+    };
+    Ok((signature, at))
 }

@@ -14,7 +14,7 @@ map_append f [] ys = refl
 map_append f (x ∷ xs) ys = ap (λ us. f x ∷ us) (map_append f xs ys)
 
 -- the item that was read last goes last
-last_of : {A B : Type 0} (f : A → B) (xs zs : List A) (x : A) (ys : List B) → zs ≡ xs ++ x ∷ [] → map f xs ++ f x ∷ ys ≡ map f zs ++ ys
+pub last_of : {A B : Type 0} (f : A → B) (xs zs : List A) (x : A) (ys : List B) → zs ≡ xs ++ x ∷ [] → map f xs ++ f x ∷ ys ≡ map f zs ++ ys
 last_of f xs zs x ys e =
     sym (append_assoc (map f xs) (f x ∷ []) ys)
     ∙ ap (λ us. us ++ ys) (sym (map_append f xs (x ∷ [])))

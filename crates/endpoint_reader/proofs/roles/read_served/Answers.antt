@@ -1,0 +1,23 @@
+use Rattle.std.proofs.Common.{refl, arith}
+use Rattle.grammar_laws.proofs.Passing.{passes}
+use Rattle.grammar_laws.proofs.Progress.{token_shorter, read_shorter}
+use Rattle.endpoint_reader.proofs.RoleLists.{served_begins, served_goes, served_ends, served_close, served_halts}
+use Rattle.endpoint_reader.proofs.roles.read_served.Goals as goal
+
+pub roles-init : goal.roles-init
+roles-init c = served_begins c.new-serve.ensures
+
+pub returns-in_err-name-clause-halts : goal.returns-in_err-name-clause-halts
+returns-in_err-name-clause-halts c = passes _ _ c.from_residual.ensures.1 (served_halts c.roles.invariant c.in_err-name.ensures.halts)
+
+pub returns-in_err-end-clause-halts : goal.returns-in_err-end-clause-halts
+returns-in_err-end-clause-halts c = passes _ _ c.from_residual-in_err-end.ensures.1 (served_close _ c.roles.invariant c.in_ok-name.ensures.reads c.in_default.ensures.none c.in_err-end.ensures.halts)
+
+pub returns-in_default-clause-reads : goal.returns-in_default-clause-reads
+returns-in_default-clause-reads c = served_ends _ c.roles.invariant c.in_ok-name.ensures.reads c.in_default.ensures.none c.in_ok-end.ensures.reads c.in_ok-push.ensures.ok
+
+pub roles-preserved : goal.roles-preserved
+roles-preserved c = served_goes _ c.roles.invariant c.in_ok-name.ensures.reads c.in-Some.ensures.found c.in_ok-push.ensures.ok c.saturating_sub-left.ensures
+
+pub roles-smaller : goal.roles-smaller
+roles-smaller c = omega (arith, token_shorter c.in-Some.ensures.found, read_shorter refl c.in_ok-name.ensures.reads)
