@@ -24,7 +24,8 @@ pub fn one_or_the_other()
     ensures { (ts : List Lexeme) → is_closed ts ≡ true → IsDerived rules endpoints ts ⊎ HasFault rules endpoints ts }
 {}
 
-/// The first fault stands at one place.
+/// There is one first fault at most.
 pub fn one_fault()
-    ensures { (ts : List Lexeme) (e f : Rule) (p q : Place) → IsFirstFault rules endpoints ts e p → IsFirstFault rules endpoints ts f q → p ≡ q }
+    ensures place { (ts : List Lexeme) (e f : Rule) (p q : Place) → IsFirstFault rules endpoints ts e p → IsFirstFault rules endpoints ts f q → p ≡ q }
+    ensures rule { (ts : List Lexeme) (e f : Rule) (p q : Place) → IsFirstFault rules endpoints ts e p → IsFirstFault rules endpoints ts f q → e ≡ f }
 {}

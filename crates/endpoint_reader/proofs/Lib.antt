@@ -5,3 +5,4 @@ pub mod Levels
 pub mod NameLists
 pub mod Nodes
 pub mod RoleLists
+pub mod Bodies

@@ -2,3 +2,4 @@ pub mod Tokens
 pub mod Phrases
 pub mod Nodes
 pub mod Signatures
+pub mod Lines

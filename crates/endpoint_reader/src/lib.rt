@@ -1,8 +1,10 @@
 //! Reads endpoint files: from tokens to programs.
 #![tactic(auto)]
 
+mod body;
 mod expression;
 mod input;
+mod lines;
 mod lists;
 mod node;
 mod operand;

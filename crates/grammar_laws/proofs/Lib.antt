@@ -12,3 +12,4 @@ pub mod Ways
 pub mod Whole
 pub mod OneFault
 pub mod Windows
+pub mod OneLimit

@@ -4,7 +4,7 @@ use Rattle.chor_base.specs.declared.rule.Place.{Place}
 use Rattle.chor_base.specs.declared.rule.Rule.{Rule}
 use Rattle.chor_lexer.specs.Lexeme.{Lexeme}
 use Rattle.grammar_laws.specs.Grammars.{Grammar, Rules, but_at}
-use Rattle.grammar_laws.specs.Faults.{CanEnd, IsFaultAt, unexpected, excess, IsFirstFault}
+use Rattle.grammar_laws.specs.Faults.{CanEnd, IsFaultAt, unexpected, excess, IsFirstFault, IsViable}
 
 data Order (b c : List Lexeme) (t u : Lexeme) : Type 0 where
   same : b ≡ c → t ≡ u → Order b c t u
@@ -28,13 +28,13 @@ order (l ∷ b) (m ∷ c) t u v w e =
 -- both are tokens that can't be there, or both are excesses
 pub data Agree {N : Type 0} (r : Rules N) (g : Grammar N) (e f : Rule) : Type 0 where
   both_wrong : e ≡ r.wrong → f ≡ r.wrong → Agree r g e f
-  both_exceed : (before : List Lexeme) (t : Lexeme) → (CanEnd r (but_at e t.place) g (before ++ t ∷ []) → ⊥) → (CanEnd r (but_at f t.place) g (before ++ t ∷ []) → ⊥) → Agree r g e f
+  both_exceed : (before : List Lexeme) (t : Lexeme) → IsViable r g (before ++ t ∷ []) → (CanEnd r (but_at e t.place) g (before ++ t ∷ []) → ⊥) → (CanEnd r (but_at f t.place) g (before ++ t ∷ []) → ⊥) → Agree r g e f
 
 agree : {N : Type 0} {r : Rules N} {g : Grammar N} {b : List Lexeme} {t : Lexeme} {e f : Rule} → IsFaultAt r g b t e → IsFaultAt r g b t f → Agree r g e f
 agree (unexpected v n) (unexpected w m) = both_wrong refl refl
 agree (unexpected v n) (excess w m) = absurd (n w)
 agree (excess v n) (unexpected w m) = absurd (m v)
-agree {b = b} {t = t} (excess v n) (excess w m) = both_exceed b t n m
+agree {b = b} {t = t} (excess v n) (excess w m) = both_exceed b t v n m
 
 pub one_fault : {N : Type 0} {r : Rules N} {g : Grammar N} {ts : List Lexeme} {e f : Rule} {p q : Place} → IsFirstFault r g ts e p → IsFirstFault r g ts f q → (p ≡ q) × Agree r g e f
 one_fault {N} {r} {g} {ts} {e} {f} {p} {q} a b = go (order a.before b.before a.token b.token a.rest b.rest (sym a.parts ∙ b.parts))

@@ -37,7 +37,7 @@ module _ {N : Type 0} (r : Rules N) where
   pub pass_halts : {g a : Grammar N} {ts us : List Lexeme} {d : Denied} → Passes r g ts us → Halts r a us d → Halts r (seq g a) ts d
   pass_halts p h = ways_halt (after_pass p) h
 
-  one_is : {c : Class} {ts us : List Lexeme} {x : Value r.V (one c)} → Derives r nowhere (one c) ts x us → HasOne c ts us
+  pub one_is : {c : Class} {ts us : List Lexeme} {x : Value r.V (one c)} → Derives r nowhere (one c) ts x us → HasOne c ts us
   one_is (is_one l p i) = record { token = l; stands = record { parts = p; is = i } }
 
   pub enters : {c : Class} {ts us : List Lexeme} {x : Value r.V (one c)} (n : N) → Reads r (one c) ts x us → Ways r (after c n) ts (r.rule n) us

@@ -1,0 +1,55 @@
+-- Lines of bodies, as they are written, and what readers of bodies answer.
+use Rattle.std.specs.Prelude.{◌≡◌, ℕ, List, [], ◌∷◌, ◌++◌, map, slice_index_or, codes}
+use Rattle.chor_base.specs.Expr.{term_of}
+use Rattle.chor_lexer.specs.Lexeme.{word, Lexeme}
+use Rattle.grammar_laws.specs.Readers.{Leads}
+use Rattle.endpoint_grammar.specs.Written.{Deed, Body, Does, Offers, Tests, Calls, Ends, Arms, NoArms, Arm}
+use Rattle.endpoint_grammar.specs.Grammar.{lines_of}
+use Rattle.endpoint_grammar.specs.Values.{rules, Derived, body_of}
+use Rattle.endpoint_reader.specs.declared.input.Input.{Input}
+use Rattle.endpoint_reader.specs.declared.node.Action.{Action}
+use Rattle.endpoint_reader.specs.declared.lines.LineId.{LineId}
+use Rattle.endpoint_reader.specs.declared.lines.Arm.{Arm as OneArm}
+use Rattle.endpoint_reader.specs.declared.lines.Line.{Line}
+use Rattle.endpoint_reader.specs.declared.lines.Line.TheVariants as line
+use Rattle.endpoint_reader.specs.Tokens.{named, all_named, written}
+use Rattle.endpoint_reader.specs.Nodes.{deed_of}
+
+-- the body that stands at a number
+abbrev pub body_in : List Body → LineId → Body
+body_in bs id = slice_index_or bs id.0 Ends
+
+abbrev pub arms_in : Input → List Body → List OneArm → Arms
+arms_in i bs [] = NoArms
+arms_in i bs (a ∷ others) = Arm (named i a.label) (body_in bs a.body) (arms_in i bs others)
+
+-- the body that begins with a line, where the bodies of those before it in the table are known
+abbrev pub line_body : Input → List Body → Line → Body
+line_body i bs (line.Act a next) = Does (deed_of i a) (body_in bs next)
+line_body i bs (line.Branch k a arms) = Offers (named i k) (named i a) (arms_in i bs arms)
+line_body i bs (line.If e first second) = Tests (written i (term_of e)) (body_in bs first) (body_in bs second)
+line_body i bs (line.Call p s) = Calls (record { symbol = word (codes "call"); place = p }) (named i s.name) (named i s.param) (all_named i s.sessions)
+line_body i bs line.End = Ends
+
+-- the bodies of all lines, after those that are known
+abbrev pub grown : Input → List Body → List Line → List Body
+grown i bs [] = bs
+grown i bs (l ∷ ls) = grown i (bs ++ line_body i bs l ∷ []) ls
+
+abbrev pub bodies_of : Input → List Line → List Body
+bodies_of i ls = grown i [] ls
+
+-- The body that begins at a number of a table
+abbrev pub body_at : Input → List Line → LineId → Body
+body_at i ls id = body_in (bodies_of i ls) id
+
+-- deeds one after another, and then a body
+abbrev pub does_all : List Deed → Body → Body
+does_all [] b = b
+does_all (d ∷ ds) b = Does d (does_all ds b)
+
+-- of a body these actions were read, and its path has room for so many more nodes
+pub record Going (i : Input) (room : ℕ) (ts : List Lexeme) (xs : List Action) (left : ℕ) (us : List Lexeme) : Type 0 where
+  pub whole : Derived (lines_of left) → Derived (lines_of room)
+  pub leads : Leads rules (lines_of room) ts (lines_of left) us whole
+  pub is : (v : Derived (lines_of left)) → body_of room (whole v) ≡ does_all (map (deed_of i) xs) (body_of left v)
