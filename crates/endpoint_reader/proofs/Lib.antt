@@ -6,3 +6,4 @@ pub mod NameLists
 pub mod Nodes
 pub mod RoleLists
 pub mod Bodies
+pub mod Spelled

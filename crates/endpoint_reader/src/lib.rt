@@ -1,14 +1,21 @@
-//! Reads endpoint files: from tokens to programs.
+//! Reads endpoint files: from tokens to their parts.
 #![tactic(auto)]
 
 mod body;
 mod expression;
 mod input;
+mod laws;
 mod lines;
 mod lists;
 mod node;
 mod operand;
 mod roles;
 
+pub use body::{Begun, read_actions};
 pub use expression::read_expression;
 pub use input::{Input, Named};
+pub use laws::tokens_are_lexemes;
+pub use lines::{Arm, Line, LineId, push_line};
+pub use lists::{Signature, Two, read_role_of_channel, read_sessions, read_signature};
+pub use node::Action;
+pub use roles::{Roles, read_roles};

@@ -1,0 +1,12 @@
+//! What tokens say.
+
+ghost use Rattle.std.specs.Prelude.{◌≡◌, List, map};
+ghost use Rattle.chor_lexer.specs.Lexeme.{Lexeme};
+ghost use Rattle.chor_lexer.specs.Tokens.{AreSpelled};
+ghost use Rattle.endpoint_reader.specs.declared.input.Input.{Input as AnyInput};
+ghost use Rattle.endpoint_reader.specs.Tokens.{lexeme_of};
+
+/// Tokens whose words and texts have their numbers in the tables are those of the file.
+pub fn tokens_are_lexemes()
+    ensures { (i : AnyInput) (ls : List Lexeme) → AreSpelled i.names.now i.texts.now i.tokens.now.items ls → map (lexeme_of i) i.tokens.now.items ≡ ls }
+{}
