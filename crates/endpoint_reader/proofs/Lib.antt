@@ -7,3 +7,4 @@ pub mod Nodes
 pub mod RoleLists
 pub mod Bodies
 pub mod Spelled
+pub mod FirstWords

@@ -3,3 +3,4 @@ pub mod Phrases
 pub mod Nodes
 pub mod Signatures
 pub mod Lines
+pub mod Tails

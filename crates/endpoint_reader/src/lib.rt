@@ -10,6 +10,7 @@ mod lists;
 mod node;
 mod operand;
 mod roles;
+mod tail;
 
 pub use body::{Begun, read_actions};
 pub use expression::read_expression;
@@ -19,3 +20,4 @@ pub use lines::{Arm, Line, LineId, push_line};
 pub use lists::{Signature, Two, read_role_of_channel, read_sessions, read_signature};
 pub use node::Action;
 pub use roles::{Roles, read_roles};
+pub use tail::{TailWord, tail_word};

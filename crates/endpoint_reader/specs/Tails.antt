@@ -1,0 +1,19 @@
+-- Tails by their first words.
+use Rattle.std.specs.Prelude.{ℕ, List, codes}
+use Rattle.chor_base.specs.declared.rule.Place.{Place}
+use Rattle.chor_lexer.specs.Lexeme.{word, Lexeme}
+use Rattle.grammar_laws.specs.Classes.{a_word, a_kept_word}
+use Rattle.grammar_laws.specs.Readers.{Stands, HasOne}
+use Rattle.endpoint_reader.specs.declared.tail.TailWord.{TailWord}
+use Rattle.endpoint_reader.specs.declared.tail.TailWord.TheVariants as begun
+
+-- a word that stands at a place
+abbrev pub kept_word : List ℕ → Place → Lexeme
+kept_word w p = record { symbol = word w; place = p }
+
+-- a tail begins so there, and these tokens come after its first word
+abbrev pub TailStands : TailWord → List Lexeme → List Lexeme → Type 0
+TailStands begun.Branch ts us = HasOne (a_word (codes "branch")) ts us
+TailStands begun.If ts us = HasOne (a_word (codes "if")) ts us
+TailStands (begun.Call p) ts us = Stands (a_kept_word (codes "call")) (kept_word (codes "call") p) ts us
+TailStands begun.End ts us = HasOne (a_word (codes "end")) ts us
