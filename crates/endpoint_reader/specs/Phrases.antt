@@ -8,7 +8,7 @@ use Rattle.chor_base.specs.Expr.{term_of}
 use Rattle.chor_lexer.specs.declared.mark.Mark.{Mark}
 use Rattle.chor_lexer.specs.declared.mark.Mark.TheVariants as sign
 use Rattle.chor_lexer.specs.Lexeme.{Symbol, word as a_word_of, Lexeme}
-use Rattle.grammar_laws.specs.Classes.{a_mark, a_word, a_name, a_number, a_text, is_of}
+use Rattle.grammar_laws.specs.Classes.{Class, a_mark, a_word, a_name, a_number, a_text, is_of}
 use Rattle.grammar_laws.specs.Readers.{ReadsIn, Begins}
 use Rattle.endpoint_grammar.specs.Written.{Phrase, Leaf}
 use Rattle.endpoint_grammar.specs.Grammar.{Part, operators, level, un, product, comparison, conjunction}
@@ -70,6 +70,10 @@ pub record IsOperator (ms : List Mark) (f : Derived (operators ms) → BinOp) (o
   pub is : f value ≡ op
 
 -- ---- operands
+
+-- the tokens that are operands alone
+abbrev pub leaf_classes : List Class
+leaf_classes = a_number ∷ a_text ∷ a_word (codes "true") ∷ a_word (codes "false") ∷ a_name ∷ []
 
 -- the symbol alone is this phrase
 pub data IsLeaf (s : Symbol) (x : Phrase) : Type 0 where

@@ -1,13 +1,13 @@
 //! What an operand of an expression begins with.
 
-ghost use Rattle.std.specs.Prelude.{◌≡◌, IfSome, IfNone, false, codes, ◌∷◌, []};
+ghost use Rattle.std.specs.Prelude.{◌≡◌, IfSome, IfNone, false};
 ghost use Rattle.chor_base.specs.Expr.{term_of};
-ghost use Rattle.grammar_laws.specs.Classes.{a_mark, a_word, a_name, a_number, a_text, is_of, is_among};
+ghost use Rattle.grammar_laws.specs.Classes.{a_mark, is_of, is_among};
 ghost use Rattle.grammar_laws.specs.Readers.{Misses};
 ghost use Rattle.endpoint_grammar.specs.Grammar.{un};
 ghost use Rattle.endpoint_grammar.specs.Values.{rules};
 ghost use Rattle.endpoint_reader.specs.Tokens.{from, symbol_of, written};
-ghost use Rattle.endpoint_reader.specs.Phrases.{IsLeaf, OpensWith, Opens};
+ghost use Rattle.endpoint_reader.specs.Phrases.{leaf_classes, IsLeaf, OpensWith, Opens};
 
 use crate::input::Input;
 use chor_base::{Expr, NameId, UnOp, Value};
@@ -38,7 +38,7 @@ impl Input<'_> {
         ensures minus { IfNone result (is_of (a_mark Mark.Minus) (symbol_of self.now kind) ≡ false) }
         ensures not { IfNone result (is_of (a_mark Mark.Not) (symbol_of self.now kind) ≡ false) }
         ensures parens { IfNone result (is_of (a_mark Mark.OpenParen) (symbol_of self.now kind) ≡ false) }
-        ensures leaf { IfNone result (is_among (a_number ∷ a_text ∷ a_word (codes "true") ∷ a_word (codes "false") ∷ a_name ∷ []) (symbol_of self.now kind) ≡ false) }
+        ensures leaf { IfNone result (is_among leaf_classes (symbol_of self.now kind) ≡ false) }
     {
         if self.is_mark(kind, Mark::Minus) {
             return Some(Opening::Unary(UnOp::Neg));
@@ -58,7 +58,7 @@ impl Input<'_> {
     // The operand that a token of this kind alone is.
     fn leaf_of(&self, kind: Kind) -> Option<Expr>
         ensures found { IfSome result (λ e. IsLeaf (symbol_of self.now kind) (written self.now (term_of e))) }
-        ensures none { IfNone result (is_among (a_number ∷ a_text ∷ a_word (codes "true") ∷ a_word (codes "false") ∷ a_name ∷ []) (symbol_of self.now kind) ≡ false) }
+        ensures none { IfNone result (is_among leaf_classes (symbol_of self.now kind) ≡ false) }
     {
         match kind {
             Kind::Word(name) => self.word_leaf(name),
@@ -71,7 +71,7 @@ impl Input<'_> {
     // The operand that a word is.
     fn word_leaf(&self, name: NameId) -> Option<Expr>
         ensures found { IfSome result (λ e. IsLeaf (symbol_of self.now (Kind.Word name)) (written self.now (term_of e))) }
-        ensures none { IfNone result (is_among (a_number ∷ a_text ∷ a_word (codes "true") ∷ a_word (codes "false") ∷ a_name ∷ []) (symbol_of self.now (Kind.Word name)) ≡ false) }
+        ensures none { IfNone result (is_among leaf_classes (symbol_of self.now (Kind.Word name)) ≡ false) }
     {
         let kind = Kind::Word(name);
         if self.is_word(kind, b"true") {
