@@ -16,7 +16,7 @@ pub fn one_program()
 
 /// Tokens that are a file within the limits have no first fault.
 pub fn never_refused()
-    ensures { (ts : List Lexeme) (x : Derived endpoints) (rule : Rule) (place : Place) → Derives rules nowhere endpoints ts x [] → IsFirstFault rules endpoints ts rule place → ⊥ }
+    ensures { (ts : List Lexeme) (rule : Rule) (place : Place) → IsDerived rules endpoints ts → IsFirstFault rules endpoints ts rule place → ⊥ }
 {}
 
 /// Tokens up to the end of a file are a file within the limits, or one of them is the first fault.

@@ -6,12 +6,24 @@ use Rattle.chor_lexer.specs.declared.mark.Mark.TheVariants.{Bar, CloseParen}
 use Rattle.grammar_laws.specs.Classes.{a_mark}
 use Rattle.grammar_laws.specs.Grammars.{alt, after}
 use Rattle.endpoint_grammar.specs.Written.{Roles as WrittenRoles}
-use Rattle.endpoint_grammar.specs.Grammar.{Part, served, mark, signature}
+use Rattle.endpoint_grammar.specs.Grammar.{Part, role_of_channel, served, mark, signature}
 use Rattle.endpoint_grammar.specs.Values.{Derived, session_list}
 use Rattle.endpoint_reader.specs.declared.input.Input.{Input}
+use Rattle.endpoint_reader.specs.declared.lists.Two.{Two}
+use Rattle.endpoint_reader.specs.declared.lists.Three.{Three}
 use Rattle.endpoint_reader.specs.declared.lists.Signature.{Signature}
 use Rattle.endpoint_reader.specs.declared.roles.Roles.{Roles}
 use Rattle.endpoint_reader.specs.Tokens.{named, all_named}
+
+-- names, as they are written
+abbrev pub two_of : Input → Two → Lexeme × Lexeme
+two_of i x = (named i x.first, named i x.second)
+
+abbrev pub three_of : Input → Three → Lexeme × (Lexeme × Lexeme)
+three_of i x = (named i x.first, (named i x.second, named i x.third))
+
+abbrev pub role_of : Input → Two → Derived role_of_channel
+role_of i x = (named i x.first, (tt, (named i x.second, tt)))
 
 -- a procedure and its parameter, and the sessions
 abbrev pub signed : Derived signature → (Lexeme × Lexeme) × List Lexeme

@@ -4,8 +4,8 @@ ghost use Rattle.std.specs.Prelude.{IfOk, IfErr, ◌∷◌, []};
 ghost use Rattle.grammar_laws.specs.Readers.{Reads, Halts, Tells, split_of};
 ghost use Rattle.endpoint_grammar.specs.Grammar.{two_names, three_names, role_of_channel, names, sessions, signature};
 ghost use Rattle.endpoint_grammar.specs.Values.{rules, session_list};
-ghost use Rattle.endpoint_reader.specs.Tokens.{from, named, all_named};
-ghost use Rattle.endpoint_reader.specs.Signatures.{signed, signature_of};
+ghost use Rattle.endpoint_reader.specs.Tokens.{from, all_named};
+ghost use Rattle.endpoint_reader.specs.Signatures.{two_of, three_of, role_of, signed, signature_of};
 
 use crate::input::{Input, Named};
 use chor_base::{Denied, List};
@@ -40,7 +40,7 @@ pub struct Signature {
 
 // NAME NAME
 pub fn read_two_names(input: &Input, at: usize) -> Result<(Two, usize), Denied>
-    ensures reads { IfOk result (λ x. Reads rules two_names (from input.now at) (named input.now x.0.first, named input.now x.0.second) (from input.now x.1)) }
+    ensures reads { IfOk result (λ x. Reads rules two_names (from input.now at) (two_of input.now x.0) (from input.now x.1)) }
     ensures halts { IfErr result (Halts rules two_names (from input.now at)) }
 {
     let (first, at) = input.take_name(at)?;
@@ -50,7 +50,7 @@ pub fn read_two_names(input: &Input, at: usize) -> Result<(Two, usize), Denied>
 
 // NAME NAME NAME
 pub fn read_three_names(input: &Input, at: usize) -> Result<(Three, usize), Denied>
-    ensures reads { IfOk result (λ x. Reads rules three_names (from input.now at) (named input.now x.0.first, (named input.now x.0.second, named input.now x.0.third)) (from input.now x.1)) }
+    ensures reads { IfOk result (λ x. Reads rules three_names (from input.now at) (three_of input.now x.0) (from input.now x.1)) }
     ensures halts { IfErr result (Halts rules three_names (from input.now at)) }
 {
     let (first, at) = input.take_name(at)?;
@@ -68,7 +68,7 @@ pub fn read_three_names(input: &Input, at: usize) -> Result<(Three, usize), Deni
 
 // NAME "[" NAME "]"
 pub fn read_role_of_channel(input: &Input, at: usize) -> Result<(Two, usize), Denied>
-    ensures reads { IfOk result (λ x. Reads rules role_of_channel (from input.now at) (named input.now x.0.first, (tt, (named input.now x.0.second, tt))) (from input.now x.1)) }
+    ensures reads { IfOk result (λ x. Reads rules role_of_channel (from input.now at) (role_of input.now x.0) (from input.now x.1)) }
     ensures halts { IfErr result (Halts rules role_of_channel (from input.now at)) }
 {
     let (first, at) = input.take_name(at)?;

@@ -2,4 +2,4 @@ use Rattle.grammar_laws.proofs.Completed.{never_both}
 use Rattle.endpoint_grammar.proofs.laws.never_refused.Goals as goal
 
 pub returns : goal.returns
-returns c ts x rule place d f = never_both _ d f
+returns c ts rule place d f = never_both _ d.is f
