@@ -1,15 +1,18 @@
 -- Nodes by their first words.
-use Rattle.std.specs.Prelude.{ℕ, List, codes}
+use Rattle.std.specs.Prelude.{ℕ, List, Some, codes}
 use Rattle.chor_base.specs.Expr.{term_of}
+use Rattle.chor_base.specs.declared.rule.Rule.TheVariants.{E4}
+use Rattle.grammar_laws.specs.Grammars.{within}
+use Rattle.grammar_laws.specs.Readers.{Tells}
 use Rattle.endpoint_grammar.specs.Written.{Deed, Joins, Sends, Receives, Selects, Gives, Gains, Sets, Shows, Asks}
-use Rattle.endpoint_grammar.specs.Grammar.{Part, join, send, three_names, set, expr, host}
-use Rattle.endpoint_grammar.specs.Values.{Derived, phrase}
+use Rattle.endpoint_grammar.specs.Grammar.{Part, node, join, send, three_names, set, expr, host}
+use Rattle.endpoint_grammar.specs.Values.{rules, Derived, phrase, deed}
 use Rattle.endpoint_reader.specs.declared.input.Input.{Input}
 use Rattle.endpoint_reader.specs.declared.node.Action.{Action}
 use Rattle.endpoint_reader.specs.declared.node.Action.TheVariants as action
 use Rattle.endpoint_reader.specs.declared.node.NodeWord.{NodeWord}
 use Rattle.endpoint_reader.specs.declared.node.NodeWord.TheVariants as begun
-use Rattle.endpoint_reader.specs.Tokens.{named, written}
+use Rattle.endpoint_reader.specs.Tokens.{from, named, written}
 
 -- an action, as it is written
 abbrev pub deed_of : Input → Action → Deed
@@ -56,3 +59,7 @@ deed_by begun.Gain (k, (a, h)) = Gains k a h
 deed_by begun.Set (x, e) = Sets x (phrase e)
 deed_by begun.Show e = Shows (phrase e)
 deed_by begun.Host ((x, f), (o, (a, (m, (b, p))))) = Asks x f (phrase a) (phrase b)
+
+-- a node was read, on a path with room for so many
+abbrev pub IsNode : Input → ℕ → ℕ → Action × ℕ → Type 0
+IsNode i room at x = Tells rules (within E4 (Some room) node) deed (from i at) (deed_of i x.0) (from i x.1)

@@ -8,7 +8,7 @@ ghost use Rattle.grammar_laws.specs.Readers.{Halts, Tells, Begins, Misses, HasOn
 ghost use Rattle.endpoint_grammar.specs.Grammar.{node, join as join_part, send, set, host, expr as an_expr};
 ghost use Rattle.endpoint_grammar.specs.Values.{rules, deed};
 ghost use Rattle.endpoint_reader.specs.Tokens.{from};
-ghost use Rattle.endpoint_reader.specs.Nodes.{deed_of, first_word, rest_of, deed_by};
+ghost use Rattle.endpoint_reader.specs.Nodes.{IsNode, deed_of, first_word, rest_of, deed_by};
 
 use crate::expression::read_expression;
 use crate::input::{Input, Named};
@@ -52,7 +52,7 @@ pub fn read_node(
     at: usize,
     room: usize,
 ) -> Result<Option<(Action, usize)>, Denied>
-    ensures some { IfOk result (λ found. IfSome found (λ x. Tells rules (within E4 (Some room) node) deed (from input.now at) (deed_of input.now x.0) (from input.now x.1))) }
+    ensures some { IfOk result (λ found. IfSome found (IsNode input.now room at)) }
     ensures begins { IfOk result (λ found. IfSome found (λ x. Begins rules node (from input.now at))) }
     ensures none { IfOk result (λ found. IfNone found (Misses rules node (from input.now at))) }
     ensures begun { OnErr result (Begins rules node (from input.now at)) }
