@@ -1,6 +1,12 @@
 -- How a call ends, by what was fetched.
 use Rattle.std.proofs.Common.{◌≡◌, ◌<◌, ◌≤◌, ℕ, List, [], Option, Some, None, length, refl, sym, ap, subst, arith}
 use Rattle.std.specs.Option.{IfSome, IfNone}
+use Rattle.std.specs.Prelude.{Result, Ok, Err, IfErr, IsErrAnd}
+use Rattle.chor_base.specs.declared.rule.Denied.{Denied}
+use Rattle.chor_base.specs.declared.rule.Denied.TheVariants.{Memory}
+use Rattle.chor_tree.specs.declared.file.File.{File}
+use Rattle.source_check.specs.declared.rules.Class.{Class}
+use Rattle.source_check.specs.Source.{IsBroken}
 use Rattle.chor_io.specs.Outside.{FetchTells, FetchFrom, FetchGrows}
 use Rattle.chor_io.specs.declared.outside.Fetched.TheVariants as fetched
 use Rattle.chor_cmd.specs.Endings.{Told, MayTell, source_limit}
@@ -34,3 +40,8 @@ of_some (Some b) a P e h = let same : b ≡ a = cc in subst P same h
 pub of_none : {A : Type 0} (o : Option A) (P : Type 0) → o ≡ None → IfNone o P → P
 of_none None P e h = h
 of_none (Some b) P e h = absurd cc
+
+-- where there was no memory, no class of rules is told
+pub no_memory_tells : {T : Type 0} (classes : List Class) (hosts : List (List ℕ)) (f : File) (r : Result T Denied) → IsErrAnd r (λ d. d ≡ Memory) → IfErr r (IsBroken classes hosts f)
+no_memory_tells classes hosts f (Ok x) h = tt
+no_memory_tells classes hosts f (Err d) h = subst (IsBroken classes hosts f) (sym h) tt

@@ -1,23 +1,30 @@
--- What is printed of a thin file's run is its transcript.
-use Rattle.std.proofs.Common.{◌≡◌, ◌∙◌, ℕ, suc, List, [], ◌∷◌, length, refl, sym, ap}
+-- What is printed of a run is its transcript.
+use Rattle.std.proofs.Common.{◌≡◌, ◌∙◌, ℕ, suc, List, [], ◌∷◌, length, refl, ap, Bool}
+use Rattle.chor_base.specs.declared.event.Event.{Event}
 use Rattle.chor_base.specs.declared.event.Entry.{Entry}
 use Rattle.chor_tree.specs.declared.file.File.{File}
+use Rattle.endpoint_code.specs.declared.endpoints.Endpoints.{Endpoints}
 use Rattle.transcript.specs.Text.{transcript}
-use Rattle.thin_files.specs.Thin.{Thin}
-use Rattle.thin_files.specs.Runs.{IsThinRun}
-use Rattle.chor_cmd.specs.Outputs.{book_of, events_of, end_line, RunsShape}
+use Rattle.net_core.specs.Picks.{entries_of}
+use Rattle.simulation.specs.Runs.{IsOutcome, close_of}
+use Rattle.chor_cmd.specs.Outputs.{book_of, events_of, last_line, run_seed, run_steps, IsRunText}
 
-length-events : (es : List Entry) → length (events_of es) ≡ length es
-length-events [] = refl
-length-events (e ∷ es) = ap suc (length-events es)
+events_back : (h : List Event) → events_of (entries_of h) ≡ h
+events_back [] = refl
+events_back (x ∷ xs) = ap (λ ys. x ∷ ys) (events_back xs)
 
-pub runs_text : (f : File) (t : Thin) (entries : List Entry) (text : List ℕ) → IsThinRun f t entries → text ≡ transcript (book_of f) (events_of entries) (end_line (length entries)) → RunsShape f t text
-runs_text f t entries text r e = record {
-  run = record {
-    history = events_of entries;
-    run = r.run;
-    fifo = r.fifo;
-    text_is = e ∙ ap (λ n. transcript (book_of f) (events_of entries) (end_line n)) (sym (length-events entries));
-  };
-  count = length-events entries ∙ r.count;
+as_long : (h : List Event) → length (entries_of h) ≡ length h
+as_long [] = refl
+as_long (x ∷ xs) = ap suc (as_long xs)
+
+pub run_text : (f : File) (e : Endpoints) (entries : List Entry) (ended : Bool) (text : List ℕ) → IsOutcome f e [] run_seed run_steps entries (close_of ended)
+    → text ≡ transcript (book_of f) (events_of entries) (last_line ended (length entries)) → IsRunText f text
+run_text f e entries ended text o is = record {
+  endpoints = e;
+  history = o.history;
+  ended = ended;
+  run = o.run;
+  text_is = is
+      ∙ ap (λ (es : List Entry). transcript (book_of f) (events_of es) (last_line ended (length es))) o.entries_are
+      ∙ (λ i. transcript (book_of f) (events_back o.history i) (last_line ended (as_long o.history i)));
 }

@@ -1,7 +1,6 @@
 -- The words, and the file that was read, settle how a call ends.
-use Rattle.std.proofs.Common.{◌≡◌, ◌<◌, ℕ, List, None, Some, length, refl, sym, ap, ◌∙◌, subst, arith}
-use Rattle.chor_base.specs.declared.rule.Place.{Place}
-use Rattle.chor_base.specs.declared.rule.Rule.{Rule}
+use Rattle.std.proofs.Common.{◌≡◌, ◌<◌, ℕ, List, None, Some, false, length, refl, sym, ap, ◌∙◌, subst, arith}
+use Rattle.chor_base.specs.declared.rule.Refusal.{Refusal}
 use Rattle.chor_io.specs.Outside.{Risen, ShelfState, SinkState}
 use Rattle.chor_tree.specs.declared.file.File.{File}
 use Rattle.chor_print.specs.Text.{canonical_text}
@@ -11,14 +10,13 @@ use Rattle.chor_cmd.specs.declared.words.Command.TheVariants.{Check, Fmt, Types,
 use Rattle.chor_cmd.specs.declared.status.Status.{Status}
 use Rattle.chor_cmd.specs.declared.status.Status.TheVariants.{Done, Refused, Usage, ReadFault, WriteFault, Memory, TooLarge, Unbuilt}
 use Rattle.chor_cmd.specs.Words.{rules_of, NamesFile, HasNoForm}
-use Rattle.thin_files.specs.ThinFile.{IsThin}
+use Rattle.host_calls.specs.Asking.{source_asks, asks_hosts}
 use Rattle.source_check.specs.Source.{IsFileOf, IsAccepted, Violates, unread, broken}
-use Rattle.chor_cmd.specs.Outputs.{IsOutput, NeedsThin, IsUnbuilt, Answers, usage_line, too_large_line, refused_line, unbuilt_line}
+use Rattle.chor_cmd.specs.Outputs.{IsOutput, IsUnbuilt, Answers, usage_line, too_large_line, refused_line, unbuilt_line}
 use Rattle.chor_cmd.specs.Endings.{source_limit, Told, Tells, MayTell, MayAsk, Asks, Ends, usage, read_fault, too_large, refused, unbuilt, done, Wrote, HasEnded, Comes, so, no_memory, unread as not_read, unwritten, GivesUsage, GivesTooLarge, GivesRefusal, GivesUnbuilt, GivesAnswer, GivesCanonical, GivesSame}
 use Rattle.chor_cmd.proofs.SameWords.{same_name, same_command}
 use Rattle.source_check.proofs.Files.{one_file}
 use Rattle.source_check.proofs.OneFault.{one_refusal, never_refused}
-use Rattle.thin_files.proofs.Blocks.{same_thin}
 use Rattle.chor_cmd.proofs.SameTexts.{text_alike, text_is_source, text_of_text}
 
 -- the bytes that may be told of a file are those that are told of it
@@ -27,16 +25,20 @@ same_bytes None m n b bytes e h t = absurd t
 same_bytes (Some files) m n b bytes e h t = let same : Some b ≡ Some bytes = sym h ∙ ap files e ∙ t in cc
 
 -- what a command writes tells that it handles the file
-handles : (command : Command) (f : File) (text : List ℕ) → IsOutput command f text → NeedsThin command → IsThin f
-handles (Check i) f text o n = absurd n
-handles (Fmt i) f text o n = absurd n
-handles (Types i) f text o n = absurd n
-handles (Project i) f text o n = o.0
-handles (Run i) f text o n = (o.0, o.1)
+handles : (command : Command) (f : File) (text : List ℕ) → IsOutput command f text → IsUnbuilt command f → ⊥
+handles (Check i) f text o n = n
+handles (Fmt i) f text o n = n
+handles (Types i) f text o n = n
+handles (Project i) f text o n = n
+handles (Run i) f text o n = let none : asks_hosts f ≡ false = o.0 in cc
 
--- files of the same bytes are thin or not alike
-thin_alike : (bytes : List ℕ) (f g : File) → IsFileOf bytes f → IsFileOf bytes g → IsThin f → IsThin g
-thin_alike bytes f g i j t = same_thin f g (one_file bytes f g i j) t
+-- files of the same bytes are handled alike
+unbuilt_alike : (command : Command) (bytes : List ℕ) (f g : File) → IsFileOf bytes f → IsFileOf bytes g → IsUnbuilt command f → IsUnbuilt command g
+unbuilt_alike (Check w) bytes f g i j n = n
+unbuilt_alike (Fmt w) bytes f g i j n = n
+unbuilt_alike (Types w) bytes f g i j n = n
+unbuilt_alike (Project w) bytes f g i j n = n
+unbuilt_alike (Run w) bytes f g i j n = ap source_asks (sym (one_file bytes f g i j)) ∙ n
 
 module _ (hosts : List (List ℕ)) (words : Words) (shelf shelf' : ShelfState) where
   -- a call ends as it is expected to, or reading fails
@@ -46,7 +48,7 @@ module _ (hosts : List (List ℕ)) (words : Words) (shelf shelf' : ShelfState) w
 
   -- what came of a file that is told, and isn't too long
   data Became (command : Command) (bytes : List ℕ) : Status → List ℕ → Type 0 where
-    violates : (rule : Rule) (place : Place) → Violates (rules_of command) hosts bytes rule place → Became command bytes Refused (refused_line rule place)
+    violates : (r : Refusal) → Violates (rules_of command) hosts bytes r → Became command bytes Refused (refused_line r)
     thick : (f : File) → IsAccepted (rules_of command) hosts bytes f → IsUnbuilt command f → Became command bytes Unbuilt unbuilt_line
     fits : {text : List ℕ} → Answers hosts command bytes text → Became command bytes Done text
     failed : {text : List ℕ} (name : List ℕ) → NamesFile words name → Risen (shelf.faults name) (shelf'.faults name) → Became command bytes ReadFault text
@@ -64,7 +66,7 @@ module _ (hosts : List (List ℕ)) (words : Words) (shelf shelf' : ShelfState) w
   became command bytes a s t (too_large name b n told l) =
       let e = same_bytes shelf.files name a.name b bytes (same_name words name a.name n (command, a.form)) told a.told in
       absurd (omega (arith, ap length e, a.few, l))
-  became command bytes a s t (refused c b rule place m v) = violates rule place (moved (λ d x. Violates (rules_of d) hosts x rule place) command c bytes b a m v)
+  became command bytes a s t (refused c b r m v) = violates r (moved (λ d x. Violates (rules_of d) hosts x r) command c bytes b a m v)
   became command bytes a s t (unbuilt c b f m i u) =
       let both = moved (λ d x. IsAccepted (rules_of d) hosts x f × IsUnbuilt d f) command c bytes b a m (i, u) in
       thick f both.0 both.1
@@ -76,7 +78,7 @@ module _ (hosts : List (List ℕ)) (words : Words) (shelf shelf' : ShelfState) w
   usual none s t (usage i) = as_said refl
   usual none s t (read_fault name n r) = absurd (none name n)
   usual none s t (too_large name b n told l) = absurd (none name n)
-  usual none s t (refused c b rule place m v) = absurd (none m.name (c, m.form))
+  usual none s t (refused c b r m v) = absurd (none m.name (c, m.form))
   usual none s t (unbuilt c b f m i u) = absurd (none m.name (c, m.form))
   usual none s t (done c b text m x) = absurd (none m.name (c, m.form))
 
@@ -90,41 +92,41 @@ module _ (hosts : List (List ℕ)) (words : Words) (shelf shelf' : ShelfState) w
     too_long s t (usage none) = absurd (none name named)
     too_long s t (read_fault m n r) = read_failed m n r
     too_long s t (too_large m b n may l) = as_said (ap too_large_line (same_name words m name n named))
-    too_long s t (refused c b rule place m v) = absurd (not_few c b m)
+    too_long s t (refused c b r m v) = absurd (not_few c b m)
     too_long s t (unbuilt c b f m i u) = absurd (not_few c b m)
     too_long s t (done c b text m x) = absurd (not_few c b m)
 
   module _ (command : Command) (bytes : List ℕ) where
-    is_refused : (rule : Rule) (place : Place) → Violates (rules_of command) hosts bytes rule place → (s : Status) (t : List ℕ) → Became command bytes s t → Expected Refused (λ text. text ≡ refused_line rule place) s t
-    is_refused rule place v s t (violates r p w) = let one = one_refusal (rules_of command) hosts bytes r rule p place w v in as_said (λ i. refused_line (one.0 i) (one.1 i))
-    is_refused rule place v s t (thick f a u) = absurd (never_refused (rules_of command) hosts bytes f rule place a v)
-    is_refused rule place v s t (fits x) = absurd (never_refused (rules_of command) hosts bytes x.file rule place x.source v)
-    is_refused rule place v s t (failed name n r) = read_failed name n r
+    is_refused : (q : Refusal) → Violates (rules_of command) hosts bytes q → (s : Status) (t : List ℕ) → Became command bytes s t → Expected Refused (λ text. text ≡ refused_line q) s t
+    is_refused q v s t (violates r w) = as_said (ap refused_line (one_refusal (rules_of command) hosts bytes r q w v))
+    is_refused q v s t (thick f a u) = absurd (never_refused (rules_of command) hosts bytes f q a v)
+    is_refused q v s t (fits x) = absurd (never_refused (rules_of command) hosts bytes x.file q x.source v)
+    is_refused q v s t (failed name n r) = read_failed name n r
 
     is_unbuilt : (g : File) → IsAccepted (rules_of command) hosts bytes g → IsUnbuilt command g → (s : Status) (t : List ℕ) → Became command bytes s t → Expected Unbuilt (λ text. text ≡ unbuilt_line) s t
-    is_unbuilt g i none s t (violates r p w) = absurd (never_refused (rules_of command) hosts bytes g r p i w)
+    is_unbuilt g i none s t (violates r w) = absurd (never_refused (rules_of command) hosts bytes g r i w)
     is_unbuilt g i none s t (thick f a u) = as_said refl
-    is_unbuilt g i none s t (fits x) = absurd (none.1 (thin_alike bytes x.file g x.source.file i.file (handles command x.file t x.output none.0)))
+    is_unbuilt g i none s t (fits x) = absurd (handles command x.file t x.output (unbuilt_alike command bytes g x.file i.file x.source.file none))
     is_unbuilt g i none s t (failed name n r) = read_failed name n r
 
     is_done : (g : File) → IsAccepted (rules_of command) hosts bytes g → (IsUnbuilt command g → ⊥) → (s : Status) (t : List ℕ) → Became command bytes s t → Expected Done (Answers hosts command bytes) s t
-    is_done g i built s t (violates r p w) = absurd (never_refused (rules_of command) hosts bytes g r p i w)
-    is_done g i built s t (thick f a u) = absurd (built (u.0, λ thin. u.1 (thin_alike bytes g f i.file a.file thin)))
+    is_done g i built s t (violates r w) = absurd (never_refused (rules_of command) hosts bytes g r i w)
+    is_done g i built s t (thick f a u) = absurd (built (unbuilt_alike command bytes f g a.file i.file u))
     is_done g i built s t (fits x) = as_said x
     is_done g i built s t (failed name n r) = read_failed name n r
 
   module _ (word : ℕ) (bytes : List ℕ) (g : File) (i : IsFileOf bytes g) where
     is_canonical : (s : Status) (t : List ℕ) → Became (Fmt word) bytes s t → Expected Done (λ text. text ≡ canonical_text g) s t
-    is_canonical s t (violates r p w) = absurd (never_refused (rules_of (Fmt word)) hosts bytes g r p (record { file = i; faultless = tt }) w)
-    is_canonical s t (thick f a u) = absurd u.0
+    is_canonical s t (violates r w) = absurd (never_refused (rules_of (Fmt word)) hosts bytes g r (record { file = i; faultless = tt }) w)
+    is_canonical s t (thick f a u) = absurd u
     is_canonical s t (fits x) = as_said (x.output ∙ text_alike bytes x.file g x.source.file i)
     is_canonical s t (failed name n r) = read_failed name n r
 
     -- what the canonical text itself gets
     is_same : (s : Status) (t : List ℕ) → Became (Fmt word) (canonical_text g) s t → Expected Done (λ text. text ≡ canonical_text g) s t
-    is_same s t (violates r p (unread v)) = absurd (text_is_source bytes g i r p v)
-    is_same s t (violates r p (broken k b)) = absurd b
-    is_same s t (thick f a u) = absurd u.0
+    is_same s t (violates r (unread v none)) = absurd (text_is_source bytes g i r.rule r.place v)
+    is_same s t (violates r (broken k b)) = absurd b
+    is_same s t (thick f a u) = absurd u
     is_same s t (fits x) = as_said (x.output ∙ text_of_text bytes g i x.file x.source.file)
     is_same s t (failed name n r) = read_failed name n r
 
@@ -155,7 +157,7 @@ module _ (hosts : List (List ℕ)) (words : Words) (shelf shelf' : ShelfState) w
     gives_too_large = λ name bytes named told long. comes TooLarge _ (too_long name bytes named told long)
 
     pub gives_refusal : GivesRefusal hosts words shelf shelf' sink sink' result
-    gives_refusal = λ command bytes rule place a v. comes Refused _ (λ s t e. is_refused command bytes rule place v s t (became command bytes a s t e))
+    gives_refusal = λ command bytes r a v. comes Refused _ (λ s t e. is_refused command bytes r v s t (became command bytes a s t e))
 
     pub gives_unbuilt : GivesUnbuilt hosts words shelf shelf' sink sink' result
     gives_unbuilt = λ command bytes f a i u. comes Unbuilt _ (λ s t e. is_unbuilt command bytes f i u s t (became command bytes a s t e))

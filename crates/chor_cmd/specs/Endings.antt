@@ -1,8 +1,7 @@
 -- How a call of the program ends, and with which text (this project's own).
 use Rattle.std.specs.Prelude.{ℕ, ℤ, ◌≡◌, ◌<◌, ◌≤◌, List, ◌++◌, length, Option, Some, None}
 use denote.Param.Members.{Mut}
-use Rattle.chor_base.specs.declared.rule.Place.{Place}
-use Rattle.chor_base.specs.declared.rule.Rule.{Rule}
+use Rattle.chor_base.specs.declared.rule.Refusal.{Refusal}
 use Rattle.chor_tree.specs.declared.file.File.{File}
 use Rattle.chor_host.specs.declared.table.HostTable.{HostTable}
 use Rattle.chor_host.specs.Functions.{names_of}
@@ -68,7 +67,7 @@ pub data Ends (hosts : List (List ℕ)) (words : Words) (shelf shelf' : ShelfSta
   usage : HasNoForm words → Ends hosts words shelf shelf' Usage usage_line
   read_fault : (name : List ℕ) → NamesFile words name → Risen (shelf.faults name) (shelf'.faults name) → Ends hosts words shelf shelf' ReadFault (read_fault_line name)
   too_large : (name bytes : List ℕ) → NamesFile words name → MayTell shelf.files name bytes → source_limit < length bytes → Ends hosts words shelf shelf' TooLarge (too_large_line name)
-  refused : (command : Command) (bytes : List ℕ) (rule : Rule) (place : Place) → MayAsk words shelf command bytes → Violates (rules_of command) hosts bytes rule place → Ends hosts words shelf shelf' Refused (refused_line rule place)
+  refused : (command : Command) (bytes : List ℕ) (r : Refusal) → MayAsk words shelf command bytes → Violates (rules_of command) hosts bytes r → Ends hosts words shelf shelf' Refused (refused_line r)
   unbuilt : (command : Command) (bytes : List ℕ) (f : File) → MayAsk words shelf command bytes → IsAccepted (rules_of command) hosts bytes f → IsUnbuilt command f → Ends hosts words shelf shelf' Unbuilt unbuilt_line
   done : (command : Command) (bytes text : List ℕ) → MayAsk words shelf command bytes → Answers hosts command bytes text → Ends hosts words shelf shelf' Done text
 
@@ -114,8 +113,8 @@ module _ (hosts : List (List ℕ)) (words : Words) (shelf shelf' : ShelfState) (
   -- for a file that is told and violates a rule that the command applies
   abbrev pub GivesRefusal : Type 0
   GivesRefusal =
-      (command : Command) (bytes : List ℕ) (rule : Rule) (place : Place) → Asks words shelf command bytes → Violates (rules_of command) hosts bytes rule place
-      → Comes words shelf shelf' sink sink' Refused (λ text. text ≡ refused_line rule place) result
+      (command : Command) (bytes : List ℕ) (r : Refusal) → Asks words shelf command bytes → Violates (rules_of command) hosts bytes r
+      → Comes words shelf shelf' sink sink' Refused (λ text. text ≡ refused_line r) result
 
   -- for a file that is told and that the command accepts but doesn't handle
   abbrev pub GivesUnbuilt : Type 0

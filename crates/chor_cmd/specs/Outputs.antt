@@ -1,15 +1,12 @@
 -- What the commands write for a file, and the lines that say what is wrong (this project's own).
-use Rattle.std.specs.Prelude.{ℕ, suc, ◌≡◌, ◌*◌, List, [], ◌∷◌, ◌++◌, length, map, None, codes}
+use Rattle.std.specs.Prelude.{ℕ, ◌≡◌, Bool, true, false, List, [], ◌∷◌, ◌++◌, length, map, Option, Some, None, codes}
 use Rattle.std.specs.Fmt.{decimal}
-use Rattle.chor_base.specs.declared.rule.Place.{Place}
-use Rattle.chor_base.specs.declared.rule.Rule.{Rule}
+use Rattle.chor_base.specs.declared.rule.Refusal.{Refusal}
 use Rattle.chor_base.specs.Writing.{rule_name}
 use Rattle.chor_base.specs.declared.event.Event.{Event}
 use Rattle.chor_base.specs.declared.event.Entry.{Entry}
-use Rattle.chor_base.specs.Events.{IsFifo}
 use Rattle.chor_tree.specs.Names.{names_in}
 use Rattle.chor_tree.specs.declared.file.File.{File}
-use Rattle.chor_semantics.specs.Runs.{IsEndedRun}
 use Rattle.endpoint_code.specs.declared.endpoints.Endpoints.{Endpoints}
 use Rattle.projection.specs.Projects.{Projects}
 use Rattle.endpoint_text.specs.Text.{endpoints_text}
@@ -18,8 +15,9 @@ use Rattle.chor_print.specs.Text.{canonical_text}
 use Rattle.chor_cmd.specs.declared.words.Command.{Command}
 use Rattle.chor_cmd.specs.declared.words.Command.TheVariants.{Check, Fmt, Types, Project, Run}
 use Rattle.chor_cmd.specs.Words.{rules_of}
-use Rattle.thin_files.specs.Thin.{Thin}
-use Rattle.thin_files.specs.ThinFile.{IsRunnable, IsThin}
+use Rattle.host_calls.specs.Asking.{asks_hosts}
+use Rattle.simulation.specs.Runs.{close_of, IsRunOf}
+use Rattle.source_check.specs.Classes.{classes_of, IsFaultless}
 use Rattle.source_check.specs.Source.{IsAccepted}
 use Rattle.chor_cmd.specs.Types.{IsTypesText}
 
@@ -36,18 +34,30 @@ events_of entries = map (λ entry. entry.event) entries
 abbrev pub end_line : ℕ → List ℕ
 end_line n = codes "end " ++ decimal n
 
--- The text is the transcript of a run of this file's choreography to its end, in which messages are received first in,
--- first out
-pub record IsRunText (f : File) (text : List ℕ) : Type 0 where
-  pub history : List Event
-  pub run : IsEndedRun f [] None history
-  pub fifo : IsFifo history
-  pub text_is : text ≡ transcript (book_of f) history (end_line (length history))
+abbrev pub limit_line : ℕ → List ℕ
+limit_line n = codes "limit " ++ decimal n
 
--- such a run of a file that says what t says has a start and two events for each exchange
-pub record RunsShape (f : File) (t : Thin) (text : List ℕ) : Type 0 where
-  pub run : IsRunText f text
-  pub count : length run.history ≡ suc (2 * length t.exchanges)
+-- the last line, for a run that has come to its end, or to as many events as were asked for
+abbrev pub last_line : Bool → ℕ → List ℕ
+last_line true n = end_line n
+last_line false n = limit_line n
+
+-- the pick rule's seed, and how many events a run has at most
+abbrev pub run_seed : ℕ
+run_seed = 0
+
+abbrev pub run_steps : ℕ
+run_steps = 100000
+
+-- The text is the transcript of the scheduled run of the network of this file's projection: a run of its choreography in
+-- which messages are received first in, first out, and sessions follow their protocols; with `end` each process has
+-- ended, each queue is empty and nothing is left to happen, with `limit` the run is as long as was asked for and open
+pub record IsRunText (f : File) (text : List ℕ) : Type 0 where
+  pub endpoints : Endpoints
+  pub history : List Event
+  pub ended : Bool
+  pub run : IsRunOf f endpoints [] run_seed run_steps history (close_of ended)
+  pub text_is : text ≡ transcript (book_of f) history (last_line ended (length history))
 
 -- the text is that of endpoint programs that are the projection of this file
 pub record IsProjectionText (f : File) (text : List ℕ) : Type 0 where
@@ -60,26 +70,38 @@ abbrev pub IsOutput : Command → File → List ℕ → Type 0
 IsOutput (Check word) f text = text ≡ codes "ok\n"
 IsOutput (Fmt word) f text = text ≡ canonical_text f
 IsOutput (Types word) f text = IsTypesText f text
-IsOutput (Project word) f text = IsThin f × IsProjectionText f text
-IsOutput (Run word) f text = (t : Thin) × IsRunnable f t × RunsShape f t text
+IsOutput (Project word) f text = IsProjectionText f text
+IsOutput (Run word) f text = (asks_hosts f ≡ false) × IsRunText f text
 
--- the command handles thin files only, so far
-abbrev pub NeedsThin : Command → Type 0
-NeedsThin (Check word) = ⊥
-NeedsThin (Fmt word) = ⊥
-NeedsThin (Types word) = ⊥
-NeedsThin (Project word) = Unit {0}
-NeedsThin (Run word) = Unit {0}
-
--- the command doesn't handle this file
+-- the command doesn't handle this file: so far a run asks no host function
 abbrev pub IsUnbuilt : Command → File → Type 0
-IsUnbuilt command f = NeedsThin command × (IsThin f → ⊥)
+IsUnbuilt (Check word) f = ⊥
+IsUnbuilt (Fmt word) f = ⊥
+IsUnbuilt (Types word) f = ⊥
+IsUnbuilt (Project word) f = ⊥
+IsUnbuilt (Run word) f = asks_hosts f ≡ true
+
+-- the file violates no rule that the command applies, and this is what the command writes for it
+pub record IsAnswer (hosts : List (List ℕ)) (command : Command) (f : File) (text : List ℕ) : Type 0 where
+  pub faultless : IsFaultless hosts f (classes_of (rules_of command))
+  pub output : IsOutput command f text
+
+-- the file violates no rule that the command applies, and the command doesn't handle it
+pub record IsUnanswered (hosts : List (List ℕ)) (command : Command) (f : File) : Type 0 where
+  pub faultless : IsFaultless hosts f (classes_of (rules_of command))
+  pub unbuilt : IsUnbuilt command f
 
 -- what a command writes for a file with these bytes
 pub record Answers (hosts : List (List ℕ)) (command : Command) (bytes text : List ℕ) : Type 0 where
   pub file : File
   pub source : IsAccepted (rules_of command) hosts bytes file
   pub output : IsOutput command file text
+
+-- a file with these bytes is accepted by the command, which doesn't handle it
+pub record Unanswers (hosts : List (List ℕ)) (command : Command) (bytes : List ℕ) : Type 0 where
+  pub file : File
+  pub source : IsAccepted (rules_of command) hosts bytes file
+  pub unbuilt : IsUnbuilt command file
 
 -- ---- the lines
 
@@ -95,9 +117,14 @@ read_fault_line name = line_naming (codes "read fault ") name
 abbrev pub too_large_line : List ℕ → List ℕ
 too_large_line name = line_naming (codes "too large ") name
 
--- `refused`, the rule, and its place as line and column
-abbrev pub refused_line : Rule → Place → List ℕ
-refused_line rule place = codes "refused " ++ rule_name rule ++ codes " " ++ decimal place.line ++ codes ":" ++ decimal place.col ++ 10 ∷ []
+-- the name of the process or role, after a space, where the refusal tells one
+abbrev pub who_told : Option (List ℕ) → List ℕ
+who_told None = []
+who_told (Some name) = 32 ∷ name
+
+-- `refused`, the rule, its place as line and column, and who it is about
+abbrev pub refused_line : Refusal → List ℕ
+refused_line r = codes "refused " ++ rule_name r.rule ++ codes " " ++ decimal r.place.line ++ codes ":" ++ decimal r.place.col ++ who_told r.who ++ 10 ∷ []
 
 abbrev pub unbuilt_line : List ℕ
 unbuilt_line = codes "not built\n"

@@ -27,11 +27,11 @@ command_word (Run file) = codes "run"
 
 -- the rules that a command applies
 abbrev pub rules_of : Command → Rules
-rules_of (Check file) = rules.Linearity
+rules_of (Check file) = rules.All
 rules_of (Fmt file) = rules.Grammar
 rules_of (Types file) = rules.Views
-rules_of (Project file) = rules.Linearity
-rules_of (Run file) = rules.Linearity
+rules_of (Project file) = rules.All
+rules_of (Run file) = rules.All
 
 -- the index of a command's file word
 abbrev pub file_index : Command → ℕ

@@ -1,29 +1,21 @@
 //! The call that the program makes.
 
-ghost use Rattle.std.specs.Prelude.{◌≡◌, ◌≢◌, ◌<◌, ◌≤◌, ◌^◌, ℕ, List, IfOk, IfSome, IfNone, length};
+ghost use Rattle.std.specs.Prelude.{◌≡◌, ◌≢◌, ◌≤◌, ◌^◌, ℕ, List, IfSome, IfNone, length};
 ghost use Rattle.chor_io.specs.Outside.{ShelfState};
 ghost use Rattle.chor_cmd.specs.declared.words.Words.{Words as CommandWords};
-ghost use Rattle.chor_cmd.specs.Words.{rules_of, IsForm, ShowsTypes};
-ghost use Rattle.source_check.specs.Source.{IsAccepted};
-ghost use Rattle.chor_cmd.specs.Types.{HasFineViews};
-ghost use Rattle.chor_cmd.specs.Outputs.{IsOutput, IsUnbuilt};
-ghost use Rattle.chor_cmd.specs.Endings.{FetchesOnly, HasEnded, MayAsk, host_names};
+ghost use Rattle.chor_cmd.specs.Words.{IsForm};
+ghost use Rattle.chor_cmd.specs.Outputs.{unbuilt_line};
+ghost use Rattle.chor_cmd.specs.Endings.{FetchesOnly, Ends, HasEnded, MayAsk, host_names};
 ghost use Rattle.chor_cmd.specs.Endings.{GivesUsage, GivesTooLarge, GivesRefusal, GivesUnbuilt, GivesAnswer, GivesCanonical, GivesSame};
 
-use crate::canonical::canonical_of;
-use crate::endpoints::text_of_endpoints;
 use crate::output::{finish, finish_denying, finish_naming};
-use crate::run::run_text;
 use crate::status::Status;
-use crate::types::types_of;
+use crate::texts::text_of;
 use crate::words::{Command, Words, form_of};
-use chor_base::{Memory, Word};
+use chor_base::Word;
 use chor_host::HostTable;
 use chor_io::{Fetched, Gate, Shelf, Sink};
-use chor_tree::File;
-use source_check::read;
 use std::alloc::Global;
-use thin_files::{endpoints_of, is_thin};
 
 // How many bytes a source file has at most.
 const SOURCE_LIMIT: u64 = 1 << 20;
@@ -31,13 +23,15 @@ const SOURCE_LIMIT: u64 = 1 << 20;
 /// Does what the words ask for: it reads the named file from the shelf, writes the text of the
 /// command's answer, or one line that says what is wrong, to the sink, and answers how it ended.
 ///
-/// `run FILE` writes the transcript of a run of the file's choreography, and `project FILE` its
-/// endpoint programs. So far both handle thin files: one protocol, one channel and two processes
-/// that exchange at most 255 numbers in one session. For any other source they write `not built`.
-/// `types FILE` writes the local types of all roles. For a file that violates a rule of tokens, of
-/// the grammar, of names, of protocols or of views, these commands write `refused` with this rule
-/// and the place. A file may call the host functions of this table. `fmt FILE` writes the canonical
-/// text of the file. It applies the rules of tokens and of the grammar alone.
+/// `check FILE` judges the file by all classes of rules and writes `ok`, `project FILE` writes the
+/// endpoint programs of a file that they accept, and `run FILE` the transcript of a run of its
+/// choreography, of at most 100,000 events. A file that asks a host function isn't run so far: for
+/// such a file `run` writes `not built`.
+/// `types FILE` writes the local types of all roles; it asks for no rules but those of tokens, of the
+/// grammar, of names, of protocols and of views. `fmt FILE` writes the canonical text of the file. It
+/// applies the rules of tokens and of the grammar alone. For a file that violates a rule the
+/// commands write `refused` with the rule, the place, and for M1 and M2 the process or the role. A
+/// file may call the host functions of this table.
 ///
 /// The gate is for runs with workers, which aren't there yet.
 pub fn chor<F: Shelf, K: Sink, G: Gate + Sync>(
@@ -116,59 +110,18 @@ fn answer_bytes<K: Sink>(
     requires { length bytes.now ≤ 2 ^ 20 }
     ensures { (words : CommandWords) (before after : ShelfState) → MayAsk words before command bytes.now → HasEnded (host_names hosts.now) words before after (K.state out.old) (K.state out.new) result }
 {
-    match read(alloc, command.rules(), bytes, hosts) {
-        Ok(file) => answer_file(alloc, command, &file, out),
+    match text_of(alloc, command, bytes, hosts) {
+        Ok(text) => finish_text(out, text),
         Err(denied) => finish_denying(alloc, out, &denied),
     }
 }
 
-// Answers the command for a file that violates no rule that it applies.
-fn answer_file<K: Sink>(alloc: Global, command: Command, file: &File, out: &mut K) -> Status
-    requires body { file.now.body.0 < length file.now.tree.nodes }
-    requires views { ShowsTypes command → HasFineViews file.now }
-    ensures { (hosts : List (List ℕ)) (words : CommandWords) (before after : ShelfState) (bytes : List ℕ) → MayAsk words before command bytes → IsAccepted (rules_of command) hosts bytes file.now → HasEnded hosts words before after (K.state out.old) (K.state out.new) result }
+// Writes the text of an answer, or that the command doesn't handle the file.
+fn finish_text<K: Sink>(out: &mut K, text: Option<Vec<u8>>) -> Status
+    ensures { (hosts : List (List ℕ)) (words : CommandWords) (before after : ShelfState) → IfSome text (λ t. Ends hosts words before after Status.Done t.items) → IfNone text (Ends hosts words before after Status.Unbuilt unbuilt_line) → HasEnded hosts words before after (K.state out.old) (K.state out.new) result }
 {
-    match text_of(alloc, command, file) {
-        Ok(Some(text)) => finish(out, text.as_slice(), Status::Done),
-        Ok(None) => finish(out, b"not built\n".as_slice(), Status::Unbuilt),
-        Err(Memory) => Status::Memory,
-    }
-}
-
-// What the command writes for a file, if it handles it.
-fn text_of(alloc: Global, command: Command, file: &File) -> Result<Option<Vec<u8>>, Memory>
-    requires body { file.now.body.0 < length file.now.tree.nodes }
-    requires views { ShowsTypes command → HasFineViews file.now }
-    ensures some { IfOk result (λ text. IfSome text (λ t. IsOutput command file.now t.items)) }
-    ensures none { IfOk result (λ text. IfNone text (IsUnbuilt command file.now)) }
-{
-    match command {
-        Command::Check(_) => {
-            let text = b"ok\n".to_vec(alloc)?;
-            Ok(Some(text))
-        }
-        Command::Run(_) => {
-            if !is_thin(file) {
-                return Ok(None);
-            }
-            let text = run_text(alloc, file)?;
-            Ok(Some(text))
-        }
-        Command::Project(_) => {
-            if !is_thin(file) {
-                return Ok(None);
-            }
-            let endpoints = endpoints_of(alloc, file)?;
-            let text = text_of_endpoints(alloc, &endpoints)?;
-            Ok(Some(text))
-        }
-        Command::Types(_) => {
-            let text = types_of(alloc, file)?;
-            Ok(Some(text))
-        }
-        Command::Fmt(_) => {
-            let text = canonical_of(alloc, file)?;
-            Ok(Some(text))
-        }
+    match text {
+        Some(text) => finish(out, text.as_slice(), Status::Done),
+        None => finish(out, b"not built\n".as_slice(), Status::Unbuilt),
     }
 }

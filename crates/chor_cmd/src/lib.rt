@@ -7,6 +7,7 @@ mod endpoints;
 mod output;
 mod run;
 mod status;
+mod texts;
 mod types;
 mod words;
 

@@ -1,9 +1,9 @@
 //! Writing the text with which a call ends.
 
-ghost use Rattle.std.specs.Prelude.{◌≡◌, ℕ, List, IfOk};
+ghost use Rattle.std.specs.Prelude.{◌≡◌, ◌++◌, ℕ, List, IfOk, OnOk};
 ghost use Rattle.chor_cmd.specs.declared.words.Words.{Words as CommandWords};
 ghost use Rattle.chor_io.specs.Outside.{ShelfState};
-ghost use Rattle.chor_cmd.specs.Outputs.{line_naming, refused_line};
+ghost use Rattle.chor_cmd.specs.Outputs.{line_naming, refused_line, who_told};
 ghost use Rattle.chor_cmd.specs.Endings.{Ends, HasEnded};
 ghost use Rattle.chor_base.specs.declared.rule.Refusal.{Refusal as RefusalIs};
 ghost use Rattle.chor_base.specs.declared.rule.Denied.TheVariants as denials;
@@ -52,7 +52,7 @@ fn naming_line(alloc: Global, what: &[u8], name: &Word) -> Result<Vec<u8>, Memor
 
 // Writes the line of a refusal, and answers the status.
 fn finish_refusing<K: Sink>(alloc: Global, out: &mut K, refusal: &Refusal) -> Status
-    ensures { (hosts : List (List ℕ)) (words : CommandWords) (before after : ShelfState) (name : List ℕ) → NamesFile words name → Ends hosts words before after Status.Refused (refused_line refusal.now.rule refusal.now.place) → HasEnded hosts words before after (K.state out.old) (K.state out.new) result }
+    ensures { (hosts : List (List ℕ)) (words : CommandWords) (before after : ShelfState) (name : List ℕ) → NamesFile words name → Ends hosts words before after Status.Refused (refused_line refusal.now) → HasEnded hosts words before after (K.state out.old) (K.state out.new) result }
 {
     match refused_line(alloc, refusal) {
         Ok(line) => finish(out, line.as_slice(), Status::Refused),
@@ -62,7 +62,7 @@ fn finish_refusing<K: Sink>(alloc: Global, out: &mut K, refusal: &Refusal) -> St
 
 /// Writes the line of a refusal, or nothing where there was no memory, and answers the status.
 pub fn finish_denying<K: Sink>(alloc: Global, out: &mut K, denied: &Denied) -> Status
-    ensures { (hosts : List (List ℕ)) (words : CommandWords) (before after : ShelfState) (name : List ℕ) → NamesFile words name → ((r : RefusalIs) → denied.now ≡ denials.Refused r → Ends hosts words before after Status.Refused (refused_line r.rule r.place)) → HasEnded hosts words before after (K.state out.old) (K.state out.new) result }
+    ensures { (hosts : List (List ℕ)) (words : CommandWords) (before after : ShelfState) (name : List ℕ) → NamesFile words name → ((r : RefusalIs) → denied.now ≡ denials.Refused r → Ends hosts words before after Status.Refused (refused_line r)) → HasEnded hosts words before after (K.state out.old) (K.state out.new) result }
 {
     match denied {
         Denied::Refused(refusal) => finish_refusing(alloc, out, refusal),
@@ -71,7 +71,7 @@ pub fn finish_denying<K: Sink>(alloc: Global, out: &mut K, denied: &Denied) -> S
 }
 
 fn refused_line(alloc: Global, refusal: &Refusal) -> Result<Vec<u8>, Memory>
-    ensures { IfOk result (λ line. line.items ≡ refused_line refusal.now.rule refusal.now.place) }
+    ensures { IfOk result (λ line. line.items ≡ refused_line refusal.now) }
 {
     let mut line = b"refused ".to_vec(alloc)?;
     put_bytes(&mut line, refusal.rule.name())?;
@@ -79,6 +79,20 @@ fn refused_line(alloc: Global, refusal: &Refusal) -> Result<Vec<u8>, Memory>
     put_number(&mut line, alloc, u64::from(refusal.place.line))?;
     put_bytes(&mut line, b":".as_slice())?;
     put_number(&mut line, alloc, u64::from(refusal.place.col))?;
+    put_who(&mut line, &refusal.who)?;
     put_bytes(&mut line, b"\n".as_slice())?;
     Ok(line)
+}
+
+// A space and the name of the process or role, where there is one.
+fn put_who(line: &mut Vec<u8>, who: &Option<Word>) -> Result<(), Memory>
+    ensures { OnOk result (line.new.items ≡ line.old.items ++ who_told who.now) }
+{
+    match who {
+        None => Ok(()),
+        Some(name) => {
+            put_bytes(line, b" ".as_slice())?;
+            put_bytes(line, name.as_slice())
+        }
+    }
 }

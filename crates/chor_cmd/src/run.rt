@@ -1,33 +1,71 @@
 //! The transcript of a run.
 
-ghost use Rattle.std.specs.Prelude.{◌≡◌, IfOk, length};
+ghost use Rattle.std.specs.Prelude.{◌≡◌, IfOk, IfErr, OnOk, IfSome, IfNone, length, true, false};
 ghost use Rattle.chor_tree.specs.Names.{names_in};
 ghost use Rattle.transcript.specs.Text.{transcript};
 ghost use Rattle.transcript.specs.Books.{words};
-ghost use Rattle.thin_files.specs.Thin.{Thin};
-ghost use Rattle.thin_files.specs.ThinFile.{IsRunnable, IsThin};
-ghost use Rattle.chor_cmd.specs.Outputs.{book_of, events_of, end_line, RunsShape};
+ghost use Rattle.host_calls.specs.Asking.{asks_hosts};
+ghost use Rattle.source_check.specs.Classes.{IsFaultless, classes_of};
+ghost use Rattle.source_check.specs.Source.{IsBroken};
+ghost use Rattle.source_check.specs.declared.rules.Rules.TheVariants as rules;
+ghost use Rattle.chor_cmd.specs.Outputs.{book_of, events_of, last_line, IsRunText};
+ghost use Rattle.chor_cmd.specs.Endings.{host_names};
 
-use chor_base::{Entry, List, Memory, NameId};
+use chor_base::{Denied, Entry, List, Memory, NameId};
+use chor_host::HostTable;
 use chor_tree::{File, Named};
+use host_calls::{asks_hosts, nobody_is_asked};
+use simulation::{Accepted, Outcome, accept, run_accepted};
 use std::alloc::Global;
-use thin_files::{endpoints_of, run_file};
 use transcript::{Book, print_events};
 
-/// The transcript of the run of a thin file.
-pub fn run_text(alloc: Global, file: &File) -> Result<Vec<u8>, Memory>
-    requires { IsThin file.now }
-    ensures { IfOk result (λ text. (t : Thin) → IsRunnable file.now t → RunsShape file.now t text.items) }
+// The seed of the pick rule, and how many events a run has at most.
+const SEED: u64 = 0;
+
+const STEPS: u64 = 100_000;
+
+/// What `run` writes for a file: the transcript of a run, where the file asks no host function.
+pub fn run_text(alloc: Global, file: File, hosts: &HostTable) -> Result<Option<Vec<u8>>, Denied>
+    ensures some { IfOk result (λ text. IfSome text (λ t. IsRunText file t.items)) }
+    ensures asks { IfOk result (λ text. IfSome text (λ t. asks_hosts file ≡ false)) }
+    ensures none { IfOk result (λ text. IfNone text (asks_hosts file ≡ true)) }
+    ensures faultless { OnOk result (IsFaultless (host_names hosts.now) file (classes_of rules.All)) }
+    ensures broken { IfErr result (IsBroken (classes_of rules.All) (host_names hosts.now) file) }
 {
-    let endpoints = endpoints_of(alloc, file)?;
-    let network = run_file(alloc, file, &endpoints)?;
-    let text = transcript_of(alloc, file, network.history())?;
+    let accepted = accept(alloc, file, hosts)?;
+    let text = accepted_text(alloc, &accepted)?;
     Ok(text)
 }
 
-// The transcript of a run of this file that has ended. Its last line says how many events it has.
-fn transcript_of(alloc: Global, file: &File, history: &[Entry]) -> Result<Vec<u8>, Memory>
-    ensures { IfOk result (λ text. text.items ≡ transcript (book_of file.now) (events_of history.now) (end_line (length history.now))) }
+// The transcript of the run of an accepted file, where it asks no host function.
+fn accepted_text(alloc: Global, accepted: &Accepted) -> Result<Option<Vec<u8>>, Memory>
+    ensures some { IfOk result (λ text. IfSome text (λ t. IsRunText accepted.now.typed.file t.items)) }
+    ensures asks { IfOk result (λ text. IfSome text (λ t. asks_hosts accepted.now.typed.file ≡ false)) }
+    ensures none { IfOk result (λ text. IfNone text (asks_hosts accepted.now.typed.file ≡ true)) }
+{
+    if asks_hosts(accepted.typed().file()) {
+        return Ok(None);
+    }
+    let text = text_of_run(alloc, accepted)?;
+    Ok(Some(text))
+}
+
+// The transcript of the run of an accepted file that asks no host function.
+fn text_of_run(alloc: Global, accepted: &Accepted) -> Result<Vec<u8>, Memory>
+    requires { asks_hosts accepted.now.typed.file ≡ false }
+    ensures { IfOk result (λ text. IsRunText accepted.now.typed.file text.items) }
+{
+    nobody_is_asked();
+    let outcome = run_accepted(alloc, accepted, SEED, STEPS)?;
+    let file = accepted.typed().file();
+    let text = transcript_of(alloc, file, &outcome)?;
+    Ok(text)
+}
+
+// The transcript of a run of this file. Its last line says whether it has ended, and how many events
+// it has.
+fn transcript_of(alloc: Global, file: &File, outcome: &Outcome) -> Result<Vec<u8>, Memory>
+    ensures { IfOk result (λ text. text.items ≡ transcript (book_of file.now) (events_of outcome.now.history) (last_line outcome.now.ended (length outcome.now.history))) }
 {
     let processes = names_of(alloc, file.processes.as_slice())?;
     let book = Book {
@@ -35,18 +73,22 @@ fn transcript_of(alloc: Global, file: &File, history: &[Entry]) -> Result<Vec<u8
         texts: &file.texts,
         processes: &processes,
     };
-    let text = print_run(alloc, history, &book)?;
+    let text = print_run(alloc, outcome.history.as_slice(), outcome.ended, &book)?;
     Ok(text)
 }
 
 // The lines of the events, and the last line with their number.
-fn print_run(alloc: Global, history: &[Entry], book: &Book) -> Result<Vec<u8>, Memory>
-    ensures { IfOk result (λ text. text.items ≡ transcript (words book.now) (events_of history.now) (end_line (length history.now))) }
+fn print_run(alloc: Global, history: &[Entry], ended: bool, book: &Book) -> Result<Vec<u8>, Memory>
+    ensures { IfOk result (λ text. text.items ≡ transcript (words book.now) (events_of history.now) (last_line ended (length history.now))) }
 {
     let mut text = Vec::new(alloc);
     print_events(alloc, history, book, &mut text)?;
     let count = history.len();
-    let last = format!(in alloc; "end {count}\n")?;
+    let last = if ended {
+        format!(in alloc; "end {count}\n")?
+    } else {
+        format!(in alloc; "limit {count}\n")?
+    };
     text.extend_from_slice(last.as_bytes())?;
     Ok(text)
 }

@@ -1,10 +1,9 @@
 //! The words of the command line.
 
 ghost use Rattle.std.specs.Prelude.{◌≡◌, ◌↔◌, List, ℕ, MatchOption, IsTrue};
-ghost use Rattle.chor_cmd.specs.Words.{rules_of, IsFileWord, IsForm, HasNoForm, IsCommand, IsNoCommand};
+ghost use Rattle.chor_cmd.specs.Words.{IsFileWord, IsForm, HasNoForm, IsCommand, IsNoCommand};
 
 use chor_base::{List, Word};
-use source_check::Rules;
 
 /// The words of the command line, without the program's name.
 #[derive(Drop)]
@@ -25,21 +24,6 @@ pub enum Command {
     Project(u32),
     /// `run FILE`: writes the transcript of a run.
     Run(u32),
-}
-
-impl Command {
-    /// The rules that the command applies.
-    pub fn rules(&self) -> Rules
-        ensures { result ≡ rules_of self.now }
-    {
-        match self {
-            Command::Check(_) => Rules::Linearity,
-            Command::Fmt(_) => Rules::Grammar,
-            Command::Types(_) => Rules::Views,
-            Command::Project(_) => Rules::Linearity,
-            Command::Run(_) => Rules::Linearity,
-        }
-    }
 }
 
 // Whether a word names a file: it isn't empty, is UTF-8, and doesn't begin with `-`.

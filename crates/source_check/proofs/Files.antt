@@ -53,5 +53,5 @@ one_file bytes f g i j =
 
 -- a refusal of the tokens is one of the bytes
 pub denied_so : (bytes : List ℕ) (names texts : List (List ℕ)) (ts : List Token) (d : Denied) → AreTokensOf bytes [] [] names texts ts → IsRefusal names ts d → IsDenialOfTokens bytes d
-denied_so bytes names texts ts (Refused r) a h = grammar a h.0
+denied_so bytes names texts ts (Refused r) a h = (grammar a h.0, h.1)
 denied_so bytes names texts ts Memory a h = tt

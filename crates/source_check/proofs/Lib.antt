@@ -11,6 +11,8 @@ pub mod SameBodies
 pub mod SameFaults
 pub mod SameTypes
 pub mod SameLinearity
+pub mod MergeFaults
+pub mod SameMerging
 pub mod OneClass
 pub mod Checked
 pub mod OneFault

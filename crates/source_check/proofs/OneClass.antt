@@ -1,12 +1,12 @@
 -- What holds of each class of rules: its first fault is one, it isn't there where the file has none, and files of one
 -- source have the same.
-use Rattle.std.proofs.Common.{ℕ, ◌≡◌, List, sym, ◌∙◌, subst, Some, None}
+use Rattle.std.proofs.Common.{ℕ, ◌≡◌, List, refl, sym, ◌∙◌, subst}
 use Rattle.std.specs.Prelude.{Contains}
-use Rattle.chor_base.specs.declared.rule.Place.{Place}
+use Rattle.chor_base.specs.declared.rule.Refusal.{Refusal}
 use Rattle.chor_base.specs.declared.rule.Rule.{Rule}
 use Rattle.chor_base.specs.declared.rule.Denied.TheVariants.{Refused}
 use Rattle.chor_base.specs.declared.fault.Fault.{Fault}
-use Rattle.chor_base.specs.Faults.{fault, IsFirst}
+use Rattle.chor_base.specs.Faults.{fault, IsDenial}
 use Rattle.chor_base.proofs.Members.{nowhere}
 use Rattle.chor_tree.specs.declared.file.File.{File}
 use Rattle.chor_tree.specs.Names.{IsNameFault}
@@ -18,9 +18,9 @@ use Rattle.local_types.specs.Reading.{HasFineRoles, IsFirstRefusal}
 use Rattle.typing_rules.specs.TypeFaults.{IsTypeFault}
 use Rattle.linear_check.specs.Class.{IsLinearityFault}
 use Rattle.source_check.specs.declared.rules.Class.{Class}
-use Rattle.source_check.specs.declared.rules.Class.TheVariants.{Names, Protocols, Views, Types, Linearity}
+use Rattle.source_check.specs.declared.rules.Class.TheVariants.{Names, Protocols, Views, Types, Linearity, Merging}
 use Rattle.source_check.specs.Classes.{HasNone, HasFirst}
-use Rattle.source_check.proofs.ClassRules.{one_first}
+use Rattle.source_check.proofs.ClassRules.{IsOf, one_first}
 use Rattle.source_check.proofs.NameRules.{name_rule, is_name_rule}
 use Rattle.source_check.proofs.ProtocolRules.{protocol_rule, is_protocol_rule}
 use Rattle.source_check.proofs.ViewRules.{one_refusal_of_views, no_view_fault, among_all}
@@ -29,26 +29,41 @@ use Rattle.source_check.proofs.SameFaults.{name_fault, types_same, declared_same
 use Rattle.source_check.proofs.SameTypes.{type_fault}
 use Rattle.source_check.proofs.LinearityRules.{linear_rule, is_linear_rule}
 use Rattle.source_check.proofs.SameLinearity.{linearity_fault}
+use Rattle.source_check.proofs.MergeFaults.{one_merge_denial, none_denied}
+use Rattle.source_check.proofs.SameMerging.{no_merge_fault, merge_denial}
+
+-- the first fault of a class whose rules have different digits is told in one way
+one_denial : (rule_of : ℕ → Rule) (P : Fault → Type 0) → ((x : Fault) → P x → IsOf rule_of x.rule) → (r q : Refusal) → IsDenial P (Refused r) → IsDenial P (Refused q) → r ≡ q
+one_denial rule_of P of r q h i =
+    let one = one_first rule_of P of r.rule q.rule r.place q.place h.0 i.0 in
+    let who = h.1 ∙ sym i.1 in (λ k. record { rule = one.0 k; place = one.1 k; who = who k })
 
 module _ (hosts : List (List ℕ)) (f : File) where
-  pub one_of : (c : Class) (r q : Rule) (p o : Place) → HasFirst hosts f r p c → HasFirst hosts f q o c → (r ≡ q) × (p ≡ o)
-  one_of Names r q p o h i = one_first name_rule (IsNameFault f hosts) (is_name_rule f hosts) r q p o h i
-  one_of Protocols r q p o h i = one_first protocol_rule (Contains (faults_of f)) (is_protocol_rule f) r q p o h i
-  one_of Views r q p o h i = one_refusal_of_views f.protocols r q p o h i
-  one_of Types r q p o h i = one_first type_rule (IsTypeFault f) (is_type_rule f) r q p o h i
-  one_of Linearity r q p o h i = one_first linear_rule (IsLinearityFault f) (is_linear_rule f) r q p o h i
+  view_denial : (r q : Refusal) → IsFirstRefusal f.protocols (Refused r) → IsFirstRefusal f.protocols (Refused q) → r ≡ q
+  view_denial r q (i, p, at, before, (k, x, here, clear, (view, place, who))) (j, o, there, fine, (l, y, hither, clean, (sight, spot, whose))) =
+      let one = one_refusal_of_views f.protocols r.rule q.rule r.place q.place (i, p, at, before, (k, x, here, clear, (view, place, refl))) (j, o, there, fine, (l, y, hither, clean, (sight, spot, refl))) in
+      let none = who ∙ sym whose in (λ m. record { rule = one.0 m; place = one.1 m; who = none m })
 
-  pub none_first : (c : Class) (r : Rule) (p : Place) → HasNone hosts f c → HasFirst hosts f r p c → ⊥
-  none_first Names r p none h = none (fault r p) h.0
-  none_first Protocols r p none h = nowhere (fault r p) (subst (λ (fs : List Fault). Contains fs (fault r p)) none h.0)
-  none_first Views r p none (i, q, at, before, (j, role, here, clear, (view, there, who))) =
-      no_view_fault q.states role.name r (none q (among_all f.protocols i q at) role (among_all q.roles j role here)) view
-  none_first Types r p none h = none (fault r p) h.0
-  none_first Linearity r p none h = none (fault r p) h.0
+  pub one_of : (c : Class) (r q : Refusal) → HasFirst hosts f r c → HasFirst hosts f q c → r ≡ q
+  one_of Names r q h i = one_denial name_rule (IsNameFault f hosts) (is_name_rule f hosts) r q h i
+  one_of Protocols r q h i = one_denial protocol_rule (Contains (faults_of f)) (is_protocol_rule f) r q h i
+  one_of Views r q h i = view_denial r q h i
+  one_of Types r q h i = one_denial type_rule (IsTypeFault f) (is_type_rule f) r q h i
+  one_of Linearity r q h i = one_denial linear_rule (IsLinearityFault f) (is_linear_rule f) r q h i
+  one_of Merging r q h i = one_merge_denial f r q h i
+
+  pub none_first : (c : Class) (r : Refusal) → HasNone hosts f c → HasFirst hosts f r c → ⊥
+  none_first Names r none h = none (fault r.rule r.place) h.0.0
+  none_first Protocols r none h = nowhere (fault r.rule r.place) (subst (λ (fs : List Fault). Contains fs (fault r.rule r.place)) none h.0.0)
+  none_first Views r none (i, q, at, before, (j, role, here, clear, (view, there, who))) =
+      no_view_fault q.states role.name r.rule (none q (among_all f.protocols i q at) role (among_all q.roles j role here)) view
+  none_first Types r none h = none (fault r.rule r.place) h.0.0
+  none_first Linearity r none h = none (fault r.rule r.place) h.0.0
+  none_first Merging r none h = none_denied f r none h
 
 -- a property of faults that two files share
-shared : (P Q : Fault → Type 0) (r : Rule) (p : Place) → ((x : Fault) → P x → Q x) → ((x : Fault) → Q x → P x) → IsFirst P (Some (fault r p)) → IsFirst Q (Some (fault r p))
-shared P Q r p there back h = (there (fault r p) h.0, λ y k. h.1 y (back y k))
+shared : (P Q : Fault → Type 0) (r : Refusal) → ((x : Fault) → P x → Q x) → ((x : Fault) → Q x → P x) → IsDenial P (Refused r) → IsDenial Q (Refused r)
+shared P Q r there back h = ((there (fault r.rule r.place) h.0.0, λ y k. h.0.1 y (back y k)), h.1)
 
 module _ (hosts : List (List ℕ)) (f g : File) (same_names : f.names ≡ g.names) (same : source_of f ≡ source_of g) where
   names_there : (x : Fault) → IsNameFault f hosts x → IsNameFault g hosts x
@@ -63,10 +78,12 @@ module _ (hosts : List (List ℕ)) (f g : File) (same_names : f.names ≡ g.name
   same_none Views none = subst (λ (ps : List Protocol). (p : Protocol) → IsIn p ps → HasFineRoles p p.roles) (declared_same f g same) none
   same_none Types none = λ x h. none x (type_fault g f (sym same) x h)
   same_none Linearity none = λ x h. none x (linearity_fault g f (sym same) x h)
+  same_none Merging none = no_merge_fault f g same none
 
-  pub same_first : (c : Class) (r : Rule) (p : Place) → HasFirst hosts f r p c → HasFirst hosts g r p c
-  same_first Names r p h = shared (IsNameFault f hosts) (IsNameFault g hosts) r p names_there names_back h
-  same_first Protocols r p h = subst (λ (xs : List Fault). IsFirst (Contains xs) (Some (fault r p))) (types_same f g same) h
-  same_first Views r p h = subst (λ (ps : List Protocol). IsFirstRefusal ps (Refused (record { rule = r; place = p; who = None }))) (declared_same f g same) h
-  same_first Types r p h = shared (IsTypeFault f) (IsTypeFault g) r p (type_fault f g same) (type_fault g f (sym same)) h
-  same_first Linearity r p h = shared (IsLinearityFault f) (IsLinearityFault g) r p (linearity_fault f g same) (linearity_fault g f (sym same)) h
+  pub same_first : (c : Class) (r : Refusal) → HasFirst hosts f r c → HasFirst hosts g r c
+  same_first Names r h = shared (IsNameFault f hosts) (IsNameFault g hosts) r names_there names_back h
+  same_first Protocols r h = subst (λ (xs : List Fault). IsDenial (Contains xs) (Refused r)) (types_same f g same) h
+  same_first Views r h = subst (λ (ps : List Protocol). IsFirstRefusal ps (Refused r)) (declared_same f g same) h
+  same_first Types r h = shared (IsTypeFault f) (IsTypeFault g) r (type_fault f g same) (type_fault g f (sym same)) h
+  same_first Linearity r h = shared (IsLinearityFault f) (IsLinearityFault g) r (linearity_fault f g same) (linearity_fault g f (sym same)) h
+  same_first Merging r h = merge_denial f g same same_names r h

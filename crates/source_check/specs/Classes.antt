@@ -1,10 +1,10 @@
 -- The classes of rules that judge a file, in order: the first class with a fault decides (this project's own).
-use Rattle.std.specs.Prelude.{ℕ, ◌≡◌, ◌⊎◌, List, [], ◌∷◌, Some, None, Contains}
-use Rattle.chor_base.specs.declared.rule.Place.{Place}
-use Rattle.chor_base.specs.declared.rule.Rule.{Rule}
+use Rattle.std.specs.Prelude.{ℕ, ◌≡◌, ◌⊎◌, List, [], ◌∷◌, Contains}
+use Rattle.chor_base.specs.declared.rule.Refusal.{Refusal}
 use Rattle.chor_base.specs.declared.rule.Denied.TheVariants.{Refused}
 use Rattle.chor_base.specs.declared.fault.Fault.{Fault}
-use Rattle.chor_base.specs.Faults.{fault, IsFirst}
+use Rattle.std.specs.List.{All}
+use Rattle.chor_base.specs.Faults.{IsDenial}
 use Rattle.chor_tree.specs.declared.file.File.{File}
 use Rattle.chor_tree.specs.Names.{IsNameFault}
 use Rattle.chor_tree.specs.Protocols.{Protocol}
@@ -13,8 +13,9 @@ use Rattle.global_types.specs.Faults.{faults_of}
 use Rattle.local_types.specs.Reading.{HasFineRoles, IsFirstRefusal}
 use Rattle.typing_rules.specs.TypeFaults.{IsTypeFault, IsTyped}
 use Rattle.linear_check.specs.Class.{IsLinearityFault}
+use Rattle.projection.specs.MergeFaults.{sites_of, HasClash, services_of, HasServiceClash, IsMergeDenial}
 use Rattle.source_check.specs.declared.rules.Class.{Class}
-use Rattle.source_check.specs.declared.rules.Class.TheVariants.{Names, Protocols, Views, Types, Linearity}
+use Rattle.source_check.specs.declared.rules.Class.TheVariants.{Names, Protocols, Views, Types, Linearity, Merging}
 use Rattle.source_check.specs.declared.rules.Rules.{Rules}
 use Rattle.source_check.specs.declared.rules.Rules.TheVariants as rules
 
@@ -22,19 +23,12 @@ use Rattle.source_check.specs.declared.rules.Rules.TheVariants as rules
 abbrev pub classes_of : Rules → List Class
 classes_of rules.Grammar = []
 classes_of rules.Views = Names ∷ Protocols ∷ Views ∷ []
-classes_of rules.Linearity = Names ∷ Protocols ∷ Views ∷ Types ∷ Linearity ∷ []
+classes_of rules.All = Names ∷ Protocols ∷ Views ∷ Types ∷ Linearity ∷ Merging ∷ []
 
--- some class is applied
-abbrev pub Judges : Rules → Type 0
-Judges rules.Grammar = ⊥
-Judges rules.Views = Unit {0}
-Judges rules.Linearity = Unit {0}
-
--- those of types and of linearity are applied
-abbrev pub JudgesChoreographies : Rules → Type 0
-JudgesChoreographies rules.Grammar = ⊥
-JudgesChoreographies rules.Views = ⊥
-JudgesChoreographies rules.Linearity = Unit {0}
+-- no branches of the file clash, and no starts
+pub record HasNoMergeFault (f : File) : Type 0 where
+  pub branches : All (λ s. HasClash f s → ⊥) (sites_of f)
+  pub starts : All (λ x. HasServiceClash f x → ⊥) (services_of f)
 
 -- ---- one class, where the host functions have these names
 
@@ -45,14 +39,16 @@ HasNone hosts f Protocols = faults_of f ≡ []
 HasNone hosts f Views = (p : Protocol) → IsIn p f.protocols → HasFineRoles p p.roles
 HasNone hosts f Types = IsTyped f
 HasNone hosts f Linearity = (x : Fault) → IsLinearityFault f x → ⊥
+HasNone hosts f Merging = HasNoMergeFault f
 
--- its first fault in the file is of this rule, at this place
-abbrev pub HasFirst : List (List ℕ) → File → Rule → Place → Class → Type 0
-HasFirst hosts f rule place Names = IsFirst (IsNameFault f hosts) (Some (fault rule place))
-HasFirst hosts f rule place Protocols = IsFirst (Contains (faults_of f)) (Some (fault rule place))
-HasFirst hosts f rule place Views = IsFirstRefusal f.protocols (Refused (record { rule = rule; place = place; who = None }))
-HasFirst hosts f rule place Types = IsFirst (IsTypeFault f) (Some (fault rule place))
-HasFirst hosts f rule place Linearity = IsFirst (IsLinearityFault f) (Some (fault rule place))
+-- this refusal tells its first fault in the file
+abbrev pub HasFirst : List (List ℕ) → File → Refusal → Class → Type 0
+HasFirst hosts f r Names = IsDenial (IsNameFault f hosts) (Refused r)
+HasFirst hosts f r Protocols = IsDenial (Contains (faults_of f)) (Refused r)
+HasFirst hosts f r Views = IsFirstRefusal f.protocols (Refused r)
+HasFirst hosts f r Types = IsDenial (IsTypeFault f) (Refused r)
+HasFirst hosts f r Linearity = IsDenial (IsLinearityFault f) (Refused r)
+HasFirst hosts f r Merging = IsMergeDenial f (Refused r)
 
 -- ---- several
 
@@ -61,7 +57,7 @@ abbrev pub IsFaultless : List (List ℕ) → File → List Class → Type 0
 IsFaultless hosts f [] = Unit {0}
 IsFaultless hosts f (c ∷ cs) = HasNone hosts f c × IsFaultless hosts f cs
 
--- The file violates this rule at this place: the first fault of the first of these classes that has one
-abbrev pub Breaks : List (List ℕ) → File → Rule → Place → List Class → Type 0
-Breaks hosts f rule place [] = ⊥
-Breaks hosts f rule place (c ∷ cs) = HasFirst hosts f rule place c ⊎ (HasNone hosts f c × Breaks hosts f rule place cs)
+-- The refusal tells which rule the file violates, and where: the first fault of the first of these classes that has one
+abbrev pub Breaks : List (List ℕ) → File → Refusal → List Class → Type 0
+Breaks hosts f r [] = ⊥
+Breaks hosts f r (c ∷ cs) = HasFirst hosts f r c ⊎ (HasNone hosts f c × Breaks hosts f r cs)

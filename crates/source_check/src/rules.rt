@@ -1,8 +1,5 @@
 //! Classes of rules.
 
-ghost use Rattle.std.specs.Prelude.{◌↔◌, IsTrue};
-ghost use Rattle.source_check.specs.Classes.{Judges, JudgesChoreographies};
-
 /// A class of rules that judges files.
 #[derive(Clone, Copy, Debug, PartialEq, Eq)]
 pub enum Class {
@@ -16,6 +13,8 @@ pub enum Class {
     Types,
     /// The rules of guarded procedures and linear channels, U1 and U2.
     Linearity,
+    /// The rules of branches and starts that are merged, M1 and M2.
+    Merging,
 }
 
 /// Which rules a source is judged by, beside those of tokens and of the grammar.
@@ -25,30 +24,6 @@ pub enum Rules {
     Grammar,
     /// Those of names, protocols and views.
     Views,
-    /// These and those of types and of linearity.
-    Linearity,
-}
-
-impl Rules {
-    /// Whether they are more than those of tokens and of the grammar.
-    pub fn judge(&self) -> bool
-        ensures { IsTrue result ↔ Judges self.now }
-    {
-        match self {
-            Rules::Grammar => false,
-            Rules::Views => true,
-            Rules::Linearity => true,
-        }
-    }
-
-    /// Whether those of types and of linearity are among them.
-    pub fn judge_choreographies(&self) -> bool
-        ensures { IsTrue result ↔ JudgesChoreographies self.now }
-    {
-        match self {
-            Rules::Grammar => false,
-            Rules::Views => false,
-            Rules::Linearity => true,
-        }
-    }
+    /// Those of all classes.
+    All,
 }

@@ -1,0 +1,118 @@
+//! What the commands write for a source.
+
+ghost use Rattle.std.specs.Prelude.{◌≡◌, ◌≤◌, ◌^◌, IfOk, IfErr, OnOk, IfSome, IfNone, length, codes};
+ghost use Rattle.source_check.specs.Classes.{IsFaultless, classes_of};
+ghost use Rattle.source_check.specs.Source.{IsBroken, IsDenialOf};
+ghost use Rattle.source_check.specs.declared.rules.Rules.TheVariants as rules;
+ghost use Rattle.chor_cmd.specs.Words.{rules_of};
+ghost use Rattle.chor_cmd.specs.Types.{IsTypesText};
+ghost use Rattle.chor_cmd.specs.Outputs.{IsProjectionText, IsAnswer, IsUnanswered, Answers, Unanswers};
+ghost use Rattle.chor_cmd.specs.Endings.{host_names};
+
+use crate::canonical::canonical_of;
+use crate::endpoints::text_of_endpoints;
+use crate::run::run_text;
+use crate::types::types_of;
+use crate::words::Command;
+use chor_base::{Denied, Memory};
+use chor_host::HostTable;
+use chor_tree::File;
+use simulation::{Accepted, accept};
+use source_check::{check, read};
+use std::alloc::Global;
+
+/// What the command writes for a source with these bytes, if it handles the source.
+pub fn text_of(
+    alloc: Global,
+    command: Command,
+    bytes: &[u8],
+    hosts: &HostTable,
+) -> Result<Option<Vec<u8>>, Denied>
+    requires { length bytes.now ≤ 2 ^ 20 }
+    ensures some { IfOk result (λ text. IfSome text (λ t. Answers (host_names hosts.now) command bytes.now t.items)) }
+    ensures none { IfOk result (λ text. IfNone text (Unanswers (host_names hosts.now) command bytes.now)) }
+    ensures denied { IfErr result (IsDenialOf (rules_of command) (host_names hosts.now) bytes.now) }
+{
+    let file = read(alloc, bytes)?;
+    file_text(alloc, command, file, hosts)
+}
+
+// What the command writes for a file, if it handles the file.
+fn file_text(
+    alloc: Global,
+    command: Command,
+    file: File,
+    hosts: &HostTable,
+) -> Result<Option<Vec<u8>>, Denied>
+    ensures some { IfOk result (λ text. IfSome text (λ t. IsAnswer (host_names hosts.now) command file t.items)) }
+    ensures none { IfOk result (λ text. IfNone text (IsUnanswered (host_names hosts.now) command file)) }
+    ensures broken { IfErr result (IsBroken (classes_of (rules_of command)) (host_names hosts.now) file) }
+{
+    match command {
+        Command::Check(_) => {
+            let text = check_text(alloc, file, hosts)?;
+            Ok(Some(text))
+        }
+        Command::Fmt(_) => {
+            let text = canonical_of(alloc, &file)?;
+            Ok(Some(text))
+        }
+        Command::Types(_) => {
+            let text = types_text(alloc, file, hosts)?;
+            Ok(Some(text))
+        }
+        Command::Project(_) => {
+            let text = project_text(alloc, file, hosts)?;
+            Ok(Some(text))
+        }
+        Command::Run(_) => run_text(alloc, file, hosts),
+    }
+}
+
+// What `check` writes.
+fn check_text(alloc: Global, file: File, hosts: &HostTable) -> Result<Vec<u8>, Denied>
+    ensures ok { IfOk result (λ text. text.items ≡ codes "ok\n") }
+    ensures faultless { OnOk result (IsFaultless (host_names hosts.now) file (classes_of rules.All)) }
+    ensures broken { IfErr result (IsBroken (classes_of rules.All) (host_names hosts.now) file) }
+{
+    accept(alloc, file, hosts)?;
+    let text = ok_line(alloc)?;
+    Ok(text)
+}
+
+fn ok_line(alloc: Global) -> Result<Vec<u8>, Memory>
+    ensures { IfOk result (λ text. text.items ≡ codes "ok\n") }
+{
+    let line = b"ok\n".to_vec(alloc)?;
+    Ok(line)
+}
+
+// What `types` writes.
+fn types_text(alloc: Global, file: File, hosts: &HostTable) -> Result<Vec<u8>, Denied>
+    ensures text { IfOk result (λ text. IsTypesText file text.items) }
+    ensures faultless { OnOk result (IsFaultless (host_names hosts.now) file (classes_of rules.Views)) }
+    ensures broken { IfErr result (IsBroken (classes_of rules.Views) (host_names hosts.now) file) }
+{
+    check(alloc, &file, hosts)?;
+    let text = types_of(alloc, &file)?;
+    Ok(text)
+}
+
+// What `project` writes.
+fn project_text(alloc: Global, file: File, hosts: &HostTable) -> Result<Vec<u8>, Denied>
+    ensures text { IfOk result (λ text. IsProjectionText file text.items) }
+    ensures faultless { OnOk result (IsFaultless (host_names hosts.now) file (classes_of rules.All)) }
+    ensures broken { IfErr result (IsBroken (classes_of rules.All) (host_names hosts.now) file) }
+{
+    let accepted = accept(alloc, file, hosts)?;
+    let text = text_of_projection(alloc, &accepted)?;
+    Ok(text)
+}
+
+// The text of the endpoint programs of an accepted file.
+fn text_of_projection(alloc: Global, accepted: &Accepted) -> Result<Vec<u8>, Memory>
+    ensures { IfOk result (λ text. IsProjectionText accepted.now.typed.file text.items) }
+{
+    let text = text_of_endpoints(alloc, accepted.endpoints())?;
+    Ok(text)
+}

@@ -1,0 +1,103 @@
+//! Accepting a source.
+
+ghost use Rattle.std.specs.Prelude.{◌≡◌, [], IfOk, OnOk, IfErr};
+ghost use Rattle.chor_base.specs.Faults.{IsDenial};
+ghost use Rattle.chor_host.specs.Functions.{names_of};
+ghost use Rattle.chor_host.specs.Tables.{functions_of};
+ghost use Rattle.linear_check.specs.Class.{IsLinearityFault};
+ghost use Rattle.projection.specs.MergeFaults.{IsMergeDenial};
+ghost use Rattle.source_check.specs.Classes.{IsFaultless, HasNone, HasNoMergeFault, classes_of};
+ghost use Rattle.source_check.specs.Source.{IsBroken};
+ghost use Rattle.source_check.specs.declared.rules.Rules.TheVariants.{All};
+ghost use Rattle.source_check.specs.declared.rules.Class.TheVariants.{Linearity};
+ghost use Rattle.simulation.specs.Accepted.{IsAccepted};
+
+use chor_base::Denied;
+use chor_host::HostTable;
+use chor_tree::File;
+use endpoint_code::Endpoints;
+use file_codes::project;
+use linear_check::first_fault;
+use source_check::check;
+use std::alloc::Global;
+use std::marker::Model;
+use type_check::{Typed, check_types};
+
+/// A file without faults of names, protocols, views, types, linearity and merging, and its endpoint
+/// programs.
+#[derive(Drop)]
+pub struct Accepted {
+    typed: Typed,
+    endpoints: Endpoints,
+}
+
+impl Model for Accepted {
+    ghost use Rattle.simulation.specs.Accepted.{AcceptedView, IsAccepted};
+
+    ghost Value = { AcceptedView };
+
+    ghost view = { λ a. record { typed = a.typed; endpoints = a.endpoints } };
+
+    ghost use Rattle.type_check.specs.contracts.typed.Typed as judged;
+    ghost use Rattle.endpoint_code.specs.contracts.endpoints.Endpoints as programs;
+    ghost use Rattle.std.specs.Coded.{codes};
+
+    ghost coded = { Prim.hlevel (codes, judged.the_row.coded, programs.the_row.coded) };
+
+    ghost invariant = { λ a. IsAccepted a.typed.file a.endpoints };
+}
+
+impl Accepted {
+    /// The typed file. It takes no memory.
+    pub fn typed(&self) -> &Typed
+        ensures { result.now ≡ self.now.typed }
+    {
+        &self.typed
+    }
+
+    /// The endpoint programs: the projection of the file. It takes no memory.
+    pub fn endpoints(&self) -> &Endpoints
+        ensures endpoints { result.now ≡ self.now.endpoints }
+        ensures accepted { IsAccepted self.now.typed.file result.now }
+    {
+        &self.endpoints
+    }
+}
+
+/// Judges a file by the rules of names, protocols, views, types, linearity and merging, in this
+/// order, where it may call these host functions. The first class with a fault decides; on any
+/// refusal the file is dropped.
+#[tactic(auto, using(crate::proofs::Judged::checked_broken, crate::proofs::Judged::typed_broken, crate::proofs::Judged::linear_broken, crate::proofs::Judged::merged_broken, crate::proofs::Judged::all_fine))]
+pub fn accept(alloc: Global, file: File, hosts: &HostTable) -> Result<Accepted, Denied>
+    ensures file { IfOk result (λ accepted. accepted.typed.file ≡ file) }
+    ensures hosts { IfOk result (λ accepted. accepted.typed.hosts ≡ names_of (functions_of hosts.now)) }
+    ensures faultless { OnOk result (IsFaultless (names_of (functions_of hosts.now)) file (classes_of All)) }
+    ensures denied { IfErr result (IsBroken (classes_of All) (names_of (functions_of hosts.now)) file) }
+{
+    check(alloc, &file, hosts)?;
+    let typed = check_types(alloc, file, hosts)?;
+    check_linearity(alloc, typed.file())?;
+    projected(alloc, typed)
+}
+
+// A typed file without faults of linearity, with its endpoint programs.
+fn projected(alloc: Global, typed: Typed) -> Result<Accepted, Denied>
+    requires linear { HasNone [] typed.file Linearity }
+    ensures typed { IfOk result (λ accepted. accepted.typed ≡ typed) }
+    ensures merges { OnOk result (HasNoMergeFault typed.file) }
+    ensures denied { IfErr result (IsMergeDenial typed.file) }
+{
+    let endpoints = project(alloc, typed.file())?;
+    Ok(Accepted { typed, endpoints })
+}
+
+// Judges a file by the rules of linearity.
+fn check_linearity(alloc: Global, file: &File) -> Result<(), Denied>
+    ensures linear { OnOk result (HasNone [] file.now Linearity) }
+    ensures denied { IfErr result (IsDenial (IsLinearityFault file.now)) }
+{
+    match first_fault(alloc, file)? {
+        Some(fault) => Err(fault.denied()),
+        None => Ok(()),
+    }
+}

@@ -1,5 +1,0 @@
-use Rattle.chor_parser.proofs.KnownTexts.{texts_known}
-use Rattle.source_check.proofs.source.parsed.Goals as goal
-
-pub parse-requires : goal.parse-requires
-parse-requires c = record { known = c.in_ok-list.ensures.known; texts = texts_known c.in_ok-list.ensures.found }
