@@ -12,10 +12,18 @@ use worked::transcripts;
 // How many bytes of a file are read at most.
 const LIMIT: u64 = 1 << 16;
 
+// The transcripts that stand in the folder.
+const RUNS: [(&str, &[u8]); 4] = [
+    ("hello.run", transcripts::HELLO),
+    ("labels.run", transcripts::LABELS),
+    ("service.run", transcripts::SERVICE),
+    ("purchase.run", transcripts::PURCHASE),
+];
+
 fn main(rt: HostRuntime) -> io::Result<ExitCode> {
     let mut shelf = DiskShelf::new(rt.alloc(), &rt);
     let mut status = 0;
-    for (name, text) in EXAMPLES.iter().chain(&[("hello.run", transcripts::HELLO)]) {
+    for (name, text) in EXAMPLES.iter().chain(&RUNS) {
         if holds(rt.alloc(), &mut shelf, name.as_bytes(), text) {
             println!(rt; "{name} is the worked text")?;
         } else {

@@ -40,6 +40,13 @@ pub const BEFORE_A_DECISION: &[u8] = b"1 start a #0 A=p B=q
 end 7
 ";
 
+pub const LABELS: &[u8] = b"1 start c #0 R=r P=p
+2 test r true
+3 pick r #0 R>P ok
+4 branch p #0 R>P ok
+end 4
+";
+
 pub const SERVICE: &[u8] = b"1 start d #0 A=p S=%2
 2 start d #1 A=q S=%3
 3 pick p #0 A>S up
