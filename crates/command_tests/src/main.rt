@@ -11,8 +11,10 @@
 #![tactic(auto)]
 
 use crate::cases::answer_cases;
-use crate::hosts::host_functions;
+use crate::hosts::host_names;
 use crate::made::answer_made;
+use chor_base::{HostOp, Meaning};
+use chor_host::{HostFn, HostTable, host_gap, host_max, host_min};
 use std::fs;
 
 mod calls;
@@ -22,7 +24,11 @@ mod hosts;
 mod made;
 
 fn main(rt: HostRuntime) -> anyhow::Result<()> {
-    let hosts = host_functions(rt.alloc())?;
+    let names = host_names(rt.alloc())?;
+    let mut hosts = HostTable::new(rt.alloc());
+    hosts.add(HostFn::new(names.min, Meaning::Exact(HostOp::Min), host_min))?;
+    hosts.add(HostFn::new(names.max, Meaning::Exact(HostOp::Max), host_max))?;
+    hosts.add(HostFn::new(names.gap, Meaning::Exact(HostOp::Gap), host_gap))?;
     let index = fs::read_to_string(&rt, "cases")?;
     for name in index.lines() {
         let text = fs::read_to_string(&rt, name)?;
