@@ -21,3 +21,6 @@ returns-clause-asks g c = subst (λ (f : File). IfSome c.in_ok-text.text (λ t. 
 
 pub returns-clause-none : goal.returns-clause-none
 returns-clause-none g c = subst (λ (f : File). IfNone c.in_ok-text.text (asks_hosts f ≡ true)) c.in_ok-accepted.ensures.file c.in_ok-text.ensures.none
+
+pub returns-clause-faultless : goal.returns-clause-faultless
+returns-clause-faultless g c = c.in_ok-accepted.ensures.faultless
