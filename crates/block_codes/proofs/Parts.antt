@@ -14,8 +14,7 @@ use Rattle.endpoint_code.proofs.CodeTables.{code_at-pushed}
 use Rattle.branch_merge.specs.Merged.{Keeps}
 use Rattle.branch_merge.proofs.ArmTables.{keeps_all, code_kept, kept_length}
 use Rattle.projection.specs.Codes.{Part}
-use Rattle.projection.specs.Straight.{part_tree}
-use Rattle.projection.specs.Making.{part_at, Puts}
+use Rattle.projection.specs.Making.{part_tree, part_at, Puts}
 use Rattle.block_codes.specs.declared.coded.Coded.{Coded}
 use Rattle.block_codes.specs.Nodes.{call_in}
 use Rattle.block_codes.specs.Parts.{IsPut, IsLeaf, IsCallAt, IsCalled}

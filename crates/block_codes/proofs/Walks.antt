@@ -24,8 +24,7 @@ use Rattle.branch_merge.specs.Merged.{Keeps}
 use Rattle.branch_merge.proofs.ArmTables.{keeps_both, code_kept, kept_length}
 use Rattle.source_blocks.specs.Blocks.{node_of, choreography_of}
 use Rattle.projection.specs.Codes.{part_in, IsCodeOf, decides as decides_there, merges}
-use Rattle.projection.specs.Straight.{part_tree}
-use Rattle.projection.specs.Making.{part_at}
+use Rattle.projection.specs.Making.{part_tree, part_at}
 use Rattle.projection.specs.MergeFaults.{Site, sites_in, sites_at, HasClash, IsFirstOf, here, later}
 use Rattle.projection.proofs.Makes.{code_then}
 use Rattle.projection.proofs.OneCode.{code_distinct, code_above}

@@ -9,8 +9,7 @@ use Rattle.endpoint_code.specs.declared.code.CodeNode.{CodeNode}
 use Rattle.endpoint_code.specs.Code.{children_of}
 use Rattle.endpoint_code.specs.Trees.{CodeTree, Ends, code_at, node_tree}
 use Rattle.branch_merge.specs.Merged.{Keeps}
-use Rattle.projection.specs.Straight.{part_tree}
-use Rattle.projection.specs.Making.{part_at}
+use Rattle.projection.specs.Making.{part_tree, part_at}
 use Rattle.block_codes.specs.declared.coded.Coded.{Coded}
 use Rattle.block_codes.specs.Nodes.{call_in}
 

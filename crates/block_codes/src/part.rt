@@ -1,4 +1,4 @@
-//! What a process does at a node of a straight line.
+//! What a process does at a node of a source.
 
 ghost use Rattle.std.specs.Prelude.{◌≡◌, true, IfOk};
 ghost use Rattle.chor_base.specs.Expr.{term_of};
@@ -29,7 +29,7 @@ impl Link {
 }
 
 /// The node by which a process does its part at a node of this form, and goes on at `next`; none
-/// where it has no part. Conditionals and calls, which stand in no straight line, give none.
+/// where it has no part. Conditionals and calls give none.
 pub fn part(
     alloc: Global,
     form: &Form,

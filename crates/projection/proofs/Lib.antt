@@ -1,10 +1,7 @@
 pub mod Inversions
 pub mod Branches
 pub mod TreeTables
-pub mod Paths
 pub mod Makes
-pub mod Whole
-pub mod Numbered
 pub mod OneCode
 pub mod Renamed
 pub mod Exchanged

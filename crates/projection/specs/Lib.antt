@@ -2,6 +2,5 @@ pub mod Codes
 pub mod Projects
 pub mod MergeFaults
 pub mod Renamed
-pub mod Straight
 pub mod Making
 pub mod Examples

@@ -1,14 +1,8 @@
-//! The projection of a source file to endpoint programs.
+//! What it is for endpoint programs to be the projection of a source, which branches and starts
+//! can't be merged, and what holds of both.
 //!
-//! So far `project` handles files whose choreography is one straight line: no procedures, no
-//! service roles, no conditional and no call.
+//! Definitions, laws and worked examples: `file_codes::project` makes the projection.
 #![tactic(auto)]
 
-mod channels;
 pub mod examples;
 pub mod laws;
-mod line;
-mod part;
-mod straight;
-
-pub use straight::project;
