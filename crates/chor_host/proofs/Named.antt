@@ -1,5 +1,5 @@
 -- Names of functions in a table.
-use Rattle.std.proofs.Common.{◌≡◌, ℕ, ℤ, zero, suc, ◌+◌, ◌&&◌, ◌||◌, ◌==◌, Bool, true, false, List, [], ◌∷◌, ◌++◌, length, map, Some, refl, sym, ap, ◌∙◌, arith, length-append}
+use Rattle.std.proofs.Common.{◌≡◌, ℕ, ℤ, zero, suc, ◌&&◌, ◌||◌, ◌==◌, Bool, true, false, List, [], ◌∷◌, ◌++◌, map, Some, refl, sym, ap, ◌∙◌, arith}
 use Rattle.std.specs.Prelude.{slice_get, bytes_eq}
 use Rattle.std.specs.List.{list_any}
 use Rattle.std.proofs.lemmas.Bool.Decides.{nat_tests}
@@ -9,7 +9,7 @@ use Rattle.chor_base.proofs.WordTables.{put_absent}
 use Rattle.chor_host.specs.declared.function.HostFn.{HostFn}
 use Rattle.chor_host.specs.Functions.{Function, names_of, function_of, is_named}
 
-own_bytes : (w : List ℕ) → bytes_eq w w ≡ true
+pub own_bytes : (w : List ℕ) → bytes_eq w w ≡ true
 own_bytes [] = refl
 own_bytes (x ∷ w) = ap (λ b. (x == x) && b) (own_bytes w) ∙ grind (arith, nat_tests)
 

@@ -1,5 +1,5 @@
 -- What contracts see of host functions. X and g stand for what a function pointer calls.
-use Rattle.std.specs.Prelude.{ℕ, ℤ, Bool, List, [], ◌∷◌, ◌++◌, map, Option, Some, None, position, bytes_eq}
+use Rattle.std.specs.Prelude.{ℕ, ℤ, Bool, List, [], ◌∷◌, ◌++◌, map, Option, Some, None, position, bytes_eq, if◌then◌else◌}
 use Rattle.std.specs.List.{list_any}
 use denote.Param.Members.{Mut}
 use Rattle.chor_base.specs.declared.meaning.Meaning.{Meaning}
@@ -16,6 +16,11 @@ names_of fs = map (λ f. f.0) fs
 -- one of the functions has this name
 abbrev pub is_named : List Function → List ℕ → Bool
 is_named fs w = list_any (bytes_eq w) (names_of fs)
+
+-- what the first function of this name may answer
+abbrev pub meaning_of : List Function → List ℕ → Option Meaning
+meaning_of [] w = None
+meaning_of (f ∷ fs) w = if bytes_eq w f.0 then Some f.1 else meaning_of fs w
 
 abbrev pub function_of : {X : Type 0} {g : Mut X (ℤ × (ℤ × Unit {0})) ℤ} → HostFn X g → Function
 function_of f = (f.name, f.meaning)

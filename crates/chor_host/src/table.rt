@@ -1,6 +1,7 @@
 //! Host functions by their names.
 
 ghost use Rattle.std.specs.Prelude.{◌≡◌, map};
+ghost use Rattle.chor_base.specs.Words.{AllDistinct};
 ghost use Rattle.chor_host.specs.Functions.{function_of, names_of};
 
 mod calls;
@@ -15,4 +16,5 @@ pub struct HostTable {
     names: Names,
     functions: Vec<HostFn>,
     ghost named: { names ≡ names_of (map function_of functions.items) },
+    ghost distinct: { AllDistinct names },
 }

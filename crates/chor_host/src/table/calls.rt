@@ -1,7 +1,8 @@
 //! What a table of host functions does.
 
-ghost use Rattle.std.specs.Prelude.{◌≡◌, ◌<◌, ◌++◌, ◌∷◌, [], ◌↔◌, false, length, slice_get, OnOk, OnErr, IfErr, IfSome, IfNone, IsTrue};
-ghost use Rattle.chor_host.specs.Functions.{function_of, is_named, names_of};
+ghost use Rattle.std.specs.Prelude.{◌≡◌, ◌<◌, ◌++◌, ◌∷◌, [], ◌↔◌, ℤ, false, length, slice_get, OnOk, OnErr, IfErr, IfSome, IfNone, IsTrue};
+ghost use Rattle.chor_base.specs.Meaning.{MayAnswer};
+ghost use Rattle.chor_host.specs.Functions.{function_of, is_named, meaning_of, names_of};
 ghost use Rattle.chor_host.specs.Tables.{functions_of};
 
 use crate::fault::AddFault;
@@ -85,5 +86,17 @@ impl HostTable {
         ensures { slice_get (functions_of self.now) index ≡ Some (function_of result.now) }
     {
         &self.functions[index as usize]
+    }
+
+    /// What the function of this name answers, if there is one. It takes no memory.
+    pub fn ask(&self, name: &[u8], a: i64, b: i64) -> Option<i64>
+        ensures allowed { IfSome result (λ v. MayAnswer (meaning_of (functions_of self.now) name.now) a b v) }
+        ensures only { (v : ℤ) → MayAnswer (meaning_of (functions_of self.now) name.now) a b v → result ≡ Some v }
+        ensures absent { IfNone result (is_named (functions_of self.now) name.now ≡ false) }
+    {
+        match self.find(name) {
+            Some(index) => Some(self.at(index).ask(a, b)),
+            None => None,
+        }
     }
 }
