@@ -274,35 +274,7 @@ inv_end (If v' f' g') h = absurd cc
 inv_end (Call f' p' ss') h = absurd cc
 inv_end End h = record { is = cc }
 
--- ---- heads of trees
-abbrev pub tree_head : CodeTree → Head
-tree_head (action.Does a rest) = Acts a
-tree_head (action.Offers k a arms) = Branches k a
-tree_head (action.Tests e f g) = Decides e
-tree_head (action.Calls f p ss) = GoesTo f p ss
-tree_head action.Ends = Stops
-
-pub node_head : (ts : List CodeTree) (n : CodeNode) → tree_head (node_tree ts n) ≡ head_of n
-node_head ts (Join c r k next) = refl
-node_head ts (Send k b x next) = refl
-node_head ts (Recv k a x next) = refl
-node_head ts (Pick k b l next) = refl
-node_head ts (Branch k a arms) = refl
-node_head ts (Throw k b h next) = refl
-node_head ts (Catch k a h next) = refl
-node_head ts (Set x v next) = refl
-node_head ts (Show v next) = refl
-node_head ts (Host x f u v next) = refl
-node_head ts (If v f g) = refl
-node_head ts (Call f p ss) = refl
-node_head ts End = refl
-
-pub above_head : {q p : CodeTree} → IsAbove q p → tree_head q ≡ tree_head p
-above_head (does a) = refl
-above_head (offers a) = refl
-above_head (tests a b) = refl
-above_head calls = refl
-above_head ends = refl
+-- ---- codes above others
 
 pub rest_above : {a b : action.Action} {q p : CodeTree} → IsAbove (action.Does a q) (action.Does b p) → IsAbove q p
 rest_above (does a) = a
