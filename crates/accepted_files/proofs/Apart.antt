@@ -1,5 +1,5 @@
 -- No session of a file without fault of names has a channel's name.
-use Rattle.std.proofs.Common.{◌≡◌, ℕ, zero, suc, ◌<◌, List, [], ◌∷◌, map, length, refl, sym, ap, ◌∙◌, subst, Some, Bool, true, false, if◌then◌else◌, ◌==◌, ◌||◌, arith}
+use Rattle.std.proofs.Common.{◌≡◌, ℕ, suc, ◌<◌, List, [], ◌∷◌, map, length, refl, sym, ap, ◌∙◌, subst, Some, Bool, true, false, if◌then◌else◌, ◌==◌, ◌||◌, arith}
 use Rattle.std.specs.Prelude.{Contains}
 use Rattle.std.specs.List.{filter}
 use Rattle.chor_base.specs.declared.names.NameId.{NameId}
@@ -8,7 +8,7 @@ use Rattle.chor_tree.specs.declared.file.Proc.{Proc}
 use Rattle.chor_tree.specs.declared.file.Service.{Service}
 use Rattle.chor_tree.specs.declared.file.SessionParam.{SessionParam}
 use Rattle.chor_tree.specs.Names.{Scope, is_among, channels_of}
-use Rattle.chor_tree.specs.Source.{Statement, Starts, Sends, Selects, Gives, Sets, Asks, Shows, Block, Then, Either, Calls, Ends, body_of}
+use Rattle.chor_tree.specs.Source.{Starts, Sends, Selects, Gives, Sets, Asks, Shows, Block, Then, Either, Calls, Ends, body_of}
 use Rattle.chor_semantics.specs.Choreography.{Named, among}
 use Rattle.endpoint_code.specs.declared.endpoints.Channel.{Channel}
 use Rattle.endpoint_code.specs.Network.{channel_of as channel_in}

@@ -1,5 +1,5 @@
 -- In a file without faults what is declared differs, and each process uses the sessions in which it holds a role.
-use Rattle.std.proofs.Common.{◌≡◌, ℕ, zero, suc, ◌<◌, List, [], ◌∷◌, ◌++◌, map, length, refl, sym, ap, ◌∙◌, subst, Some, None, Bool, true, false, if◌then◌else◌, ◌==◌, ◌||◌, inl, inr, arith}
+use Rattle.std.proofs.Common.{◌≡◌, ℕ, zero, suc, ◌<◌, List, [], ◌∷◌, ◌++◌, map, length, refl, sym, ap, ◌∙◌, subst, Some, None, Bool, true, false, ◌==◌, ◌||◌, arith}
 use Rattle.std.specs.Prelude.{Contains, not}
 use Rattle.std.specs.List.{AllByRecursion, flat_map}
 use Rattle.chor_base.specs.declared.names.NameId.{NameId}
@@ -13,7 +13,6 @@ use Rattle.chor_tree.specs.declared.file.Service.{Service}
 use Rattle.chor_tree.specs.declared.file.SessionParam.{SessionParam}
 use Rattle.chor_tree.specs.Names.{is_among as is_in, names_in, repeated, unknown, unknown_role, has_each_once, wrong_roles, protocols_of, channels_of, protocol_of, first_named, named_as_channel, protocol_faults, channel_faults, session_faults, procedure_faults, scope_of_main, scope_of_procedure}
 use Rattle.chor_tree.specs.Source.{body_of}
-use Rattle.chor_semantics.specs.Choreography.{Node, Starts, Communicates, InTransit, Alone, Choreography, Then, Either, Calls, Ends}
 use Rattle.endpoint_code.specs.declared.endpoints.Endpoints.{Endpoints}
 use Rattle.endpoint_code.specs.Network.{channel_of}
 use Rattle.well_formed.specs.WellFormed.{AreDistinctRoles}
@@ -25,12 +24,12 @@ use Rattle.typed_sources.proofs.BlockTrees.{tree_of, tree_at}
 use Rattle.typed_sources.proofs.Resolved.{both_empty, each_empty, found_in, is_named_there}
 use Rattle.typed_sources.proofs.ProcedureHeads.{no_fault_at, not_true, is_known, all_apart, names_append, names_map}
 use Rattle.typed_sources.proofs.Accepted.{declared, channels_fine, procedures_fine, main_faultless, procedures_keep}
-use Rattle.typed_nodes.proofs.Checked.{some_is}
 use Rattle.file_holders.proofs.Declared.{main_keeps, body_keeps}
-use Rattle.file_trees.proofs.Channels.{IsStartOf, StartsIn, channel_there}
+use Rattle.file_trees.proofs.Channels.{StartsIn, channel_there}
 use Rattle.file_trees.proofs.Files.{each_first, main_named, procedure_named, params_apart, sessions_named}
 use Rattle.file_trees.proofs.Roles.{once_apart}
-use Rattle.projection.specs.Projects.{Projects, Started, start_at, starts_in, starts_in_procs, starts_of, body_at, is_some_start, channel_from}
+use Rattle.file_roles.proofs.StartedChannels.{named_so, main_starts, body_starts}
+use Rattle.projection.specs.Projects.{Projects, starts_in, starts_in_procs, starts_of, body_at, is_some_start, channel_from}
 use Rattle.held_sessions.specs.Held.{UsesHeld, StartUses}
 use Rattle.faultless_projections.proofs.Knows.{Knows, AreThere, DiffersThere}
 use Rattle.faultless_projections.proofs.Along.{block_uses}
@@ -45,44 +44,6 @@ pub among_those : {A : Type 0} (nm : A → Written) (xs : List A) (x : A) → Co
 among_those nm [] x (i, l, e) = absurd (omega (arith, l))
 among_those nm (y ∷ ys) x (zero, l, e) = or_left _ _ (ap (λ z. (nm z).name.0 == (nm x).name.0) e ∙ true_eq (nm x).name.0)
 among_those nm (y ∷ ys) x (suc i, l, e) = or_rights _ _ (among_those nm ys x (i, omega (arith, l), e))
-
--- what is found by a name has it
-named_so : (ss : List Service) (c : NameId) (s : Service) → first_named (λ z. z.name) ss c ≡ Some s → s.name.name ≡ c
-named_so [] c s h = absurd cc
-named_so (z ∷ zs) c s h = go (z.name.name.0 == c.0) refl h (named_so zs c s)
-  where
-    go : (b : Bool) → (z.name.name.0 == c.0) ≡ b → (if b then Some z else first_named (λ z. z.name) zs c) ≡ Some s → (first_named (λ z. z.name) zs c ≡ Some s → s.name.name ≡ c) → s.name.name ≡ c
-    go true e i ih = ap (λ (y : Service). y.name.name) (sym (some_is z s i)) ∙ same_name z.name.name c e
-    go false e i ih = ih i
-
--- ---- which channels are started (as in accepted_files, Wanted)
-
-some_left : (xs ys : List Started) → is_some_start xs ≡ true → is_some_start (xs ++ ys) ≡ true
-some_left [] ys h = absurd cc
-some_left (x ∷ xs) ys h = refl
-
-some_right : (xs ys : List Started) → is_some_start ys ≡ true → is_some_start (xs ++ ys) ≡ true
-some_right [] ys h = h
-some_right (x ∷ xs) ys h = refl
-
-start_here : (c : NameId) (n : Node) (rest : Choreography) → IsStartOf c n → is_some_start (start_at c n rest) ≡ true
-start_here c (Starts a d k active serve) rest h = ap (λ (b : Bool). is_some_start (if b then record { session = k; serve = serve; rest = rest } ∷ [] else [])) (ap (λ z. z.0 == c.0) h ∙ true_eq c.0)
-start_here c (Communicates s p a q b w) rest h = absurd h
-start_here c (InTransit s a b m q) rest h = absurd h
-start_here c (Alone p o) rest h = absurd h
-
-starts_there : (c : NameId) (x : Choreography) → StartsIn c x → is_some_start (starts_in c x) ≡ true
-starts_there c (Then n rest) (inl h) = some_left (start_at c n rest) (starts_in c rest) (start_here c n rest h)
-starts_there c (Then n rest) (inr h) = some_right (start_at c n rest) (starts_in c rest) (starts_there c rest h)
-starts_there c (Either p e x y) (inl h) = some_left (starts_in c x) (starts_in c y) (starts_there c x h)
-starts_there c (Either p e x y) (inr h) = some_right (starts_in c x) (starts_in c y) (starts_there c y h)
-starts_there c (Calls f d ps ss) h = absurd h
-starts_there c Ends h = absurd h
-
-in_procs : (f : File) (c : NameId) (ps : List Proc) (p : Proc) → Contains ps p → StartsIn c (body_at f p.body) → is_some_start (starts_in_procs f c ps) ≡ true
-in_procs f c [] p (i, l, e) h = absurd (omega (arith, l))
-in_procs f c (q ∷ qs) p (zero, l, e) h = some_left (starts_in c (body_at f q.body)) (starts_in_procs f c qs) (starts_there c (body_at f q.body) (subst (λ (z : Proc). StartsIn c (body_at f z.body)) (sym e) h))
-in_procs f c (q ∷ qs) p (suc i, l, e) h = some_right (starts_in c (body_at f q.body)) (starts_in_procs f c qs) (in_procs f c qs p (i, omega (arith, l), e) h)
 
 -- ---- files
 
@@ -160,10 +121,10 @@ module _ (f : File) (words : List (List ℕ)) (ok : IsAccepted f words) where
     found_there c s is some = ap (λ ks. channel_of ks c) pr.channels ∙ channel_there is_started f.services c s is (ap (λ z. is_some_start (starts_of f z)) (named_so f.services c s is) ∙ some)
 
     main_there : AreThere f e (tree_of (body_of f f.body))
-    main_there c s h is = found_there c s is (some_right (starts_in_procs f c f.procs) (starts_in c (body_at f f.body)) (starts_there c (body_at f f.body) (subst (StartsIn c) (sym (tree_at f.tree.nodes f.body)) h)))
+    main_there c s h is = found_there c s is (main_starts f c (subst (StartsIn c) (sym (tree_at f.tree.nodes f.body)) h))
 
     body_there : (p : Proc) → Contains f.procs p → AreThere f e (tree_of (body_of f p.body))
-    body_there p m c s h is = found_there c s is (some_left (starts_in_procs f c f.procs) (starts_in c (body_at f f.body)) (in_procs f c f.procs p m (subst (StartsIn c) (sym (tree_at f.tree.nodes p.body)) h)))
+    body_there p m c s h is = found_there c s is (body_starts f c p m (subst (StartsIn c) (sym (tree_at f.tree.nodes p.body)) h))
 
     -- ---- bodies
 

@@ -6,7 +6,6 @@ use Rattle.chor_base.specs.declared.rule.Place.{Place}
 use Rattle.chor_base.specs.declared.rule.Rule.{Rule}
 use Rattle.chor_base.specs.declared.rule.Rule.TheVariants.{T9}
 use Rattle.chor_base.specs.declared.value.Sort.{Sort}
-use Rattle.chor_base.specs.Expr.{Term}
 use Rattle.chor_tree.specs.declared.file.File.{File}
 use Rattle.chor_tree.specs.declared.file.Named.{Named as Written}
 use Rattle.chor_tree.specs.declared.file.Proc.{Proc}

@@ -1,5 +1,5 @@
 -- Everybody holds its roles in a file without faults: each process of main, each parameter of a procedure, each service.
-use Rattle.std.proofs.Common.{◌≡◌, ℕ, zero, suc, ◌<◌, List, [], ◌∷◌, ◌++◌, map, length, refl, sym, ap, ◌∙◌, subst, Some, None, Option, Bool, true, false, if◌then◌else◌, ◌==◌, ◌&&◌, ◌||◌, arith}
+use Rattle.std.proofs.Common.{◌≡◌, ℕ, zero, suc, ◌<◌, List, [], ◌∷◌, ◌++◌, map, length, refl, sym, ap, ◌∙◌, subst, Some, None, Bool, true, false, if◌then◌else◌, ◌==◌, ◌||◌, arith}
 use Rattle.std.specs.Prelude.{Contains, slice_get, not}
 use Rattle.std.specs.List.{flat_map}
 use Rattle.chor_base.specs.declared.names.NameId.{NameId}
@@ -10,23 +10,22 @@ use Rattle.chor_base.specs.Faults.{fault_if}
 use Rattle.chor_tree.specs.declared.file.File.{File}
 use Rattle.chor_tree.specs.declared.file.Named.{Named as Written}
 use Rattle.chor_tree.specs.declared.file.Proc.{Proc}
-use Rattle.chor_tree.specs.declared.file.ProcParam.{ProcParam}
 use Rattle.chor_tree.specs.declared.file.SessionParam.{SessionParam}
 use Rattle.chor_tree.specs.declared.tree.Part.{Part}
 use Rattle.chor_tree.specs.Names.{Scope, is_among, names_in, procedure_of, scope_of_main, scope_of_procedure}
 use Rattle.chor_tree.specs.Source.{Statement, Starts, Sends, Selects, Gives, Sets, Asks, Shows, Block, Then, Either, Calls, Ends, body_of}
 use Rattle.chor_semantics.specs.Choreography.{Choreography}
-use Rattle.chor_semantics.specs.Sources.{parts_of, served_of}
+use Rattle.chor_semantics.specs.Sources.{served_of}
 use Rattle.well_formed.proofs.References.{same_name, clash, true_eq, or_rights}
-use Rattle.delegation.specs.Owners.{held as entry, holder_of, started}
+use Rattle.delegation.specs.Owners.{holder_of, started}
 use Rattle.delegation.specs.Checks.{ask, all_differ, first_failed}
 use Rattle.typing_rules.specs.Environment.{Environment, at_main, at_procedure}
 use Rattle.typing_rules.specs.Checks.{statement_checks}
-use Rattle.typing_rules.specs.TypeFaults.{holder_fault, head_faults}
+use Rattle.typing_rules.specs.TypeFaults.{holder_fault}
 use Rattle.typing_rules.specs.After.{after_statement}
 use Rattle.typed_runs.proofs.Small.{both_true}
 use Rattle.typed_nodes.proofs.Checked.{first_passes, asked, some_is}
-use Rattle.typed_nodes.proofs.Opened.{AreNew, IsNamedStart, holder_other, holder_new}
+use Rattle.typed_nodes.proofs.Opened.{IsNamedStart, holder_other, holder_new}
 use Rattle.typed_calls.proofs.Arguments.{owners_of, holder_elsewhere, no_owner}
 use Rattle.typed_sources.specs.Laws.{IsAccepted}
 use Rattle.typed_sources.proofs.BlockTrees.{node_of, tree_of, tree_at}
@@ -35,9 +34,9 @@ use Rattle.typed_sources.proofs.Resolved.{both_empty, found_in}
 use Rattle.typed_sources.proofs.Accepted.{main_faultless, procedures_keep, head_fine}
 use Rattle.projection.specs.Codes.{proc_named}
 use Rattle.projection.specs.Projects.{body_at}
-use Rattle.projection_follows.specs.Roles.{Roles, with_role, has_name, params_of, holder_role, roles_of, HoldsRoles, process_name, EachServiceHolds, ServicesHoldAt, ServicesHold}
+use Rattle.projection_follows.specs.Roles.{with_role, has_name, params_of, holder_role, roles_of, HoldsRoles, EachServiceHolds, ServicesHoldAt, ServicesHold}
 use Rattle.projection_follows.specs.Premises.{ProceduresHold, MainHolds, AllServicesHold, HoldsItsRoles}
-use Rattle.file_holders.proofs.FromBelow.{not_is, among_front}
+use Rattle.file_holders.proofs.FromBelow.{not_is}
 use Rattle.file_holders.proofs.Owned.{KeepsOwners, statement_owned}
 use Rattle.file_holders.proofs.Declared.{main_keeps, body_keeps}
 use Rattle.file_trees.proofs.Files.{params_apart}

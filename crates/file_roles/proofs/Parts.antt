@@ -1,5 +1,5 @@
 -- Who has a part in a start, who is passed for a parameter, and who is listed for a role.
-use Rattle.std.proofs.Common.{◌≡◌, ℕ, suc, zero, ◌<◌, List, [], ◌∷◌, ◌++◌, map, length, refl, sym, ap, ◌∙◌, subst, Some, None, Option, Bool, true, false, if◌then◌else◌, ◌==◌, ◌&&◌, ◌||◌, arith}
+use Rattle.std.proofs.Common.{◌≡◌, suc, zero, List, [], ◌∷◌, ◌++◌, map, refl, sym, ap, ◌∙◌, subst, Some, Bool, true, false, if◌then◌else◌, ◌==◌, ◌&&◌, ◌||◌, arith}
 use Rattle.std.specs.Prelude.{Contains, not}
 use Rattle.std.specs.List.{list_all}
 use Rattle.chor_base.specs.declared.names.NameId.{NameId}
@@ -8,7 +8,6 @@ use Rattle.chor_tree.specs.declared.file.Proc.{Proc}
 use Rattle.chor_tree.specs.declared.file.ProcParam.{ProcParam}
 use Rattle.chor_tree.specs.declared.tree.Part.{Part}
 use Rattle.chor_tree.specs.Names.{is_among, first_named}
-use Rattle.chor_semantics.specs.Choreography.{Named}
 use Rattle.chor_semantics.specs.Sources.{name_ref, parts_of}
 use Rattle.well_formed.proofs.References.{same_name, clash, true_eq, or_rights}
 use Rattle.delegation.specs.declared.held.Held.{Held}
@@ -18,7 +17,7 @@ use Rattle.typing_rules.specs.Environment.{Environment}
 use Rattle.typing_rules.specs.Checks.{holds_as}
 use Rattle.typed_runs.proofs.Small.{both_true}
 use Rattle.typed_nodes.proofs.Checked.{some_is, holder_is}
-use Rattle.projection.specs.Codes.{is_named, role_in, proc_named, param_for, holds as is_listed}
+use Rattle.projection.specs.Codes.{role_in, proc_named, param_for, holds as is_listed}
 use Rattle.projection_follows.specs.Roles.{holder_role}
 use Rattle.file_holders.proofs.FromBelow.{holder_among, not_is}
 
