@@ -46,7 +46,12 @@ pub fn put_event(
     put_said(line, alloc, event, book)
 }
 
-fn put_process(line: &mut Vec<u8>, alloc: Global, book: &Book, pid: u32) -> Result<(), Memory>
+pub(crate) fn put_process(
+    line: &mut Vec<u8>,
+    alloc: Global,
+    book: &Book,
+    pid: u32,
+) -> Result<(), Memory>
     ensures { OnOk result (line.new.items ≡ line.old.items ++ process_text (words book.now) pid) }
 {
     match book.processes.as_slice().get(pid as usize) {
