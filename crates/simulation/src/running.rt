@@ -11,8 +11,8 @@ ghost use Rattle.simulation.specs.Runs.{IsOutcome, close_of};
 
 use crate::accepted::Accepted;
 use chor_base::{Entry, List, Memory};
-use endpoint_code::{Channel, CodeNode, Endpoints};
-use net_core::{Network, Picked};
+use endpoint_code::CodeNode;
+use endpoint_runs::{Closed, run_endpoints};
 use std::alloc::Global;
 
 /// The events of a run.
@@ -22,11 +22,6 @@ pub struct Outcome {
     /// Whether each process has ended; else there are as many events as were asked for.
     pub ended: bool,
 }
-
-// No channel has more service roles, and no file more processes, in a source within its limits.
-const SERVED: usize = 4_000;
-
-const PROCESSES: usize = 1_000_000;
 
 /// The run of an accepted file that asks no host function, by the pick rule with this seed, to its
 /// end or to as many events as asked for. It is never stuck.
@@ -43,15 +38,20 @@ pub fn run_accepted(
 {
     laws();
     let endpoints = accepted.endpoints();
-    if !is_runnable(endpoints) {
+    if !asks_nobody(endpoints.code.nodes.as_slice()) {
         return Err(Memory);
     }
-    let mut network = Network::new(alloc, endpoints)?;
-    match network.run_picked(seed, steps) {
-        Picked::Ended => outcome_of(alloc, network.history(), true),
-        Picked::Limit => outcome_of(alloc, network.history(), false),
-        Picked::Memory => Err(Memory),
-        Picked::Stuck(_, _) => unreachable!(),
+    let ran = run_endpoints(alloc, endpoints, seed, steps)?;
+    match ran.closed {
+        Closed::Ended => Ok(Outcome {
+            history: ran.history,
+            ended: true,
+        }),
+        Closed::Limit => Ok(Outcome {
+            history: ran.history,
+            ended: false,
+        }),
+        Closed::Stuck(_, _) => unreachable!(),
     }
 }
 
@@ -66,36 +66,7 @@ fn laws()
     accepted_files::checked_runs();
 }
 
-fn outcome_of(alloc: Global, history: &[Entry], ended: bool) -> Result<Outcome, Memory>
-    ensures history { IfOk result (λ outcome. outcome.history ≡ history.now) }
-    ensures ended { IfOk result (λ outcome. outcome.ended ≡ ended) }
-{
-    let history = entries(alloc, history)?;
-    Ok(Outcome { history, ended })
-}
-
-fn entries(alloc: Global, history: &[Entry]) -> Result<List<Entry>, Memory>
-    ensures { IfOk result (λ list. list ≡ history.now) }
-{
-    let mut list = List::new(alloc);
-    for entry in history {
-        list.push(entry.copy(alloc)?)?;
-    }
-    Ok(list)
-}
-
-// Whether the code asks no host function, and a run's numbers of processes stay below 2^32. So it is
-// for each accepted file that asks none.
-fn is_runnable(endpoints: &Endpoints) -> bool
-    ensures asks { result ≡ true → list_all (asks_known (λ f. false)) endpoints.now.code.nodes ≡ true }
-    ensures serve { result ≡ true → All (λ k. length k.serve ≤ 4000) endpoints.now.channels }
-    ensures processes { result ≡ true → length endpoints.now.processes ≤ 1000000 }
-{
-    asks_nobody(endpoints.code.nodes.as_slice())
-        && serve_few(endpoints.channels.as_slice())
-        && endpoints.processes.len() <= PROCESSES
-}
-
+// Whether the code asks no host function. So it is for each accepted file that asks none.
 fn asks_nobody(nodes: &[CodeNode]) -> bool
     ensures { result ≡ list_all (asks_known (λ f. false)) nodes.now }
 {
@@ -109,15 +80,4 @@ fn asks_nothing(node: &CodeNode) -> bool
         CodeNode::Host(_, _, _, _, _) => false,
         _ => true,
     }
-}
-
-fn serve_few(channels: &[Channel]) -> bool
-    ensures { result ≡ true → All (λ k. length k.serve ≤ 4000) channels.now }
-{
-    for channel in channels {
-        if channel.serve.len() > SERVED {
-            return false;
-        }
-    }
-    true
 }

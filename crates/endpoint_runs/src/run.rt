@@ -1,0 +1,76 @@
+//! The scheduled run of endpoint programs.
+
+ghost use Rattle.std.specs.Prelude.{◌≡◌, ◌<◌, ◌≤◌, ◌^◌, [], Some, IfOk};
+ghost use Rattle.endpoint_code.specs.Faults.{IsFaultless};
+ghost use Rattle.net_core.specs.Plain.{IsHostless};
+ghost use Rattle.endpoint_runs.specs.Runs.{IsRun, close_of, close_by};
+
+use crate::few::are_few;
+use chor_base::{Entry, List, Memory, Why};
+use endpoint_code::Endpoints;
+use net_core::{Network, Picked};
+use std::alloc::Global;
+
+/// How a run is closed.
+#[derive(Clone, Copy, Debug, PartialEq, Eq)]
+pub enum Closed {
+    /// Every process has ended.
+    Ended,
+    /// There are as many events as were asked for, and some process hasn't ended.
+    Limit,
+    /// No process can step: the first that hasn't ended, and why it waits.
+    Stuck(u32, Why),
+}
+
+/// A run, and how it is closed.
+#[derive(Drop)]
+pub struct Ran {
+    pub history: List<Entry>,
+    pub closed: Closed,
+}
+
+/// The run of endpoint programs by the pick rule with this seed, from their first state until every
+/// process has ended, there are as many events as asked for, or no process can step.
+#[tactic(auto, using(crate::proofs::Runs::run_is))]
+pub fn run_endpoints(
+    alloc: Global,
+    endpoints: &Endpoints,
+    seed: u64,
+    steps: u64,
+) -> Result<Ran, Memory>
+    requires faultless { IsFaultless endpoints.now }
+    requires hostless { IsHostless endpoints.now }
+    requires seed { seed < 2 ^ 32 }
+    requires few { steps ≤ 1000000 }
+    ensures { IfOk result (λ ran. IsRun endpoints.now [] seed steps ran.history (close_of ran.closed)) }
+{
+    if !are_few(endpoints) {
+        return Err(Memory);
+    }
+    let mut network = Network::new(alloc, endpoints)?;
+    let closed = closed_by(network.run_picked(seed, steps))?;
+    let history = entries(alloc, network.history())?;
+    Ok(Ran { history, closed })
+}
+
+// How a run is closed that ended so.
+fn closed_by(picked: Picked) -> Result<Closed, Memory>
+    ensures { IfOk result (λ closed. close_by picked ≡ Some (close_of closed)) }
+{
+    match picked {
+        Picked::Ended => Ok(Closed::Ended),
+        Picked::Limit => Ok(Closed::Limit),
+        Picked::Stuck(pid, why) => Ok(Closed::Stuck(pid, why)),
+        Picked::Memory => Err(Memory),
+    }
+}
+
+fn entries(alloc: Global, history: &[Entry]) -> Result<List<Entry>, Memory>
+    ensures { IfOk result (λ list. list ≡ history.now) }
+{
+    let mut list = List::new(alloc);
+    for entry in history {
+        list.push(entry.copy(alloc)?)?;
+    }
+    Ok(list)
+}
