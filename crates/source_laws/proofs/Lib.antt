@@ -1,0 +1,6 @@
+mod Terms
+mod Nodes
+mod Sources
+mod FirstFaults
+mod Classes
+mod Verdicts
