@@ -1,0 +1,183 @@
+-- An office after an event of one process.
+use Rattle.std.proofs.Common.{◌≡◌, ◌≢◌, ℕ, zero, suc, ◌<◌, ◌==◌, ◌^◌, Bool, true, false, List, [], ◌∷◌, ◌++◌, length, refl, sym, ap, ◌∙◌, subst, Option, Some, None, arith, drop, if◌then◌else◌}
+use Rattle.std.specs.Prelude.{slice_get, slice_set, not}
+use Rattle.std.proofs.lemmas.List.{length-set, map-append, append_cancel_left, append-nil}
+use Rattle.std.proofs.lemmas.Bool.Decides.{nat_tests}
+use Rattle.chor_base.specs.declared.value.Load.{Load}
+use Rattle.chor_base.specs.declared.event.Entry.{Entry}
+use Rattle.chor_base.specs.declared.event.Event.{Event}
+use Rattle.chor_base.specs.declared.event.Event.TheVariants as event
+use Rattle.chor_base.specs.Meaning.{Hosts}
+use Rattle.chor_base.specs.Events.{Triple, triple_eq, actors_of, load_on, sent_by, received_by}
+use Rattle.endpoint_code.specs.declared.endpoints.Endpoints.{Endpoints}
+use Rattle.endpoint_code.specs.Network.{Machine, NetworkState, queue_of, has_room, NetworkSteps, first_state}
+use Rattle.endpoint_code.specs.NetworkRuns.{NetworkLeads}
+use Rattle.endpoint_code.proofs.Fifo.{step_keeps, same_triple}
+use Rattle.endpoint_code.proofs.Queues.{triple_same}
+use Rattle.post_office.specs.declared.desk.Desk.{Desk}
+use Rattle.post_office.specs.declared.post.Post.{Post}
+use Rattle.post_office.specs.declared.post.Post.TheVariants.{Busy}
+use Rattle.post_office.specs.Queues.{QueueTable, loads_at, HasPut, HasTaken}
+use Rattle.post_office.specs.Views.{OfficeView, events_of, IsAfter, CanMake, post_at, joined_at, made_busy}
+use Rattle.post_office.specs.Posts.{IsPostOf, IsTrueIn}
+use Rattle.post_office.specs.Kept.{IsKept}
+use Rattle.post_office.specs.Answers.{is_local}
+use Rattle.post_office.proofs.Steps.{ActsAlone, step_alone, is_start, sends_on, FindsRoom, step_capped, get-set_other}
+
+-- ---- the run
+
+-- one step more, at the end
+pub leads_on : (e : Endpoints) (hosts : Hosts) (capacity : Option ℕ) (h : List Event) (x : Event) (n k m : NetworkState) → NetworkLeads e hosts capacity n h k → NetworkSteps e hosts capacity k x m → NetworkLeads e hosts capacity n (h ++ x ∷ []) m
+leads_on e hosts capacity [] x n k m l s = (m, subst (λ (w : NetworkState). NetworkSteps e hosts capacity w x m) (sym l) s, refl)
+leads_on e hosts capacity (y ∷ ys) x n k m l s = (l.0, l.1, leads_on e hosts capacity ys x l.0 k m l.2 s)
+
+pub after_more : (v : OfficeView) (n m : NetworkState) (x : Event) (worker : ℕ) (history : List Entry) → history ≡ v.history ++ record { worker = worker; event = x } ∷ []
+    → IsAfter v n → NetworkSteps v.endpoints v.hosts v.capacity n x m → NetworkLeads v.endpoints v.hosts v.capacity (first_state v.endpoints) (events_of history) m
+after_more v n m x worker history more run step =
+    let one : List Entry = record { worker = worker; event = x } ∷ [] in
+    let same : events_of history ≡ events_of v.history ++ x ∷ [] = ap events_of more ∙ map-append (λ e. e.event) v.history one in
+    subst (λ (h : List Event). NetworkLeads v.endpoints v.hosts v.capacity (first_state v.endpoints) h m) (sym same) (leads_on v.endpoints v.hosts v.capacity (events_of v.history) x (first_state v.endpoints) n m run step)
+
+-- ---- what was posted
+
+pub busy_true : (e : Endpoints) (o : Option Machine) → IsPostOf e o Busy
+busy_true e None = tt
+busy_true e (Some m) = tt
+
+pub busy_own : (ds : List Desk) (p : ℕ) (j : Option ℕ) → post_at (slice_set ds p (record { post = Busy; joined = j })) p ≡ Busy
+busy_own [] p j = refl
+busy_own (d ∷ ds) zero j = refl
+busy_own (d ∷ ds) (suc p) j = busy_own ds p j
+
+pub post_other : (ds : List Desk) (p q : ℕ) (d : Desk) → q ≢ p → post_at (slice_set ds p d) q ≡ post_at ds q
+post_other ds p q d h = ap (λ o. post_of_desk o) (get-set_other ds p q d h)
+  where
+    post_of_desk : Option Desk → Post
+    post_of_desk None = Busy
+    post_of_desk (Some d) = d.post
+
+same_number : (a b : ℕ) → (a == b) ≡ true → a ≡ b
+same_number a b h = grind (arith, nat_tests)
+
+other_number : (a b : ℕ) → (a == b) ≡ false → a ≢ b
+other_number a b h = grind (arith, nat_tests)
+
+pub posts_after : (e : Endpoints) (n m : NetworkState) (x : Event) (p : ℕ) (ds : List Desk) → ActsAlone p x n m → ((q : ℕ) → IsTrueIn e n q (post_at ds q)) → (q : ℕ) → IsTrueIn e m q (post_at (made_busy (p ∷ []) ds) q)
+posts_after e n m x p ds alone posts q = go (q == p) refl
+  where
+    go : (b : Bool) → (q == p) ≡ b → IsTrueIn e m q (post_at (made_busy (p ∷ []) ds) q)
+    go true h =
+        let own : post_at (made_busy (p ∷ []) ds) q ≡ Busy = subst (λ i. post_at (made_busy (p ∷ []) ds) i ≡ Busy) (sym (same_number q p h)) (busy_own ds p (joined_at ds p)) in
+        subst (λ (w : Post). IsTrueIn e m q w) (sym own) (busy_true e (slice_get m.machines q))
+    go false h =
+        let apart = other_number q p h in
+        subst (λ (w : Post). IsTrueIn e m q w) (sym (post_other ds p q _ apart)) (subst (λ (o : Option Machine). IsPostOf e o (post_at ds q)) (sym (alone.others q apart)) (posts q))
+
+-- ---- the queues
+
+-- what an event takes out of each queue, and what it puts there
+abbrev pub Flows : QueueTable → Event → QueueTable → Type 0
+Flows old x new = (t : Triple) → received_by t x ++ loads_at new t ≡ loads_at old t ++ sent_by t x
+
+turned : (t u : Triple) → triple_eq t u ≡ false → triple_eq u t ≡ false
+turned t u h = grind (arith, nat_tests)
+
+-- what is put into one queue, where all queues have become others
+module _ (old new : QueueTable) (u : Triple) (l : Load) where
+  pub put_flows : HasPut old u l new → (t : Triple) → loads_at new t ≡ loads_at old t ++ load_on t u l
+  put_flows put t = put.loads t ∙ go (triple_eq t u) refl
+    where
+      go : (b : Bool) → triple_eq t u ≡ b → (if triple_eq u t then loads_at old u ++ l ∷ [] else loads_at old t) ≡ loads_at old t ++ (if triple_eq t u then l ∷ [] else [])
+      go true e =
+          let is : t ≡ u = same_triple t u e in
+          let back : triple_eq u t ≡ true = subst (λ (w : Triple). triple_eq u w ≡ true) (sym is) (triple_same u) in
+          rw (e, back) (ap (λ (w : Triple). loads_at old w ++ l ∷ []) (sym is))
+      go false e = let back : triple_eq u t ≡ false = turned t u e in rw (e, back) (sym (append-nil (loads_at old t)))
+
+  first_and_rest : (ls : List Load) → slice_get ls 0 ≡ Some l → l ∷ drop 1 ls ≡ ls
+  first_and_rest [] h = absurd cc
+  first_and_rest (k ∷ ls) h = (let is : l ≡ k = cc in ap (λ (w : Load). w ∷ ls) is)
+
+  pub take_flows : HasTaken old u new → slice_get (loads_at old u) 0 ≡ Some l → (t : Triple) → load_on t u l ++ loads_at new t ≡ loads_at old t ++ []
+  take_flows taken first t = ap (λ ls. load_on t u l ++ ls) (taken.loads t) ∙ go (triple_eq t u) refl ∙ sym (append-nil (loads_at old t))
+    where
+      go : (b : Bool) → triple_eq t u ≡ b → (if triple_eq t u then l ∷ [] else []) ++ (if triple_eq u t then drop 1 (loads_at old u) else loads_at old t) ≡ loads_at old t
+      go true e =
+          let is : t ≡ u = same_triple t u e in
+          let back : triple_eq u t ≡ true = subst (λ (w : Triple). triple_eq u w ≡ true) (sym is) (triple_same u) in
+          rw (e, back) (first_and_rest (loads_at old u) first ∙ ap (λ (w : Triple). loads_at old w) (sym is))
+      go false e = let back : triple_eq u t ≡ false = turned t u e in rw (e, back) refl
+
+-- ---- the office
+
+-- where an event sends, its queue has room
+abbrev pub HasPlace : Option ℕ → QueueTable → Option Triple → Type 0
+HasPlace cap qs None = Unit {0}
+HasPlace cap qs (Some t) = has_room cap (loads_at qs t) ≡ true
+
+module _ {v : OfficeView} (kept : IsKept v) (x : Event) (p : ℕ) (alone : is_start x ≡ false) (actor : actors_of x ≡ p ∷ []) (can : CanMake v x) where
+  pub actor_within : p < length v.desks
+  actor_within = let s = can kept.state kept.after in let k : p < length kept.state.machines = (step_alone v.endpoints v.hosts None kept.state s.0 x p alone actor s.1).1 in let l = kept.processes in omega arith
+
+  finds_room : (o : Option Triple) → HasPlace v.capacity v.queues o → FindsRoom v.capacity kept.state o
+  finds_room None h = tt
+  finds_room (Some t) h = sym (ap (has_room v.capacity) (kept.queues t)) ∙ h
+
+  pub acted_kept : HasPlace v.capacity v.queues (sends_on x) → (worker : ℕ) (history : List Entry) (queues : QueueTable) (desks : List Desk) (room : ℕ)
+      → history ≡ v.history ++ record { worker = worker; event = x } ∷ [] → Flows v.queues x queues → desks ≡ made_busy (p ∷ []) v.desks
+      → IsKept (record { endpoints = v.endpoints; hosts = v.hosts; capacity = v.capacity; history = history; queues = queues; sid = v.sid; desks = desks; room = room })
+  acted_kept place worker history queues desks room more flows busy =
+      let made = can kept.state kept.after in
+      let step = step_capped v.capacity x made.0 v.endpoints v.hosts kept.state (finds_room (sends_on x) place) made.1 in
+      let by = step_alone v.endpoints v.hosts v.capacity kept.state made.0 x p alone actor step in
+      let long : length desks ≡ length v.desks = ap length busy ∙ length-set v.desks p (record { post = Busy; joined = joined_at v.desks p }) in
+      record {
+        faultless = kept.faultless;
+        state = made.0;
+        after = after_more v kept.state made.0 x worker history more kept.after step;
+        queues = λ t. append_cancel_left (received_by t x) (loads_at queues t) (queue_of made.0 t) (flows t ∙ ap (λ ls. ls ++ sent_by t x) (kept.queues t) ∙ sym (step_keeps v.endpoints v.hosts v.capacity kept.state x made.0 t step));
+        sid = by.0.sid ∙ kept.sid;
+        processes = by.0.long ∙ kept.processes ∙ sym long;
+        few = subst (λ n. n < 2 ^ 32) (sym long) kept.few;
+        posts = λ q. subst (λ (ds : List Desk). IsTrueIn v.endpoints made.0 q (post_at ds q)) (sym busy) (posts_after v.endpoints kept.state made.0 x p v.desks by.0 kept.posts q);
+      }
+
+-- ---- the three kinds of events
+
+pub not_full : (cap : Option ℕ) (ls : List Load) → not (has_room cap ls) ≡ false → has_room cap ls ≡ true
+not_full cap ls h = go (has_room cap ls) h
+  where
+    go : (b : Bool) → not b ≡ false → b ≡ true
+    go true i = refl
+    go false i = absurd cc
+
+pub none_first : (ls : List Load) → slice_get ls 0 ≡ None → ls ≡ []
+none_first [] h = refl
+none_first (l ∷ ls) h = absurd cc
+
+pub local_alone : (x : Event) → is_local x ≡ true → is_start x ≡ false
+local_alone (event.Start c s ps) h = absurd cc
+local_alone (event.Send p s a b l) h = refl
+local_alone (event.Recv p s a b l) h = refl
+local_alone (event.Test p b) h = refl
+local_alone (event.Set p y v) h = refl
+local_alone (event.Show p v) h = refl
+local_alone (event.Host p y f a b v) h = refl
+
+pub local_place : (x : Event) (cap : Option ℕ) (qs : QueueTable) → is_local x ≡ true → HasPlace cap qs (sends_on x)
+local_place (event.Start c s ps) cap qs h = absurd cc
+local_place (event.Send p s a b l) cap qs h = absurd cc
+local_place (event.Recv p s a b l) cap qs h = tt
+local_place (event.Test p b) cap qs h = tt
+local_place (event.Set p y v) cap qs h = tt
+local_place (event.Show p v) cap qs h = tt
+local_place (event.Host p y f a b v) cap qs h = tt
+
+pub local_flows : (x : Event) (qs : QueueTable) → is_local x ≡ true → Flows qs x qs
+local_flows (event.Start c s ps) qs h t = absurd cc
+local_flows (event.Send p s a b l) qs h t = absurd cc
+local_flows (event.Recv p s a b l) qs h t = absurd cc
+local_flows (event.Test p b) qs h t = sym (append-nil (loads_at qs t))
+local_flows (event.Set p y v) qs h t = sym (append-nil (loads_at qs t))
+local_flows (event.Show p v) qs h t = sym (append-nil (loads_at qs t))
+local_flows (event.Host p y f a b v) qs h t = sym (append-nil (loads_at qs t))

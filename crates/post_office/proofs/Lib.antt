@@ -1,0 +1,4 @@
+pub mod QueueTables
+pub mod Steps
+pub mod Acting
+pub mod Firsts

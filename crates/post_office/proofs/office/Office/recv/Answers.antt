@@ -1,0 +1,29 @@
+use Rattle.std.proofs.Common.{sym, subst, refl, ap, ◌∙◌, ◌≡◌, Some}
+use Rattle.std.specs.Prelude.{slice_get}
+use Rattle.chor_base.specs.declared.value.Load.{Load}
+use Rattle.chor_base.specs.Events.{Triple}
+use Rattle.chor_base.specs.declared.event.Event.TheVariants as event
+use Rattle.post_office.specs.Queues.{loads_at}
+use Rattle.post_office.specs.Views.{OfficeView, CanMake}
+use Rattle.post_office.proofs.Acting.{actor_within, acted_kept, none_first, take_flows}
+use Rattle.post_office.proofs.office.Office.recv.Goals as goal
+
+pub make_busy-requires : goal.make_busy-requires
+make_busy-requires c =
+    let t : Triple = (c.args.sid, c.args.from, c.args.to) in
+    let x = event.Recv c.args.pid c.args.sid c.args.from c.args.to c.in-Some.load in
+    let can = subst (λ (v : OfficeView). (l : Load) → slice_get (loads_at v.queues t) 0 ≡ Some l → CanMake v (event.Recv c.args.pid c.args.sid c.args.from c.args.to l)) (sym c.self.view_is) c.requires.stands in
+    actor_within c.self.invariant x c.args.pid refl refl (can c.in-Some.load (sym c.in-Some.ensures))
+
+pub invariant_of-self : goal.invariant_of-self
+invariant_of-self c =
+    let t : Triple = (c.args.sid, c.args.from, c.args.to) in
+    let x = event.Recv c.args.pid c.args.sid c.args.from c.args.to c.in-Some.load in
+    let can = subst (λ (v : OfficeView). (l : Load) → slice_get (loads_at v.queues t) 0 ≡ Some l → CanMake v (event.Recv c.args.pid c.args.sid c.args.from c.args.to l)) (sym c.self.view_is) c.requires.stands in
+    acted_kept c.self.invariant x c.args.pid refl refl (can c.in-Some.load (sym c.in-Some.ensures)) tt c.args.worker c.append.new.history.items c.take.new.self c.make_busy.new.desks.items _
+    c.append.ensures.items (take_flows c.self.inside.queues c.take.new.self t c.in-Some.load c.take.ensures (sym c.in-Some.ensures)) c.make_busy.ensures
+
+pub returns-in_default : goal.returns-in_default
+returns-in_default c =
+    let t : Triple = (c.args.sid, c.args.from, c.args.to) in
+    (ap (λ (v : OfficeView). loads_at v.queues t) (sym c.self.view_is) ∙ none_first _ (sym c.in_default.ensures), refl)

@@ -1,0 +1,65 @@
+-- What the calls of an office change and answer.
+use Rattle.std.specs.Prelude.{ℕ, ◌≡◌, ◌+◌, ◌≤◌, ◌++◌, Bool, true, false, List, [], ◌∷◌, map, Some, None, slice_get}
+use Rattle.chor_base.specs.declared.value.Load.{Load}
+use Rattle.chor_base.specs.declared.event.Event.{Event}
+use Rattle.chor_base.specs.declared.event.Event.TheVariants as event
+use Rattle.chor_base.specs.Events.{Triple, actors_of}
+use Rattle.endpoint_code.specs.declared.endpoints.Process.{Process}
+use Rattle.post_office.specs.declared.desk.Desk.{Desk}
+use Rattle.post_office.specs.declared.post.Post.TheVariants.{Busy}
+use Rattle.post_office.specs.declared.post.Sent.{Sent as Sending}
+use Rattle.post_office.specs.declared.post.Sent.TheVariants.{Sent, Full}
+use Rattle.post_office.specs.declared.post.Received.{Received}
+use Rattle.post_office.specs.declared.post.Received.TheVariants.{Got, Empty}
+use Rattle.post_office.specs.Queues.{loads_at, room_at, IsSameQueues, HasPut, HasTaken}
+use Rattle.post_office.specs.Views.{OfficeView, made_busy, is_full}
+
+-- nothing is posted of these processes
+abbrev pub idle_desks : List Process → List Desk
+idle_desks ps = map (λ p. record { post = Busy; joined = None }) ps
+
+-- nothing has changed but room, of which there is no less
+pub record IsSame (old new : OfficeView) : Type 0 where
+  pub endpoints : new.endpoints ≡ old.endpoints
+  pub hosts : new.hosts ≡ old.hosts
+  pub capacity : new.capacity ≡ old.capacity
+  pub history : new.history ≡ old.history
+  pub queues : IsSameQueues old.queues new.queues
+  pub sid : new.sid ≡ old.sid
+  pub desks : new.desks ≡ old.desks
+  pub room : old.room ≤ new.room
+  pub places : (t : Triple) → room_at old.queues t ≤ room_at new.queues t
+
+-- one event more of this worker, of the same origin
+pub record HasNoted (old : OfficeView) (worker : ℕ) (x : Event) (new : OfficeView) : Type 0 where
+  pub endpoints : new.endpoints ≡ old.endpoints
+  pub hosts : new.hosts ≡ old.hosts
+  pub capacity : new.capacity ≡ old.capacity
+  pub history : new.history ≡ old.history ++ record { worker = worker; event = x } ∷ []
+  pub room : old.room ≤ new.room + 1
+
+-- one event more that starts no session: its process is busy, and the others are as they were
+pub record HasActed (old : OfficeView) (worker : ℕ) (x : Event) (new : OfficeView) : Type 0 where
+  pub noted : HasNoted old worker x new
+  pub sid : new.sid ≡ old.sid
+  pub desks : new.desks ≡ made_busy (actors_of x) old.desks
+
+-- What a send answers: the load is the last of its queue and the event the last of the history; or the capacity is reached
+abbrev pub AnswersSend : OfficeView → ℕ → ℕ → Triple → Load → Sending → OfficeView → Type 0
+AnswersSend old worker p t l Sent new = (is_full old t ≡ false) × HasPut old.queues t l new.queues × HasActed old worker (event.Send p t.0 t.1 t.2 l) new
+AnswersSend old worker p t l Full new = (is_full old t ≡ true) × (new ≡ old)
+
+-- What a receipt answers: the queue's first load, which is gone, and the event is the last of the history; or the queue is empty
+abbrev pub AnswersReceipt : OfficeView → ℕ → ℕ → Triple → Received → OfficeView → Type 0
+AnswersReceipt old worker p t (Got l) new = (slice_get (loads_at old.queues t) 0 ≡ Some l) × HasTaken old.queues t new.queues × HasActed old worker (event.Recv p t.0 t.1 t.2 l) new
+AnswersReceipt old worker p t Empty new = (loads_at old.queues t ≡ []) × (new ≡ old)
+
+-- an event of one process that touches no queue
+abbrev pub is_local : Event → Bool
+is_local (event.Start c s ps) = false
+is_local (event.Send p s a b l) = false
+is_local (event.Recv p s a b l) = false
+is_local (event.Test p b) = true
+is_local (event.Set p x v) = true
+is_local (event.Show p v) = true
+is_local (event.Host p x f a b v) = true

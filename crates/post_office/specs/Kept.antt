@@ -1,0 +1,19 @@
+-- What an office keeps.
+use Rattle.std.specs.Prelude.{ℕ, ◌≡◌, ◌<◌, ◌^◌, length}
+use Rattle.chor_base.specs.Events.{Triple}
+use Rattle.endpoint_code.specs.Faults.{IsFaultless}
+use Rattle.endpoint_code.specs.Network.{NetworkState, queue_of}
+use Rattle.post_office.specs.Queues.{loads_at}
+use Rattle.post_office.specs.Views.{OfficeView, IsAfter, post_at}
+use Rattle.post_office.specs.Posts.{IsTrueIn}
+
+-- Its history is a run of its origin; its queues and counters are those of the state after that run; what was posted of a process is true there
+pub record IsKept (v : OfficeView) : Type 0 where
+  pub faultless : IsFaultless v.endpoints
+  pub state : NetworkState
+  pub after : IsAfter v state
+  pub queues : (t : Triple) → loads_at v.queues t ≡ queue_of state t
+  pub sid : state.sid ≡ v.sid
+  pub processes : length state.machines ≡ length v.desks
+  pub few : length v.desks < 2 ^ 32
+  pub posts : (p : ℕ) → IsTrueIn v.endpoints state p (post_at v.desks p)

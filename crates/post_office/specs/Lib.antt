@@ -1,0 +1,5 @@
+pub mod Queues
+pub mod Views
+pub mod Posts
+pub mod Kept
+pub mod Answers

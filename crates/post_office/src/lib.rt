@@ -1,0 +1,12 @@
+//! The post office: what the processes of a network share.
+#![tactic(auto)]
+
+mod desk;
+mod entries;
+mod hosts;
+mod office;
+mod post;
+mod queues;
+
+pub use office::Office;
+pub use post::{Post, Received, Sent, Started};

@@ -1,0 +1,90 @@
+//! The office.
+
+ghost use Rattle.std.specs.Prelude.{◌≡◌, [], IfOk, All, map};
+ghost use Rattle.chor_host.specs.Functions.{hosts_in};
+ghost use Rattle.chor_host.specs.Tables.{functions_of};
+ghost use Rattle.endpoint_code.specs.Faults.{IsFaultless};
+ghost use Rattle.post_office.specs.Answers.{idle_desks};
+ghost use Rattle.post_office.specs.Kept.{IsKept};
+
+mod mail;
+
+use crate::desk::{Desk, idle_desks};
+use crate::hosts::known_hosts;
+use crate::queues::Queues;
+use chor_base::{Entry, Meaning, Memory, NameId};
+use chor_host::HostTable;
+use endpoint_code::Endpoints;
+use std::alloc::Global;
+use std::marker::Model;
+
+/// What the processes of a network share: the queues, the counters and the events so far; and what
+/// was posted of each process. The events are a run of the network's origin, the queues and
+/// counters are those after it, and what was posted is true there.
+#[derive(Drop)]
+pub struct Office<'a> {
+    endpoints: &'a Endpoints,
+    // What the host functions may answer, by the numbers of their names.
+    hosts: Vec<(NameId, Meaning)>,
+    capacity: Option<u32>,
+    queues: Queues,
+    sid: u32,
+    desks: Vec<Desk>,
+    history: Vec<Entry>,
+}
+
+impl<'a> Model for Office<'a> {
+    ghost use Rattle.std.specs.Prelude.{vec_capacity, vec_len, ◌-◌};
+    ghost use Rattle.post_office.specs.Views.{OfficeView};
+    ghost use Rattle.post_office.specs.Kept.{IsKept};
+
+    ghost Value = { OfficeView };
+
+    ghost use Rattle.endpoint_code.specs.contracts.endpoints.Endpoints as whole;
+    ghost use Rattle.std.specs.Coded.{codes};
+
+    ghost coded = { Prim.hlevel (codes, whole.the_row.coded) };
+
+    ghost view = { λ a. record { endpoints = a.endpoints.now; hosts = a.hosts.items; capacity = a.capacity; history = a.history.items; queues = a.queues; sid = a.sid; desks = a.desks.items; room = vec_capacity a.history - vec_len a.history } };
+
+    ghost invariant = { λ a. IsKept (record { endpoints = a.endpoints.now; hosts = a.hosts.items; capacity = a.capacity; history = a.history.items; queues = a.queues; sid = a.sid; desks = a.desks.items; room = vec_capacity a.history - vec_len a.history }) };
+}
+
+impl<'a> Office<'a> {
+    /// Empty queues, no event yet, and nothing is posted.
+    pub fn new(
+        alloc: Global,
+        endpoints: &'a Endpoints,
+        hosts: &HostTable,
+        capacity: Option<u32>,
+    ) -> Result<Office<'a>, Memory>
+        requires { IsFaultless endpoints.now }
+        ensures endpoints { IfOk result (λ office. office.endpoints ≡ endpoints.now) }
+        ensures hosts { IfOk result (λ office. office.hosts ≡ hosts_in endpoints.now.names (functions_of hosts.now)) }
+        ensures capacity { IfOk result (λ office. office.capacity ≡ capacity) }
+        ensures history { IfOk result (λ office. office.history ≡ []) }
+        ensures queues { IfOk result (λ office. office.queues ≡ []) }
+        ensures sid { IfOk result (λ office. office.sid ≡ 0) }
+        ensures desks { IfOk result (λ office. office.desks ≡ idle_desks endpoints.now.processes) }
+    {
+        let hosts = known_hosts(alloc, &endpoints.names, hosts)?;
+        let desks = idle_desks(alloc, &endpoints.processes)?;
+        Ok(Office {
+            endpoints,
+            hosts,
+            capacity,
+            queues: Queues::new(alloc),
+            sid: 0,
+            desks,
+            history: Vec::new(alloc),
+        })
+    }
+
+    /// The events so far.
+    pub fn history(&self) -> &[Entry]
+        ensures history { result.now ≡ self.now.history }
+        ensures kept { IsKept self.now }
+    {
+        self.history.as_slice()
+    }
+}

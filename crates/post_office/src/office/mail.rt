@@ -1,0 +1,126 @@
+//! Sends, receipts and local events.
+
+ghost use Rattle.std.specs.Prelude.{◌≡◌, ◌≤◌, Some, [], slice_get, OnOk, OnErr, IsOk, true};
+ghost use Rattle.chor_base.specs.declared.value.Load.{Load as AnyLoad};
+ghost use Rattle.chor_base.specs.declared.event.Event.TheVariants as event;
+ghost use Rattle.post_office.specs.Queues.{loads_at, room_at};
+ghost use Rattle.post_office.specs.Views.{CanMake, is_full};
+ghost use Rattle.post_office.specs.Answers.{IsSame, HasActed, AnswersSend, AnswersReceipt, is_local};
+
+use super::Office;
+use crate::desk::make_busy;
+use crate::entries::{actor, append};
+use crate::post::{Received, Sent};
+use crate::queues::Triple;
+use chor_base::{Event, Load, Memory, NameId};
+
+impl Office<'_> {
+    /// Takes memory for one message on a queue and for one event.
+    pub fn reserve(&mut self, sid: u32, from: NameId, to: NameId) -> Result<(), Memory>
+        ensures same { IsSame self.old self.new }
+        ensures room { OnOk result (1 ≤ self.new.room) }
+        ensures place { OnOk result (1 ≤ room_at self.new.queues (sid, from, to)) }
+        ensures succeeds { 1 ≤ self.old.room → 1 ≤ room_at self.old.queues (sid, from, to) → IsOk result }
+    {
+        self.history.reserve(1)?;
+        self.queues.reserve(Triple { sid, from, to })
+    }
+
+    /// Takes memory for so many events.
+    pub fn reserve_notes(&mut self, count: u32) -> Result<(), Memory>
+        ensures same { IsSame self.old self.new }
+        ensures room { OnOk result (count ≤ self.new.room) }
+        ensures succeeds { count ≤ self.old.room → IsOk result }
+    {
+        self.history.reserve(count as usize)?;
+        Ok(())
+    }
+
+    /// The first message of a queue.
+    pub fn first(&self, sid: u32, from: NameId, to: NameId) -> Option<Load>
+        ensures { result ≡ slice_get (loads_at self.now.queues (sid, from, to)) 0 }
+    {
+        self.queues.first(Triple { sid, from, to })
+    }
+
+    /// Whether a declared capacity is reached in a queue.
+    pub fn full(&self, sid: u32, from: NameId, to: NameId) -> bool
+        ensures { result ≡ is_full self.now (sid, from, to) }
+    {
+        match self.capacity {
+            Some(capacity) => {
+                let messages = self.queues.len(Triple { sid, from, to });
+                messages >= capacity as usize
+            }
+            None => false,
+        }
+    }
+
+    /// Sends a message, which makes an event of a process that is at a head for it.
+    pub fn send(
+        &mut self,
+        worker: u32,
+        pid: u32,
+        sid: u32,
+        from: NameId,
+        to: NameId,
+        load: Load,
+    ) -> Sent
+        requires room { 1 ≤ self.old.room }
+        requires place { 1 ≤ room_at self.old.queues (sid, from, to) }
+        requires stands { CanMake self.old (event.Send pid sid from to load) }
+        ensures { AnswersSend self.old worker pid (sid, from, to) load result self.new }
+    {
+        if self.full(sid, from, to) {
+            return Sent::Full;
+        }
+        self.queues.put(Triple { sid, from, to }, load);
+        make_busy(&mut self.desks, pid);
+        let event = Event::Send {
+            pid,
+            sid,
+            from,
+            to,
+            load,
+        };
+        append(&mut self.history, worker, event);
+        Sent::Sent
+    }
+
+    /// Receives the first message of a queue, which makes an event of a process that is at a head
+    /// that takes it.
+    pub fn recv(&mut self, worker: u32, pid: u32, sid: u32, from: NameId, to: NameId) -> Received
+        requires room { 1 ≤ self.old.room }
+        requires stands { (load : AnyLoad) → slice_get (loads_at self.old.queues (sid, from, to)) 0 ≡ Some load → CanMake self.old (event.Recv pid sid from to load) }
+        ensures { AnswersReceipt self.old worker pid (sid, from, to) result self.new }
+    {
+        let triple = Triple { sid, from, to };
+        let Some(load) = self.queues.first(triple) else {
+            return Received::Empty;
+        };
+        self.queues.take(triple);
+        make_busy(&mut self.desks, pid);
+        let event = Event::Recv {
+            pid,
+            sid,
+            from,
+            to,
+            load,
+        };
+        append(&mut self.history, worker, event);
+        Received::Got(load)
+    }
+
+    /// Notes a local event of a process that is at a head for it.
+    pub fn note(&mut self, worker: u32, event: Event)
+        requires local { is_local event ≡ true }
+        requires room { 1 ≤ self.old.room }
+        requires stands { CanMake self.old event }
+        ensures acted { HasActed self.old worker event self.new }
+        ensures queues { self.new.queues ≡ self.old.queues }
+    {
+        let pid = actor(&event);
+        make_busy(&mut self.desks, pid);
+        append(&mut self.history, worker, event);
+    }
+}
