@@ -4,3 +4,5 @@ pub mod Nodes
 pub mod Signatures
 pub mod Lines
 pub mod Tails
+pub mod Units
+pub mod Files

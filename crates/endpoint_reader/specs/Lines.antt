@@ -1,5 +1,5 @@
 -- Lines of bodies, as they are written, and what readers of bodies answer.
-use Rattle.std.specs.Prelude.{◌≡◌, ℕ, List, [], ◌∷◌, ◌++◌, map, slice_index_or, codes}
+use Rattle.std.specs.Prelude.{◌≡◌, ◌<◌, ℕ, List, [], ◌∷◌, ◌++◌, map, All, Some, slice_get, slice_index_or, codes}
 use Rattle.chor_base.specs.Expr.{term_of}
 use Rattle.chor_lexer.specs.Lexeme.{word, Lexeme}
 use Rattle.grammar_laws.specs.Readers.{Leads}
@@ -14,6 +14,18 @@ use Rattle.endpoint_reader.specs.declared.lines.Line.{Line}
 use Rattle.endpoint_reader.specs.declared.lines.Line.TheVariants as line
 use Rattle.endpoint_reader.specs.Tokens.{named, all_named, written}
 use Rattle.endpoint_reader.specs.Nodes.{deed_of}
+
+-- the lines that follow a line
+abbrev pub nexts_of : Line → List LineId
+nexts_of (line.Act a next) = next ∷ []
+nexts_of (line.Branch k a arms) = map (λ arm. arm.body) arms
+nexts_of (line.If e first second) = first ∷ second ∷ []
+nexts_of (line.Call p s) = []
+nexts_of line.End = []
+
+-- each line comes after those that follow it
+abbrev pub IsClosed : List Line → Type 0
+IsClosed ls = (i : ℕ) (l : Line) → slice_get ls i ≡ Some l → All (λ next. next.0 < i) (nexts_of l)
 
 -- the body that stands at a number
 abbrev pub body_in : List Body → LineId → Body

@@ -1,13 +1,13 @@
 //! Bodies as tables of lines.
 
-ghost use Rattle.std.specs.Prelude.{◌≡◌, ◌<◌, ◌++◌, ◌∷◌, [], IfOk, OnOk, OnErr, length};
-ghost use Rattle.endpoint_reader.specs.declared.input.Input.{Input as AnyInput};
-ghost use Rattle.endpoint_reader.specs.Lines.{line_body, bodies_of, body_at};
+ghost use Rattle.std.specs.Prelude.{◌≡◌, ◌<◌, ◌++◌, ◌∷◌, [], All, IfOk, OnOk, OnErr, length};
+ghost use Rattle.endpoint_reader.specs.Lines.{nexts_of, IsClosed};
 
 use crate::input::Named;
 use crate::lists::Signature;
 use crate::node::Action;
 use chor_base::{Expr, List, Memory, Place};
+use std::alloc::Global;
 
 /// The number of a line in its table.
 #[derive(Clone, Copy, Debug, PartialEq, Eq)]
@@ -31,20 +31,36 @@ pub enum Line {
     End,
 }
 
-/// Adds a line after those that follow it. A table of 2^32 - 1 lines answers `Memory`.
-pub fn push_line(lines: &mut List<Line>, line: Line) -> Result<LineId, Memory>
-    ensures grows { OnOk result (lines.new ≡ lines.old ++ line ∷ []) }
-    ensures inside { IfOk result (λ id. id.0 < length lines.new) }
-    ensures body { IfOk result (λ id. (i : AnyInput) → body_at i lines.new id ≡ line_body i (bodies_of i lines.old) line) }
-    // the bodies that are there stay
-    ensures kept { OnOk result ((i : AnyInput) (id : LineId) → id.0 < length lines.old → body_at i lines.new id ≡ body_at i lines.old id) }
-    ensures err { OnErr result (lines.new ≡ lines.old) }
-{
-    let count = lines.len();
-    if count >= u32::MAX as usize {
-        return Err(Memory);
+/// Lines, each after those that follow it.
+#[derive(Drop)]
+pub struct Lines {
+    pub items: List<Line>,
+    ghost closed: { IsClosed items },
+}
+
+impl Lines {
+    /// No lines. It takes no memory.
+    pub fn new(alloc: Global) -> Self
+        ensures { result.items ≡ [] }
+    {
+        Lines {
+            items: List::new(alloc),
+        }
     }
-    let number = count as u32;
-    lines.push(line)?;
-    Ok(LineId(number))
+
+    /// Adds a line. A table of 2^32 - 1 lines answers `Memory`.
+    pub fn push(&mut self, line: Line) -> Result<LineId, Memory>
+        requires { All (λ next. next.0 < length self.old.items) (nexts_of line) }
+        ensures grows { OnOk result (self.new.items ≡ self.old.items ++ line ∷ []) }
+        ensures id { IfOk result (λ id. id.0 ≡ length self.old.items) }
+        ensures err { OnErr result (self.new ≡ self.old) }
+    {
+        let count = self.items.len();
+        if count >= u32::MAX as usize {
+            return Err(Memory);
+        }
+        let number = count as u32;
+        self.items.push(line)?;
+        Ok(LineId(number))
+    }
 }
