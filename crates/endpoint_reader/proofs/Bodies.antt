@@ -1,26 +1,27 @@
--- Bodies: how their readers go on, and their tables.
-use Rattle.std.proofs.Common.{◌≡◌, ◌-◌, ◌<◌, ◌+◌, ℕ, inl, List, [], ◌∷◌, ◌++◌, Option, Some, None, IfSome, IfNone, length, length-append, refl, ap, ◌∙◌, sym, subst, map, arith}
-use Rattle.std.specs.Prelude.{slice_index_or}
-use Rattle.std.proofs.Math.ListN.{get_or-append}
-use Rattle.std.proofs.Math.Seq.{get_or-append_seam}
+-- Bodies: how their readers go on.
+use Rattle.std.proofs.Common.{◌≡◌, ◌-◌, ◌<◌, ℕ, inl, inr, List, [], ◌∷◌, ◌++◌, Option, Some, None, IfSome, IfNone, length, length-append, refl, ap, ◌∙◌, sym, subst, map, arith}
 use Rattle.chor_base.specs.declared.rule.Rule.TheVariants.{E1, E4}
 use Rattle.chor_base.specs.declared.rule.Denied.{Denied}
 use Rattle.chor_lexer.specs.Lexeme.{Lexeme}
-use Rattle.chor_lexer.specs.declared.mark.Mark.TheVariants.{Semicolon}
+use Rattle.chor_lexer.specs.declared.mark.Mark.TheVariants.{Semicolon, OpenBrace, CloseBrace}
 use Rattle.grammar_laws.specs.Classes.{a_mark}
 use Rattle.grammar_laws.specs.Grammars.{within, seq, after}
 use Rattle.grammar_laws.specs.Readers.{Reads, Halts, Leads, Begins, Misses, Missed, Tells}
-use Rattle.grammar_laws.proofs.Reading.{past, leads_on, after_reads, first_halts, first_of_two, comes_then, comes_within, begins, into_rule, missed, rule_misses}
+use Rattle.grammar_laws.proofs.Reading.{past, reads_past, reads_same, leads_on, after_reads, first_halts, first_of_two, second_of_two, comes_then, comes_within, misses_then, misses_within, begins, into_rule, missed, rule_misses}
+use Rattle.grammar_laws.proofs.Sequences.{then_reads, then_halts, now_halts}
 use Rattle.grammar_laws.proofs.Ways.{one_is}
-use Rattle.endpoint_grammar.specs.Written.{Body, Does, Ends, Deed}
-use Rattle.endpoint_grammar.specs.Grammar.{mark, node, lines, lines_of}
-use Rattle.endpoint_grammar.specs.Values.{rules, deed, body_of}
+use Rattle.endpoint_grammar.specs.Written.{Body, Does, Deed}
+use Rattle.endpoint_grammar.specs.Grammar.{mark, node, tail, lines, lines_of, body}
+use Rattle.endpoint_grammar.specs.Values.{rules, deed, body_of, last_node}
 use Rattle.endpoint_reader.specs.declared.input.Input.{Input}
 use Rattle.endpoint_reader.specs.declared.node.Action.{Action}
 use Rattle.endpoint_reader.specs.declared.lines.LineId.{LineId}
 use Rattle.endpoint_reader.specs.declared.lines.Line.{Line}
+use Rattle.endpoint_reader.specs.declared.lines.Line.TheVariants.{Act}
 use Rattle.endpoint_reader.specs.Nodes.{deed_of}
-use Rattle.endpoint_reader.specs.Lines.{line_body, grown, bodies_of, body_at, does_all, Going}
+use Rattle.endpoint_reader.specs.Lines.{body_at, does_all, Going}
+use Rattle.endpoint_reader.specs.Bodies.{Grows}
+use Rattle.endpoint_reader.proofs.Tables.{grows_none, grows_by, grows_on, last_there, body_pushed}
 
 -- ---- { node ";" }
 
@@ -63,29 +64,61 @@ begins_there ts o x h e = subst (λ (q : Option (Action × ℕ)). IfSome q (λ y
 pub none_there : (ts : List Lexeme) (o : Option (Action × ℕ)) → IfNone o (Misses rules node ts) → o ≡ None → Misses rules node ts
 none_there ts o h e = subst (λ (q : Option (Action × ℕ)). IfNone q (Misses rules node ts)) e h
 
--- ---- tables
+-- ---- "{" { node ";" } tail "}"
 
-grown-old : (i : Input) (ls : List Line) (bs : List Body) (j : ℕ) → j < length bs → slice_index_or (grown i bs ls) j Ends ≡ slice_index_or bs j Ends
-grown-old i [] bs j lt = refl
-grown-old i (l ∷ ls) bs j lt =
-    grown-old i ls (bs ++ line_body i bs l ∷ []) j (omega (arith, length-append bs (line_body i bs l ∷ []))) ∙ get_or-append bs (line_body i bs l ∷ []) Ends j lt
+-- where no node comes, the tail is left
+tail_left : {p : ℕ} {ts : List Lexeme} → Misses rules node ts → Leads rules (lines_of p) ts (within E4 (Some p) (tail (p - 1))) ts inr
+tail_left m = second_of_two _ (misses_then _ (misses_within _ m))
 
-grown-append : (i : Input) (ls ms : List Line) (bs : List Body) → grown i bs (ls ++ ms) ≡ grown i (grown i bs ls) ms
-grown-append i [] ms bs = refl
-grown-append i (l ∷ ls) ms bs = grown-append i ls ms (bs ++ line_body i bs l ∷ [])
+pub body_closed : {p : ℕ} {ts : List Lexeme} {d : Denied} → Missed E1 (a_mark OpenBrace) ts d → Halts rules (body p) ts d
+body_closed m = now_halts (missed _ (rule_misses _ m.lacks) m.refuses)
 
-length-grown : (i : Input) (ls : List Line) (bs : List Body) → length (grown i bs ls) ≡ length bs + length ls
-length-grown i [] bs = omega arith
-length-grown i (l ∷ ls) bs = omega (arith, length-grown i ls (bs ++ line_body i bs l ∷ []), length-append bs (line_body i bs l ∷ []))
+module _ {p : ℕ} {ts us : List Lexeme} where
+  pub lines_halt : {d : Denied} → Reads rules (mark OpenBrace) ts tt us → Halts rules (lines_of p) us d → Halts rules (body p) ts d
+  lines_halt o h = now_halts (past _ (into_rule _ (lines p) (one_is _ o.is).stands) h)
 
-pub body_at-kept : (i : Input) (old new more : List Line) (id : LineId) → new ≡ old ++ more → id.0 < length old → body_at i new id ≡ body_at i old id
-body_at-kept i old new more id e h =
-    ap (λ ls. body_at i ls id) e ∙ ap (λ bs. slice_index_or bs id.0 Ends) (grown-append i old more [])
-    ∙ grown-old i more (bodies_of i old) id.0 (omega (arith, length-grown i old []))
+  module _ {i : Input} {left : ℕ} {vs : List Lexeme} {xs : List Action} where
+    pub tail_halts : {d : Denied} → Reads rules (mark OpenBrace) ts tt us → Going i p us xs left vs → Misses rules node vs → Halts rules (within E4 (Some left) (tail (left - 1))) vs d → Halts rules (body p) ts d
+    tail_halts o g m h = lines_halt o (past _ g.leads (past _ (tail_left m) h))
 
-pub body_at-pushed : (i : Input) (old new : List Line) (l : Line) (id : LineId) → new ≡ old ++ l ∷ [] → id.0 ≡ length old → body_at i new id ≡ line_body i (bodies_of i old) l
-body_at-pushed i old new l id e j =
-    let n : length (bodies_of i old) ≡ length old = omega (arith, length-grown i old []) in
-    ap (λ ls. body_at i ls id) e ∙ ap (λ bs. slice_index_or bs id.0 Ends) (grown-append i old (l ∷ []) [])
-    ∙ ap (λ k. slice_index_or (bodies_of i old ++ line_body i (bodies_of i old) l ∷ []) k Ends) (j ∙ sym n)
-    ∙ get_or-append_seam (bodies_of i old) (line_body i (bodies_of i old) l) [] Ends
+    module _ {b : Body} {ws : List Lexeme} where
+      lines_read : Reads rules (mark OpenBrace) ts tt us → Going i p us xs left vs → Misses rules node vs → Tells rules (within E4 (Some left) (tail (left - 1))) (last_node (left - 1)) vs b ws
+          → Reads rules (after (a_mark OpenBrace) (lines p)) ts (does_all (map (deed_of i) xs) b) ws
+      lines_read o g m t = reads_same _ (g.is (inr t.value) ∙ ap (does_all (map (deed_of i) xs)) t.is)
+          (reads_past _ (into_rule _ (lines p) (one_is _ o.is).stands) (reads_past _ g.leads (reads_past _ (tail_left m) t.reads)))
+
+      pub body_open : {d : Denied} → Reads rules (mark OpenBrace) ts tt us → Going i p us xs left vs → Misses rules node vs → Tells rules (within E4 (Some left) (tail (left - 1))) (last_node (left - 1)) vs b ws
+          → Halts rules (mark CloseBrace) ws d → Halts rules (body p) ts d
+      body_open o g m t h = then_halts (lines_read o g m t) h
+
+      pub body_told : {whole : Body} {zs : List Lexeme} → Reads rules (mark OpenBrace) ts tt us → Going i p us xs left vs → Misses rules node vs → Tells rules (within E4 (Some left) (tail (left - 1))) (last_node (left - 1)) vs b ws
+          → Reads rules (mark CloseBrace) ws tt zs → whole ≡ does_all (map (deed_of i) xs) b → Reads rules (body p) ts (whole, tt) zs
+      body_told o g m t c e = then_reads (reads_same _ (sym e) (lines_read o g m t)) c
+
+-- ---- actions before a line
+
+-- what is left to push, before what was pushed
+pub record Pushing (first : List Line) (xs : List Action) (last : LineId) (ls : List Line) (left : List Action) (next : LineId) : Type 0 where
+  pub body : (i : Input) → does_all (map (deed_of i) left) (body_at i ls next) ≡ does_all (map (deed_of i) xs) (body_at i first last)
+  pub there : next.0 < length ls
+  pub grows : Grows first ls
+
+pub pushing_begins : {ls : List Line} {xs : List Action} {last : LineId} → last.0 < length ls → Pushing ls xs last ls xs last
+pushing_begins {ls = ls} lt = record { body = λ i. refl; there = lt; grows = grows_none ls }
+
+pub pushing_goes : {first ls new : List Line} {xs left rest : List Action} {last next id : LineId} (x : Action) → Pushing first xs last ls left next → left ≡ rest ++ x ∷ [] → new ≡ ls ++ Act x next ∷ [] → id.0 ≡ length ls → Pushing first xs last new rest id
+pushing_goes {ls = ls} {rest = rest} {next = next} x p e made at = record {
+  body = λ i. ap (does_all (map (deed_of i) rest)) (body_pushed i ls (Act x next) made at) ∙ does_push i rest x (body_at i ls next) ∙ ap (λ ys. does_all (map (deed_of i) ys) (body_at i ls next)) (sym e) ∙ p.body i;
+  there = last_there ls (Act x next) made at;
+  grows = grows_on p.grows (grows_by (Act x next) made);
+}
+
+no_action : (i : Input) (xs : List Action) (b : Body) → length xs ≡ 0 → b ≡ does_all (map (deed_of i) xs) b
+no_action i [] b e = refl
+no_action i (x ∷ xs) b e = absurd (omega arith)
+
+pub all_pushed : {first ls : List Line} {xs left : List Action} {last next : LineId} → Pushing first xs last ls left next → length left ≡ 0 → (i : Input) → body_at i ls next ≡ does_all (map (deed_of i) xs) (body_at i first last)
+all_pushed {ls = ls} {left = left} {next = next} p e i = no_action i left (body_at i ls next) e ∙ p.body i
+
+pub pushed_smaller : {left : List Action} (rest : List Action) (x : Action) → left ≡ rest ++ x ∷ [] → length rest < length left
+pushed_smaller rest x e = omega (arith, ap length e, length-append rest (x ∷ []))

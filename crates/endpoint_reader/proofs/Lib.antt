@@ -5,6 +5,8 @@ pub mod Levels
 pub mod NameLists
 pub mod Nodes
 pub mod RoleLists
+pub mod Tables
 pub mod Bodies
+pub mod Tails
+pub mod Arms
 pub mod Spelled
-pub mod FirstWords

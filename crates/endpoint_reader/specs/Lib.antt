@@ -4,5 +4,6 @@ pub mod Nodes
 pub mod Signatures
 pub mod Lines
 pub mod Tails
+pub mod Bodies
 pub mod Units
 pub mod Files

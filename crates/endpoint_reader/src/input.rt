@@ -1,6 +1,6 @@
 //! Tokens, one by one.
 
-ghost use Rattle.std.specs.Prelude.{◌≡◌, ◌-◌, IfSome, IfNone, IfOk, IfErr, OnOk, Some, true, false};
+ghost use Rattle.std.specs.Prelude.{◌≡◌, ◌-◌, ◌<◌, IfSome, IfNone, IfOk, IfErr, OnOk, Some, true, false};
 ghost use Rattle.chor_base.specs.declared.rule.Rule.TheVariants.{E1, E4};
 ghost use Rattle.chor_base.specs.Writing.{name_in};
 ghost use Rattle.grammar_laws.specs.Classes.{a_mark, a_word, a_name, is_of};
@@ -196,6 +196,7 @@ impl Input<'_> {
     // What begins here may come where there is room for more of it.
     pub fn check_room(&self, at: usize, room: usize) -> Result<(), Denied>
         ensures room { OnOk result (is_full (Some room) ≡ false) }
+        ensures some { OnOk result (0 < room) }
         ensures full { IfErr result (λ d. (is_full (Some room) ≡ true) × Refuses E4 (from self.now at) d) }
     {
         if room == 0 {

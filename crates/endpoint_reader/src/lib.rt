@@ -13,13 +13,12 @@ mod roles;
 mod tail;
 mod written;
 
-pub use body::{Begun, read_actions};
+pub use body::read_body;
 pub use expression::read_expression;
 pub use input::{Input, Named};
 pub use laws::tokens_are_lexemes;
 pub use lines::{Arm, Line, LineId, Lines};
-pub use lists::{Signature, Two, read_role_of_channel, read_sessions, read_signature};
+pub use lists::{Signature, Two, read_role_of_channel, read_signature};
 pub use node::Action;
 pub use roles::{Roles, read_roles};
-pub use tail::{TailWord, tail_word};
 pub use written::{Channel, Procedure, Process, Service, Written};

@@ -6,19 +6,22 @@ use Rattle.endpoint_reader.proofs.Bodies.{going_begins, going_goes, going_halts,
 use Rattle.endpoint_reader.proofs.body.read_actions.Goals as goal
 
 pub nodes-init : goal.nodes-init
-nodes-init c = going_begins c.new-actions.ensures
+nodes-init c = record { going = going_begins c.new-actions.ensures.items; further = omega arith }
 
 pub returns-in_err-next-clause-halts : goal.returns-in_err-next-clause-halts
-returns-in_err-next-clause-halts c = passes _ _ c.from_residual.ensures.1 (going_halts c.nodes.invariant c.in_err-next.ensures.begun c.in_err-next.ensures.halts)
+returns-in_err-next-clause-halts c = passes _ _ c.from_residual.ensures.1 (going_halts c.nodes.invariant.going c.in_err-next.ensures.begun c.in_err-next.ensures.halts)
 
 pub returns-in_default-clause-all : goal.returns-in_default-clause-all
 returns-in_default-clause-all c = none_there _ _ c.in_ok-next.ensures.none c.in_default.is
 
 pub returns-in_err-at-clause-halts : goal.returns-in_err-at-clause-halts
-returns-in_err-at-clause-halts c = passes _ _ c.from_residual-in_err-at.ensures.1 (going_open c.nodes.invariant (begins_there _ _ _ c.in_ok-next.ensures.begins c.in-Some.is) (node_there c.args.input.now _ _ (from c.args.input.now) _ _ c.in_ok-next.ensures.some c.in-Some.is) c.in_err-at.ensures.missed)
+returns-in_err-at-clause-halts c = passes _ _ c.from_residual-in_err-at.ensures.1 (going_open c.nodes.invariant.going (begins_there _ _ _ c.in_ok-next.ensures.begins c.in-Some.is) (node_there c.args.input.now _ _ (from c.args.input.now) _ _ c.in_ok-next.ensures.some c.in-Some.is) c.in_err-at.ensures.missed)
 
 pub nodes-preserved : goal.nodes-preserved
-nodes-preserved c = going_goes _ c.nodes.invariant (begins_there _ _ _ c.in_ok-next.ensures.begins c.in-Some.is) (node_there c.args.input.now _ _ (from c.args.input.now) _ _ c.in_ok-next.ensures.some c.in-Some.is) c.in_ok-at.ensures.reads c.in_ok-push.ensures.ok c.saturating_sub-left.ensures
+nodes-preserved c = record {
+  going = going_goes _ c.nodes.invariant.going (begins_there _ _ _ c.in_ok-next.ensures.begins c.in-Some.is) (node_there c.args.input.now _ _ (from c.args.input.now) _ _ c.in_ok-next.ensures.some c.in-Some.is) c.in_ok-at.ensures.reads c.in_ok-add_action.ensures c.saturating_sub-left.ensures;
+  further = omega (arith, c.nodes.invariant.further, read_shorter refl (node_there c.args.input.now _ _ (from c.args.input.now) _ _ c.in_ok-next.ensures.some c.in-Some.is).reads, read_shorter refl c.in_ok-at.ensures.reads);
+}
 
 pub nodes-smaller : goal.nodes-smaller
 nodes-smaller c = omega (arith, read_shorter refl (node_there c.args.input.now _ _ (from c.args.input.now) _ _ c.in_ok-next.ensures.some c.in-Some.is).reads, read_shorter refl c.in_ok-at.ensures.reads)

@@ -1,4 +1,4 @@
-use Rattle.endpoint_reader.proofs.FirstWords.{no_tail}
+use Rattle.endpoint_reader.proofs.Tails.{no_tail}
 use Rattle.endpoint_reader.proofs.tail.tail_word.Goals as goal
 
 pub returns-in-None-clause-none : goal.returns-in-None-clause-none

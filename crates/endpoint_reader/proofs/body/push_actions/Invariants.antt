@@ -1,0 +1,9 @@
+use Rattle.std.proofs.Common.{length}
+use Rattle.endpoint_reader.proofs.Bodies.{Pushing}
+use Rattle.endpoint_reader.proofs.body.push_actions.Given as goal
+
+abbrev pub invariant-loop-action : goal.invariant-loop-action
+invariant-loop-action l = Pushing l.fn.lines.items l.fn.actions.items l.fn.last l.lines.items l.actions.items l.next
+
+abbrev pub decreases-loop-action : goal.decreases-loop-action
+decreases-loop-action l = length l.actions.items

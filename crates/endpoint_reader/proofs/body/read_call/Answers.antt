@@ -1,0 +1,16 @@
+use Rattle.grammar_laws.proofs.Passing.{passes}
+use Rattle.endpoint_reader.proofs.Arms.{call_is}
+use Rattle.endpoint_reader.proofs.Tables.{grows_by, last_there, body_pushed}
+use Rattle.endpoint_reader.proofs.body.read_call.Goals as goal
+
+pub returns-in_err-signature-clause-halts : goal.returns-in_err-signature-clause-halts
+returns-in_err-signature-clause-halts c = passes _ _ c.from_residual.ensures.1 c.in_err-signature.ensures.halts
+
+pub returns-clause-reads : goal.returns-clause-reads
+returns-clause-reads c = call_is c.in_ok-signature.ensures.reads (body_pushed c.args.input.now _ _ c.in_ok-call.ensures.grows c.in_ok-call.ensures.id)
+
+pub returns-clause-there : goal.returns-clause-there
+returns-clause-there c = last_there _ _ c.in_ok-call.ensures.grows c.in_ok-call.ensures.id
+
+pub returns-clause-grows : goal.returns-clause-grows
+returns-clause-grows c = grows_by _ c.in_ok-call.ensures.grows

@@ -1,0 +1,66 @@
+-- What readers of bodies answer.
+use Rattle.std.specs.Prelude.{◌≡◌, ◌-◌, ℕ, List, [], ◌∷◌, ◌++◌, Some, None, codes}
+use Rattle.chor_base.specs.declared.rule.Place.{Place}
+use Rattle.chor_base.specs.declared.rule.Rule.TheVariants.{E4}
+use Rattle.chor_lexer.specs.Lexeme.{Lexeme}
+use Rattle.chor_lexer.specs.declared.mark.Mark.TheVariants.{CloseBrace}
+use Rattle.grammar_laws.specs.Grammars.{row, many, within}
+use Rattle.grammar_laws.specs.Readers.{Reads, Tells}
+use Rattle.endpoint_grammar.specs.Written.{Body, Offers, Tests, Calls}
+use Rattle.endpoint_grammar.specs.Grammar.{Part, mark, arm, body, tail, branch, conditional, signature}
+use Rattle.endpoint_grammar.specs.Values.{rules, Derived, phrase, arms_of, session_list, last_node}
+use Rattle.endpoint_reader.specs.declared.input.Input.{Input}
+use Rattle.endpoint_reader.specs.declared.lines.LineId.{LineId}
+use Rattle.endpoint_reader.specs.declared.lines.Arm.{Arm}
+use Rattle.endpoint_reader.specs.declared.lines.Line.{Line}
+use Rattle.endpoint_reader.specs.Tokens.{from, named}
+use Rattle.endpoint_reader.specs.Lines.{body_in, body_at}
+use Rattle.endpoint_reader.specs.Tails.{kept_word}
+
+-- lines were added after those that were there
+pub record Grows (old new : List Line) : Type 0 where
+  pub more : List Line
+  pub is : new ≡ old ++ more
+
+-- a body was read, and it begins with this line of the table
+abbrev pub IsBody : Input → ℕ → ℕ → List Line → LineId × ℕ → Type 0
+IsBody i room at ls x = Reads rules (body room) (from i at) (body_at i ls x.0, tt) (from i x.1)
+
+-- so was a tail, for which there has to be room
+abbrev pub IsTail : Input → ℕ → ℕ → List Line → LineId × ℕ → Type 0
+IsTail i room at ls x = Tells rules (within E4 (Some room) (tail (room - 1))) (last_node (room - 1)) (from i at) (body_at i ls x.0) (from i x.1)
+
+-- ---- what comes after the first word of a tail
+
+-- the arms of a branch, after the brace before them
+abbrev pub arms : ℕ → Part
+arms p = row (arm p ∷ many E4 None (arm p) ∷ mark CloseBrace ∷ [])
+
+abbrev pub OneArm : Type 0
+OneArm = Lexeme × (Body × Unit {0})
+
+abbrev pub arm_list : (p : ℕ) → Derived (arms p) → List OneArm
+arm_list p (x, (xs, c)) = x ∷ xs
+
+-- an arm, as it is written
+abbrev pub arm_of : Input → List Body → Arm → OneArm
+arm_of i bs a = (named i a.label, (body_in bs a.body, tt))
+
+abbrev pub branch_body : (p : ℕ) → Derived (branch p) → Body
+branch_body p ((k, a), (o, (x, (xs, c)))) = Offers k a (arms_of (x ∷ xs))
+
+abbrev pub IsBranch : Input → ℕ → ℕ → List Line → LineId × ℕ → Type 0
+IsBranch i room at ls x = Tells rules (branch room) (branch_body room) (from i at) (body_at i ls x.0) (from i x.1)
+
+abbrev pub conditional_body : (p : ℕ) → Derived (conditional p) → Body
+conditional_body p (e, ((x, m), (v, (y, k)))) = Tests (phrase e) x y
+
+abbrev pub IsConditional : Input → ℕ → ℕ → List Line → LineId × ℕ → Type 0
+IsConditional i room at ls x = Tells rules (conditional room) (conditional_body room) (from i at) (body_at i ls x.0) (from i x.1)
+
+abbrev pub call_body : Lexeme → Derived signature → Body
+call_body w ((f, x), (o, (ss, c))) = Calls w f x (session_list ss)
+
+-- the word `call` stands at the place
+abbrev pub IsCall : Input → Place → ℕ → List Line → LineId × ℕ → Type 0
+IsCall i p at ls x = Tells rules signature (call_body (kept_word (codes "call") p)) (from i at) (body_at i ls x.0) (from i x.1)
