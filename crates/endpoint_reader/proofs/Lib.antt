@@ -1,4 +1,5 @@
 pub mod Rooms
+pub mod Ends
 pub mod Ranks
 pub mod Operands
 pub mod Levels

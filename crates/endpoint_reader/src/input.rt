@@ -1,14 +1,15 @@
 //! Tokens, one by one.
 
-ghost use Rattle.std.specs.Prelude.{◌≡◌, ◌-◌, ◌<◌, IfSome, IfNone, IfOk, IfErr, OnOk, Some, true, false};
+ghost use Rattle.std.specs.Prelude.{◌≡◌, ◌-◌, ◌+◌, ◌<◌, [], length, IfSome, IfNone, IfOk, IfErr, OnOk, Some, true, false};
 ghost use Rattle.chor_base.specs.declared.rule.Rule.TheVariants.{E1, E4};
 ghost use Rattle.chor_base.specs.Writing.{name_in};
-ghost use Rattle.grammar_laws.specs.Classes.{a_mark, a_word, a_name, is_of};
+ghost use Rattle.chor_lexer.specs.Tokens.{is_last as last_kind};
+ghost use Rattle.grammar_laws.specs.Classes.{a_mark, a_word, a_name, exactly, the_end, is_of};
 ghost use Rattle.grammar_laws.specs.Grammars.{one, within, is_full};
 ghost use Rattle.grammar_laws.specs.Readers.{Reads, Halts, Refuses, Stands, Lacks, HasOne, Missed, ReadsIn, HaltsIn};
 ghost use Rattle.endpoint_grammar.specs.Grammar.{NAME, word as word_of, mark as mark_of};
 ghost use Rattle.endpoint_grammar.specs.Values.{rules};
-ghost use Rattle.endpoint_reader.specs.Tokens.{from, symbol_of, named, IsAt, IsNowhere};
+ghost use Rattle.endpoint_reader.specs.Tokens.{from, symbol_of, named, IsFirst, IsAt, EndsThere, IsTold};
 
 use chor_base::{Denied, NameId, Names, Place, Refusal, Rule, Texts};
 use chor_lexer::{Kind, Mark, Token, Tokens, is_keyword};
@@ -20,6 +21,12 @@ pub struct Named {
     pub place: Place,
 }
 
+fn is_last(kind: Kind) -> bool
+    ensures { result ≡ last_kind kind }
+{
+    matches!(kind, Kind::Last)
+}
+
 /// The tokens of a file, and the tables in which its words and texts have their numbers.
 #[derive(Drop)]
 pub struct Input<'a> {
@@ -29,13 +36,30 @@ pub struct Input<'a> {
 }
 
 impl Input<'_> {
-    // The token that stands here.
+    // The token that stands here; the last one where none does.
+    fn first_from(&self, at: usize) -> Token
+        ensures { IsFirst self.now at result }
+    {
+        let count = self.tokens.items.len();
+        if at < count {
+            return *self.tokens.items.at(at);
+        }
+        *self.tokens.items.at(count - 1)
+    }
+
+    // The token that stands here, unless the file ends here.
     pub fn token_at(&self, at: usize) -> Option<Token>
         ensures found { IfSome result (λ t. IsAt self.now at t) }
-        ensures none { IfNone result (IsNowhere self.now at) }
+        ensures inside { IfSome result (λ t. at + 1 < length self.now.tokens.now.items) }
+        ensures other { IfSome result (λ t. last_kind t.kind ≡ false) }
+        ensures none { IfNone result (EndsThere self.now at) }
     {
-        let token = *self.tokens.items.as_slice().get(at)?;
-        Some(token)
+        let token = self.first_from(at);
+        if is_last(token.kind) {
+            None
+        } else {
+            Some(token)
+        }
     }
 
     // The bytes of a word: none where it isn't in the table.
@@ -55,6 +79,16 @@ impl Input<'_> {
     {
         match kind {
             Kind::Word(name) => word == self.word_of(name),
+            _ => false,
+        }
+    }
+
+    // Whether it is this number.
+    fn is_number(&self, kind: Kind, number: u64) -> bool
+        ensures { result ≡ is_of (exactly number) (symbol_of self.now kind) }
+    {
+        match kind {
+            Kind::Number(found) => number == found.unsigned_abs(),
             _ => false,
         }
     }
@@ -123,15 +157,49 @@ impl Input<'_> {
 
     // The refusal of the token that stands here.
     pub fn refused(&self, rule: Rule, at: usize) -> Denied
-        ensures { Refuses rule (from self.now at) result }
+        ensures refuses { Refuses rule (from self.now at) result }
+        ensures told { IsTold result }
+    {
+        let token = self.first_from(at);
+        Denied::Refused(Refusal {
+            rule,
+            place: token.place,
+            who: None,
+        })
+    }
+
+    // The place after this number, if it stands here.
+    fn after_number(&self, at: usize, number: u64) -> Option<usize>
+        ensures found { IfSome result (λ after. HasOne (exactly number) (from self.now at) (from self.now after)) }
+        ensures none { IfNone result (Lacks (exactly number) (from self.now at)) }
+    {
+        let token = self.token_at(at)?;
+        if self.is_number(token.kind, number) {
+            Some(at + 1)
+        } else {
+            None
+        }
+    }
+
+    // The place after this number, which has to stand here.
+    pub fn take_number(&self, at: usize, number: u64) -> Result<usize, Denied>
+        ensures reads { IfOk result (λ after. Reads rules (one (exactly number)) (from self.now at) tt (from self.now after)) }
+        ensures halts { IfErr result (Halts rules (one (exactly number)) (from self.now at)) }
+    {
+        match self.after_number(at, number) {
+            Some(after) => Ok(after),
+            None => Err(self.refused(Rule::E1, at)),
+        }
+    }
+
+    // The file has to end here.
+    pub fn take_end(&self, at: usize) -> Result<(), Denied>
+        ensures reads { OnOk result (Reads rules (one the_end) (from self.now at) tt []) }
+        ensures halts { IfErr result (Halts rules (one the_end) (from self.now at)) }
     {
         match self.token_at(at) {
-            Some(token) => Denied::Refused(Refusal {
-                rule,
-                place: token.place,
-                who: None,
-            }),
-            None => Denied::Memory,
+            Some(_) => Err(self.refused(Rule::E1, at)),
+            None => Ok(()),
         }
     }
 

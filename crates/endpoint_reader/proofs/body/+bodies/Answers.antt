@@ -31,7 +31,7 @@ pub read_body-returns-clause-grows : goal.read_body-returns-clause-grows
 read_body-returns-clause-grows t c = grows_on c.in_ok-last.ensures.grows c.in_ok-first.ensures.grows
 
 pub read_tail-returns-in_default-clause-halts : goal.read_tail-returns-in_default-clause-halts
-read_tail-returns-in_default-clause-halts t c = tail_missed c.in_default.ensures.none c.refused.ensures
+read_tail-returns-in_default-clause-halts t c = tail_missed c.in_default.ensures.none c.refused.ensures.refuses
 
 pub read_tail-returns-in_err-check_room-clause-halts : goal.read_tail-returns-in_err-check_room-clause-halts
 read_tail-returns-in_err-check_room-clause-halts t c = passes _ _ c.from_residual.ensures.1 (tail_full _ _ _ c.in_err-check_room.ensures.full.0 c.in-Some.ensures.found c.in_err-check_room.ensures.full.1)

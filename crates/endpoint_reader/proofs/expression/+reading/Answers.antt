@@ -64,7 +64,7 @@ pub read_operand-returns-in-Product-clause-reads : goal.read_operand-returns-in-
 read_operand-returns-in-Product-clause-reads t c = rw c.in-Product.is c.read_unary.ensures.reads
 
 pub read_unary-returns-in_default-clause-halts : goal.read_unary-returns-in_default-clause-halts
-read_unary-returns-in_default-clause-halts t c = missed_in _ _ c.in_default.ensures.none c.refused.ensures
+read_unary-returns-in_default-clause-halts t c = missed_in _ _ c.in_default.ensures.none c.refused.ensures.refuses
 
 pub read_unary-returns-in_err-check_room-clause-halts : goal.read_unary-returns-in_err-check_room-clause-halts
 read_unary-returns-in_err-check_room-clause-halts t c = passes _ _ c.from_residual.ensures.1 (full_in _ _ (has_none _ c.in_err-check_room.ensures.full.0) (begins _ (operand_comes _ c.in-Some.ensures.found)) c.in_err-check_room.ensures.full.1)

@@ -5,4 +5,4 @@ pub returns-in-Some-clause-reads : goal.returns-in-Some-clause-reads
 returns-in-Some-clause-reads c = token_reads _ c.in-Some.ensures.found
 
 pub returns-in-None-clause-halts : goal.returns-in-None-clause-halts
-returns-in-None-clause-halts c = token_halts _ c.in-None.ensures.none c.refused.ensures
+returns-in-None-clause-halts c = token_halts _ c.in-None.ensures.none c.refused.ensures.refuses
