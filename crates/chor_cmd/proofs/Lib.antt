@@ -5,5 +5,6 @@ pub mod Ended
 pub mod RunTexts
 pub mod Typed
 pub mod SameTexts
+pub mod OptionWords
 pub mod SameWords
 pub mod Settled

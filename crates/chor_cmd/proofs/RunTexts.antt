@@ -7,7 +7,8 @@ use Rattle.endpoint_code.specs.declared.endpoints.Endpoints.{Endpoints}
 use Rattle.transcript.specs.Text.{transcript}
 use Rattle.net_core.specs.Picks.{entries_of}
 use Rattle.simulation.specs.Runs.{IsOutcome, close_of}
-use Rattle.chor_cmd.specs.Outputs.{book_of, events_of, last_line, run_seed, run_steps, IsRunText}
+use Rattle.chor_cmd.specs.declared.options.Options.{Options}
+use Rattle.chor_cmd.specs.Outputs.{book_of, events_of, last_line, IsRunText}
 
 events_back : (h : List Event) → events_of (entries_of h) ≡ h
 events_back [] = refl
@@ -17,9 +18,9 @@ as_long : (h : List Event) → length (entries_of h) ≡ length h
 as_long [] = refl
 as_long (x ∷ xs) = ap suc (as_long xs)
 
-pub run_text : (f : File) (e : Endpoints) (entries : List Entry) (ended : Bool) (text : List ℕ) → IsOutcome f e [] run_seed run_steps entries (close_of ended)
-    → text ≡ transcript (book_of f) (events_of entries) (last_line ended (length entries)) → IsRunText f text
-run_text f e entries ended text o is = record {
+pub run_text : (f : File) (e : Endpoints) (options : Options) (entries : List Entry) (ended : Bool) (text : List ℕ) → IsOutcome f e [] options.seed options.steps entries (close_of ended)
+    → text ≡ transcript (book_of f) (events_of entries) (last_line ended (length entries)) → IsRunText f options text
+run_text f e options entries ended text o is = record {
   endpoints = e;
   history = o.history;
   ended = ended;

@@ -30,7 +30,7 @@ handles (Check i) f text o n = n
 handles (Fmt i) f text o n = n
 handles (Types i) f text o n = n
 handles (Project i) f text o n = n
-handles (Run i) f text o n = let none : asks_hosts f ≡ false = o.0 in cc
+handles (Run i options) f text o n = let none : asks_hosts f ≡ false = o.0 in cc
 
 -- files of the same bytes are handled alike
 unbuilt_alike : (command : Command) (bytes : List ℕ) (f g : File) → IsFileOf bytes f → IsFileOf bytes g → IsUnbuilt command f → IsUnbuilt command g
@@ -38,7 +38,7 @@ unbuilt_alike (Check w) bytes f g i j n = n
 unbuilt_alike (Fmt w) bytes f g i j n = n
 unbuilt_alike (Types w) bytes f g i j n = n
 unbuilt_alike (Project w) bytes f g i j n = n
-unbuilt_alike (Run w) bytes f g i j n = ap source_asks (sym (one_file bytes f g i j)) ∙ n
+unbuilt_alike (Run w options) bytes f g i j n = ap source_asks (sym (one_file bytes f g i j)) ∙ n
 
 module _ (hosts : List (List ℕ)) (words : Words) (shelf shelf' : ShelfState) where
   -- a call ends as it is expected to, or reading fails

@@ -22,7 +22,7 @@ shown_fine (Check file) hosts f h s = absurd s
 shown_fine (Fmt file) hosts f h s = absurd s
 shown_fine (Types file) hosts f h s = h.1.1.0
 shown_fine (Project file) hosts f h s = absurd s
-shown_fine (Run file) hosts f h s = absurd s
+shown_fine (Run file options) hosts f h s = absurd s
 
 -- a view without fault isn't refused
 pub not_refused : (p : Protocol) (role : NameId) (f : Refusal) → HasNoViewFault p.states role → IsRefusal p role (Refused f) → ⊥

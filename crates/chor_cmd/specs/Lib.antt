@@ -1,4 +1,5 @@
 pub mod Types
+pub mod Options
 pub mod Words
 pub mod Status
 pub mod Outputs

@@ -14,6 +14,7 @@ use Rattle.transcript.specs.Text.{Words as Book, transcript}
 use Rattle.chor_print.specs.Text.{canonical_text}
 use Rattle.chor_cmd.specs.declared.words.Command.{Command}
 use Rattle.chor_cmd.specs.declared.words.Command.TheVariants.{Check, Fmt, Types, Project, Run}
+use Rattle.chor_cmd.specs.declared.options.Options.{Options}
 use Rattle.chor_cmd.specs.Words.{rules_of}
 use Rattle.host_calls.specs.Asking.{asks_hosts}
 use Rattle.simulation.specs.Runs.{close_of, IsRunOf}
@@ -42,21 +43,15 @@ abbrev pub last_line : Bool → ℕ → List ℕ
 last_line true n = end_line n
 last_line false n = limit_line n
 
--- the pick rule's seed, and how many events a run has at most
-abbrev pub run_seed : ℕ
-run_seed = 0
-
-abbrev pub run_steps : ℕ
-run_steps = 100000
-
--- The text is the transcript of the scheduled run of the network of this file's projection: a run of its choreography in
--- which messages are received first in, first out, and sessions follow their protocols; with `end` each process has
--- ended, each queue is empty and nothing is left to happen, with `limit` the run is as long as was asked for and open
-pub record IsRunText (f : File) (text : List ℕ) : Type 0 where
+-- The text is the transcript of the scheduled run, with the asked seed and number of steps, of the network of this file's
+-- projection: a run of its choreography in which messages are received first in, first out, and sessions follow their
+-- protocols; with `end` each process has ended, each queue is empty and nothing is left to happen, with `limit` the run
+-- is as long as was asked for and open
+pub record IsRunText (f : File) (options : Options) (text : List ℕ) : Type 0 where
   pub endpoints : Endpoints
   pub history : List Event
   pub ended : Bool
-  pub run : IsRunOf f endpoints [] run_seed run_steps history (close_of ended)
+  pub run : IsRunOf f endpoints [] options.seed options.steps history (close_of ended)
   pub text_is : text ≡ transcript (book_of f) history (last_line ended (length history))
 
 -- the text is that of endpoint programs that are the projection of this file
@@ -71,7 +66,7 @@ IsOutput (Check word) f text = text ≡ codes "ok\n"
 IsOutput (Fmt word) f text = text ≡ canonical_text f
 IsOutput (Types word) f text = IsTypesText f text
 IsOutput (Project word) f text = IsProjectionText f text
-IsOutput (Run word) f text = (asks_hosts f ≡ false) × IsRunText f text
+IsOutput (Run word options) f text = (asks_hosts f ≡ false) × IsRunText f options text
 
 -- the command doesn't handle this file: so far a run asks no host function
 abbrev pub IsUnbuilt : Command → File → Type 0
@@ -79,7 +74,7 @@ IsUnbuilt (Check word) f = ⊥
 IsUnbuilt (Fmt word) f = ⊥
 IsUnbuilt (Types word) f = ⊥
 IsUnbuilt (Project word) f = ⊥
-IsUnbuilt (Run word) f = asks_hosts f ≡ true
+IsUnbuilt (Run word options) f = asks_hosts f ≡ true
 
 -- the file violates no rule that the command applies, and this is what the command writes for it
 pub record IsAnswer (hosts : List (List ℕ)) (command : Command) (f : File) (text : List ℕ) : Type 0 where

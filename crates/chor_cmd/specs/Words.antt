@@ -6,6 +6,7 @@ use Rattle.chor_cmd.specs.declared.words.Command.{Command}
 use Rattle.chor_cmd.specs.declared.words.Command.TheVariants.{Check, Fmt, Types, Project, Run}
 use Rattle.source_check.specs.declared.rules.Rules.{Rules}
 use Rattle.source_check.specs.declared.rules.Rules.TheVariants as rules
+use Rattle.chor_cmd.specs.Options.{AreOptions}
 
 -- the word doesn't begin as an option does
 abbrev pub BeginsPlain : List ℕ → Type 0
@@ -23,7 +24,7 @@ command_word (Check file) = codes "check"
 command_word (Fmt file) = codes "fmt"
 command_word (Types file) = codes "types"
 command_word (Project file) = codes "project"
-command_word (Run file) = codes "run"
+command_word (Run file options) = codes "run"
 
 -- the rules that a command applies
 abbrev pub rules_of : Command → Rules
@@ -31,7 +32,7 @@ rules_of (Check file) = rules.All
 rules_of (Fmt file) = rules.Grammar
 rules_of (Types file) = rules.Views
 rules_of (Project file) = rules.All
-rules_of (Run file) = rules.All
+rules_of (Run file options) = rules.All
 
 -- the index of a command's file word
 abbrev pub file_index : Command → ℕ
@@ -39,19 +40,29 @@ file_index (Check file) = file
 file_index (Fmt file) = file
 file_index (Types file) = file
 file_index (Project file) = file
-file_index (Run file) = file
+file_index (Run file options) = file
 
--- the word is that of this command, whose file is the word after it
-abbrev pub IsCommand : List ℕ → Command → Type 0
-IsCommand word command = (word ≡ command_word command) × (file_index command ≡ 1)
+-- the words that follow the file: the options of a run, and none for any other command
+abbrev pub AreOptionsOf : Command → List (List ℕ) → Type 0
+AreOptionsOf (Check file) rest = rest ≡ []
+AreOptionsOf (Fmt file) rest = rest ≡ []
+AreOptionsOf (Types file) rest = rest ≡ []
+AreOptionsOf (Project file) rest = rest ≡ []
+AreOptionsOf (Run file options) rest = AreOptions rest options
 
--- the word is that of no command
-abbrev pub IsNoCommand : List ℕ → Type 0
-IsNoCommand word = (command : Command) → IsCommand word command → ⊥
+-- the word is that of this command, whose file is the word after it, and these words follow the file
+pub record IsCommand (word : List ℕ) (rest : List (List ℕ)) (command : Command) : Type 0 where
+  pub named : word ≡ command_word command
+  pub index : file_index command ≡ 1
+  pub options : AreOptionsOf command rest
 
--- the words are this command's word and then this file word
+-- they are those of no command
+abbrev pub IsNoCommand : List ℕ → List (List ℕ) → Type 0
+IsNoCommand word rest = (command : Command) → IsCommand word rest command → ⊥
+
+-- the words are this command's word, then this file word, and then its options
 abbrev pub AreForm : List (List ℕ) → Command → List ℕ → Type 0
-AreForm (word ∷ file ∷ []) command name = IsCommand word command × (file ≡ name) × IsFileWord name
+AreForm (word ∷ file ∷ rest) command name = IsCommand word rest command × (file ≡ name) × IsFileWord name
 AreForm _ command name = ⊥
 
 abbrev pub IsForm : Words → Command → List ℕ → Type 0

@@ -25,8 +25,8 @@ const SOURCE_LIMIT: u64 = 1 << 20;
 ///
 /// `check FILE` judges the file by all classes of rules and writes `ok`, `project FILE` writes the
 /// endpoint programs of a file that they accept, and `run FILE` the transcript of a run of its
-/// choreography, of at most 100,000 events. A file that asks a host function isn't run so far: for
-/// such a file `run` writes `not built`.
+/// choreography, with the seed and of at most as many events as its options ask for. A file that
+/// asks a host function isn't run so far: for such a file `run` writes `not built`.
 /// `types FILE` writes the local types of all roles; it asks for no rules but those of tokens, of the
 /// grammar, of names, of protocols and of views. `fmt FILE` writes the canonical text of the file. It
 /// applies the rules of tokens and of the grammar alone. For a file that violates a rule the

@@ -11,6 +11,7 @@ ghost use Rattle.source_check.specs.declared.rules.Rules.TheVariants as rules;
 ghost use Rattle.chor_cmd.specs.Outputs.{book_of, events_of, last_line, IsRunText};
 ghost use Rattle.chor_cmd.specs.Endings.{host_names};
 
+use crate::options::Options;
 use chor_base::{Denied, Entry, List, Memory, NameId};
 use chor_host::HostTable;
 use chor_tree::{File, Named};
@@ -19,44 +20,48 @@ use simulation::{Accepted, Outcome, accept, run_accepted};
 use std::alloc::Global;
 use transcript::{Book, print_events};
 
-// The seed of the pick rule, and how many events a run has at most.
-const SEED: u64 = 0;
-
-const STEPS: u64 = 100_000;
-
 /// What `run` writes for a file: the transcript of a run, where the file asks no host function.
-pub fn run_text(alloc: Global, file: File, hosts: &HostTable) -> Result<Option<Vec<u8>>, Denied>
-    ensures some { IfOk result (λ text. IfSome text (λ t. IsRunText file t.items)) }
+pub fn run_text(
+    alloc: Global,
+    file: File,
+    options: Options,
+    hosts: &HostTable,
+) -> Result<Option<Vec<u8>>, Denied>
+    ensures some { IfOk result (λ text. IfSome text (λ t. IsRunText file options t.items)) }
     ensures asks { IfOk result (λ text. IfSome text (λ t. asks_hosts file ≡ false)) }
     ensures none { IfOk result (λ text. IfNone text (asks_hosts file ≡ true)) }
     ensures faultless { OnOk result (IsFaultless (host_names hosts.now) file (classes_of rules.All)) }
     ensures broken { IfErr result (IsBroken (classes_of rules.All) (host_names hosts.now) file) }
 {
     let accepted = accept(alloc, file, hosts)?;
-    let text = accepted_text(alloc, &accepted)?;
+    let text = accepted_text(alloc, &accepted, options)?;
     Ok(text)
 }
 
 // The transcript of the run of an accepted file, where it asks no host function.
-fn accepted_text(alloc: Global, accepted: &Accepted) -> Result<Option<Vec<u8>>, Memory>
-    ensures some { IfOk result (λ text. IfSome text (λ t. IsRunText accepted.now.typed.file t.items)) }
+fn accepted_text(
+    alloc: Global,
+    accepted: &Accepted,
+    options: Options,
+) -> Result<Option<Vec<u8>>, Memory>
+    ensures some { IfOk result (λ text. IfSome text (λ t. IsRunText accepted.now.typed.file options t.items)) }
     ensures asks { IfOk result (λ text. IfSome text (λ t. asks_hosts accepted.now.typed.file ≡ false)) }
     ensures none { IfOk result (λ text. IfNone text (asks_hosts accepted.now.typed.file ≡ true)) }
 {
     if asks_hosts(accepted.typed().file()) {
         return Ok(None);
     }
-    let text = text_of_run(alloc, accepted)?;
+    let text = text_of_run(alloc, accepted, options)?;
     Ok(Some(text))
 }
 
 // The transcript of the run of an accepted file that asks no host function.
-fn text_of_run(alloc: Global, accepted: &Accepted) -> Result<Vec<u8>, Memory>
+fn text_of_run(alloc: Global, accepted: &Accepted, options: Options) -> Result<Vec<u8>, Memory>
     requires { asks_hosts accepted.now.typed.file ≡ false }
-    ensures { IfOk result (λ text. IsRunText accepted.now.typed.file text.items) }
+    ensures { IfOk result (λ text. IsRunText accepted.now.typed.file options text.items) }
 {
     nobody_is_asked();
-    let outcome = run_accepted(alloc, accepted, SEED, STEPS)?;
+    let outcome = run_accepted(alloc, accepted, options.seed, options.steps)?;
     let file = accepted.typed().file();
     let text = transcript_of(alloc, file, &outcome)?;
     Ok(text)

@@ -65,7 +65,7 @@ fn file_text(
             let text = project_text(alloc, file, hosts)?;
             Ok(Some(text))
         }
-        Command::Run(_) => run_text(alloc, file, hosts),
+        Command::Run(_, options) => run_text(alloc, file, options, hosts),
     }
 }
 

@@ -1,8 +1,10 @@
 //! The words of the command line.
 
-ghost use Rattle.std.specs.Prelude.{◌≡◌, ◌↔◌, List, ℕ, MatchOption, IsTrue};
+ghost use Rattle.std.specs.Prelude.{◌≡◌, ◌≢◌, ◌↔◌, List, [], ℕ, MatchOption, IsTrue, codes};
 ghost use Rattle.chor_cmd.specs.Words.{IsFileWord, IsForm, HasNoForm, IsCommand, IsNoCommand};
 
+use crate::options::Options;
+use crate::settings::options_of;
 use chor_base::{List, Word};
 
 /// The words of the command line, without the program's name.
@@ -22,8 +24,8 @@ pub enum Command {
     Types(u32),
     /// `project FILE`: writes the endpoint programs.
     Project(u32),
-    /// `run FILE`: writes the transcript of a run.
-    Run(u32),
+    /// `run FILE`, and options: writes the transcript of a run.
+    Run(u32, Options),
 }
 
 // Whether a word names a file: it isn't empty, is UTF-8, and doesn't begin with `-`.
@@ -37,9 +39,25 @@ fn is_file_word(word: &[u8]) -> bool
     }
 }
 
-// The command with this word, whose file is the word after it.
-fn command_of(word: &[u8]) -> Option<Command>
-    ensures { MatchOption result (IsNoCommand word.now) (IsCommand word.now) }
+// The command with this word, whose file is the word after it, and with these words after the file.
+fn command_of(word: &[u8], rest: &[Word]) -> Option<Command>
+    ensures { MatchOption result (IsNoCommand word.now rest.now) (IsCommand word.now rest.now) }
+{
+    if word == b"run".as_slice() {
+        let options = options_of(rest)?;
+        return Some(Command::Run(1, options));
+    }
+    if rest.is_empty() {
+        plain_command(word)
+    } else {
+        None
+    }
+}
+
+// The command of this word that takes no options.
+fn plain_command(word: &[u8]) -> Option<Command>
+    requires { word.now ≢ codes "run" }
+    ensures { MatchOption result (IsNoCommand word.now []) (IsCommand word.now []) }
 {
     if word == b"check".as_slice() {
         Some(Command::Check(1))
@@ -49,8 +67,6 @@ fn command_of(word: &[u8]) -> Option<Command>
         Some(Command::Types(1))
     } else if word == b"project".as_slice() {
         Some(Command::Project(1))
-    } else if word == b"run".as_slice() {
-        Some(Command::Run(1))
     } else {
         None
     }
@@ -61,8 +77,8 @@ pub fn form_of(words: &Words) -> Option<(Command, &Word)>
     ensures { MatchOption result (HasNoForm words.now) (λ form. IsForm words.now form.0 form.1.now) }
 {
     match words.items.as_slice() {
-        [word, file] if is_file_word(file.as_slice()) => {
-            let command = command_of(word.as_slice())?;
+        [word, file, rest @ ..] if is_file_word(file.as_slice()) => {
+            let command = command_of(word.as_slice(), rest)?;
             Some((command, file))
         }
         _ => None,

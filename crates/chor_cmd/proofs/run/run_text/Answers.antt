@@ -14,7 +14,7 @@ returns-in_err-text-clause-broken g c =
     no_memory_tells (classes_of rules.All) (host_names c.args.hosts.now) c.args.file c.from_residual-in_err-text.result c.from_residual-in_err-text.ensures.1
 
 pub returns-clause-some : goal.returns-clause-some
-returns-clause-some g c = subst (λ (f : File). IfSome c.in_ok-text.text (λ t. IsRunText f t.items)) c.in_ok-accepted.ensures.file c.in_ok-text.ensures.some
+returns-clause-some g c = subst (λ (f : File). IfSome c.in_ok-text.text (λ t. IsRunText f c.args.options t.items)) c.in_ok-accepted.ensures.file c.in_ok-text.ensures.some
 
 pub returns-clause-asks : goal.returns-clause-asks
 returns-clause-asks g c = subst (λ (f : File). IfSome c.in_ok-text.text (λ t. asks_hosts f ≡ false)) c.in_ok-accepted.ensures.file c.in_ok-text.ensures.asks

@@ -14,5 +14,5 @@ returns c =
     let outcome = c.in_ok-outcome.outcome in
     let text = c.in_ok-text.text.items in
     let same : c.file-file.result.now ≡ accepted.typed.file = c.file-file.ensures.file ∙ ap (λ t. t.file) c.typed.ensures in
-    run_text accepted.typed.file accepted.endpoints outcome.history outcome.ended text c.in_ok-outcome.ensures
+    run_text accepted.typed.file accepted.endpoints c.args.options outcome.history outcome.ended text c.in_ok-outcome.ensures
     (subst (λ (f : File). text ≡ transcript (book_of f) (events_of outcome.history) (last_line outcome.ended (length outcome.history))) same c.in_ok-text.ensures)

@@ -1,0 +1,14 @@
+//! The options of a run.
+
+ghost use Rattle.std.specs.Prelude.{◌<◌, ◌≤◌, ◌^◌};
+
+/// What the options of a run say.
+#[derive(Clone, Copy, Debug, PartialEq, Eq)]
+pub struct Options {
+    /// The seed of the pick rule.
+    pub seed: u64,
+    /// How many events the run has at most.
+    pub steps: u64,
+    ghost small: { seed < 2 ^ 32 },
+    ghost few: { steps ≤ 1000000 },
+}
