@@ -1,0 +1,5 @@
+pub mod Entering
+pub mod Words
+pub mod Units
+pub mod Insides
+pub mod Wholes
