@@ -1,8 +1,7 @@
 -- Where a process goes on, it knows its sessions.
-use Rattle.std.proofs.Common.{◌≡◌, ℕ, ◌&&◌, ◌==◌, Bool, true, false, cond, List, [], ◌∷◌, refl, sym, ap, ◌∙◌, subst, Option, Some, None}
+use Rattle.std.proofs.Common.{◌≡◌, ℕ, ℤ, ◌&&◌, ◌==◌, Bool, true, false, cond, List, [], ◌∷◌, refl, sym, ap, ◌∙◌, subst, Option, Some, None}
 use Rattle.std.specs.FinMap as fin
 use Rattle.chor_base.specs.declared.names.NameId.{NameId}
-use Rattle.chor_base.specs.declared.event.Event.{Event}
 use Rattle.chor_base.specs.declared.value.Value.TheVariants.{Int, Bool as Truth, Text, Part as Endpoint}
 use Rattle.chor_base.specs.declared.value.Load.{Load}
 use Rattle.chor_base.specs.declared.value.Load.TheVariants.{Value as Carries, Label as Picks}
@@ -17,15 +16,12 @@ use Rattle.endpoint_code.specs.Faults.{IsScoped, AllScoped, one_arm}
 use Rattle.endpoint_machine.specs.declared.head.Head.TheVariants as head
 use Rattle.endpoint_machine.specs.Bound.{AreBound, IsBound}
 use Rattle.endpoint_machine.specs.Heads.{node_head}
-use Rattle.endpoint_machine.specs.Acts.{node_sent, node_takes, node_acts, Acted, Acts, joins}
+use Rattle.endpoint_machine.specs.Acts.{node_sent, node_takes, node_acted, joins}
 use Rattle.endpoint_machine.specs.Places.{StandsAt}
 use Rattle.endpoint_machine.proofs.Scopes.{NodeScoped, scoped_node, bound_put, bound_removed}
 
 abbrev machine_there : Taking → Machine
 machine_there (Goes next vars m) = record { at = next; vars = vars; sessions = m }
-
-abbrev machine_after : Acted → Machine
-machine_after (Acts x m) = m
 
 goes_on : {e : Endpoints} {names : List NameId} (next : CodeId) (vars : Variables) (m : Sessions) → IsScoped e next names → AreBound m names → IsBound e (record { at = next; vars = vars; sessions = m })
 goes_on {names} next vars m s b = record { names = names; scoped = s; bound = b }
@@ -115,20 +111,21 @@ bound_joined e m node ss i new s is joined = go node (scoped_node s.bound.scoped
     go (Call f p ns) t j h = absurd cc
     go End t j h = absurd cc
 
-pub bound_acted : (e : Endpoints) (m : Machine) (node : CodeNode) (ss : Sessions) (p : ℕ) (x : Event) (new : Machine) → StandsAt e m node ss → node_acts p m.vars ss node ≡ Some (Acts x new) → IsBound e new
-bound_acted e m node ss p x new s acted = go node (scoped_node s.bound.scoped node s.found) acted
+pub bound_acted : (e : Endpoints) (m : Machine) (node : CodeNode) (ss : Sessions) (v : ℤ) (new : Machine) → StandsAt e m node ss → node_acted v m.vars ss node ≡ Some new → IsBound e new
+bound_acted e m node ss v new s acted = go node (scoped_node s.bound.scoped node s.found) acted
   where
-    becomes : (a : Acted) → IsBound e (machine_after a) → Some a ≡ Some (Acts x new) → IsBound e new
-    becomes a b h = let same : a ≡ Acts x new = cc in subst (IsBound e) (ap machine_after same) b
+    becomes : (old : Machine) → IsBound e old → Some old ≡ Some new → IsBound e new
+    becomes old b h = let same : old ≡ new = cc in subst (IsBound e) same b
 
     either : (t : Bool) (c d : CodeId) → IsScoped e c s.bound.names → IsScoped e d s.bound.names → IsScoped e (cond t c d) s.bound.names
     either true c d a b = a
     either false c d a b = b
 
-    go : (o : CodeNode) → NodeScoped e o s.bound.names → node_acts p m.vars ss o ≡ Some (Acts x new) → IsBound e new
-    go (Set y v next) t h = becomes _ (goes_on next (fin.insert m.vars y.0 (value_of (term_of v) m.vars)) ss t s.bound.bound) h
-    go (Show v next) t h = becomes _ (goes_on next m.vars ss t s.bound.bound) h
-    go (If v a b) t h = becomes _ (goes_on (cond (truth_of (value_of (term_of v) m.vars)) a b) m.vars ss (either (truth_of (value_of (term_of v) m.vars)) a b t.0 t.1) s.bound.bound) h
+    go : (o : CodeNode) → NodeScoped e o s.bound.names → node_acted v m.vars ss o ≡ Some new → IsBound e new
+    go (Set y w next) t h = becomes _ (goes_on next (fin.insert m.vars y.0 (value_of (term_of w) m.vars)) ss t s.bound.bound) h
+    go (Show w next) t h = becomes _ (goes_on next m.vars ss t s.bound.bound) h
+    go (Host y f a b next) t h = becomes _ (goes_on next (fin.insert m.vars y.0 (Int v)) ss t s.bound.bound) h
+    go (If w a b) t h = becomes _ (goes_on (cond (truth_of (value_of (term_of w) m.vars)) a b) m.vars ss (either (truth_of (value_of (term_of w) m.vars)) a b t.0 t.1) s.bound.bound) h
     go (Send k b y next) t h = absurd cc
     go (Pick k b l next) t h = absurd cc
     go (Throw k b g next) t h = absurd cc
@@ -136,7 +133,6 @@ bound_acted e m node ss p x new s acted = go node (scoped_node s.bound.scoped no
     go (Branch k a arms) t h = absurd cc
     go (Catch k a g next) t h = absurd cc
     go (Join c r k next) t h = absurd cc
-    go (Host y f a b next) t h = absurd cc
     go (Call f q ns) t h = absurd cc
     go End t h = absurd cc
 

@@ -2,3 +2,4 @@ pub mod Bound
 pub mod Scopes
 pub mod Goings
 pub mod Makings
+pub mod Actings

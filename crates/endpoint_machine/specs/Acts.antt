@@ -1,14 +1,16 @@
--- What a process sends and takes.
-use Rattle.std.specs.Prelude.{ℕ, ◌&&◌, Bool, true, false, Option, Some, None, is_some, if◌then◌else◌}
+-- What a process sends and takes, and what it does by itself.
+use Rattle.std.specs.Prelude.{ℕ, ℤ, ◌&&◌, Bool, true, false, Option, Some, None, is_some, if◌then◌else◌}
 use Rattle.std.specs.FinMap as fin
+use Rattle.chor_base.specs.declared.value.Value.TheVariants.{Int}
 use Rattle.chor_base.specs.declared.value.Load.{Load}
 use Rattle.chor_base.specs.declared.value.Load.TheVariants.{Value as Carries, Label as Picks}
 use Rattle.chor_base.specs.declared.event.Event.{Event}
 use Rattle.chor_base.specs.declared.event.Event.TheVariants as event
-use Rattle.chor_base.specs.Expr.{term_of, value_of, truth_of}
+use Rattle.chor_base.specs.Expr.{term_of, value_of, number_of, truth_of}
+use Rattle.chor_base.specs.Meaning.{Hosts, meaning_named, MayAnswer}
 use Rattle.chor_base.specs.NameMap.{Variables}
 use Rattle.endpoint_code.specs.declared.code.CodeNode.{CodeNode}
-use Rattle.endpoint_code.specs.declared.code.CodeNode.TheVariants.{Join, Send, Recv, Pick, Branch, Throw, Catch, Set, Show, If, Call}
+use Rattle.endpoint_code.specs.declared.code.CodeNode.TheVariants.{Join, Send, Recv, Pick, Branch, Throw, Catch, Set, Show, Host, If, Call}
 use Rattle.endpoint_code.specs.declared.endpoints.Endpoints.{Endpoints}
 use Rattle.endpoint_code.specs.Network.{Machine, Sessions, Place, Taking, place_of, part_load, takes_value, takes_label, takes_part}
 
@@ -77,20 +79,45 @@ abbrev pub joins : CodeNode → Bool
 joins (Join c r k next) = true
 joins _ = false
 
--- a node at which a process acts by itself, asking no host function
+-- ---- acting alone
+
+-- a node at which a process acts by itself
 abbrev pub acts_alone : CodeNode → Bool
 acts_alone (Set x e next) = true
 acts_alone (Show e next) = true
+acts_alone (Host x f a b next) = true
 acts_alone (If e c d) = true
 acts_alone _ = false
 
--- what a process does by itself: the event, and the process after it
-pub data Acted : Type 0 where
-  Acts : (x : Event) (m : Machine) → Acted
+-- v is an answer that a process may get at a node; where it asks no host function, any number is
+abbrev pub NodeAnswers : Hosts → Variables → CodeNode → ℤ → Type 0
+NodeAnswers hosts vars (Host x f a b next) v = MayAnswer (meaning_named hosts f) (number_of (value_of (term_of a) vars)) (number_of (value_of (term_of b) vars)) v
+NodeAnswers hosts vars _ v = Unit {0}
 
-abbrev pub node_acts : ℕ → Variables → Sessions → CodeNode → Option Acted
-node_acts p vars m (Set x e next) = let w = value_of (term_of e) vars in Some (Acts (event.Set p x w) (record { at = next; vars = fin.insert vars x.0 w; sessions = m }))
-node_acts p vars m (Show e next) = Some (Acts (event.Show p (value_of (term_of e) vars)) (record { at = next; vars = vars; sessions = m }))
-node_acts p vars m (If e c d) =
-    let b = truth_of (value_of (term_of e) vars) in Some (Acts (event.Test p b) (record { at = if b then c else d; vars = vars; sessions = m }))
-node_acts p vars m _ = None
+-- the event that process p makes by itself at a node, where v is a host function's answer
+abbrev pub node_event : ℕ → ℤ → Variables → CodeNode → Option Event
+node_event p v vars (Set x e next) = Some (event.Set p x (value_of (term_of e) vars))
+node_event p v vars (Show e next) = Some (event.Show p (value_of (term_of e) vars))
+node_event p v vars (Host x f a b next) = Some (event.Host p x f (number_of (value_of (term_of a) vars)) (number_of (value_of (term_of b) vars)) v)
+node_event p v vars (If e c d) = Some (event.Test p (truth_of (value_of (term_of e) vars)))
+node_event p v vars _ = None
+
+-- a process that has acted by itself at a node
+abbrev pub node_acted : ℤ → Variables → Sessions → CodeNode → Option Machine
+node_acted v vars m (Set x e next) = Some (record { at = next; vars = fin.insert vars x.0 (value_of (term_of e) vars); sessions = m })
+node_acted v vars m (Show e next) = Some (record { at = next; vars = vars; sessions = m })
+node_acted v vars m (Host x f a b next) = Some (record { at = next; vars = fin.insert vars x.0 (Int v); sessions = m })
+node_acted v vars m (If e c d) = Some (record { at = if truth_of (value_of (term_of e) vars) then c else d; vars = vars; sessions = m })
+node_acted v vars m _ = None
+
+-- an event that a process makes by itself
+abbrev pub is_alone : Event → Bool
+is_alone (event.Test p b) = true
+is_alone (event.Set p x v) = true
+is_alone (event.Show p v) = true
+is_alone (event.Host p x f a b v) = true
+is_alone _ = false
+
+abbrev pub is_call_event : Event → Bool
+is_call_event (event.Host p x f a b v) = true
+is_call_event _ = false

@@ -53,17 +53,3 @@ is_take _ = false
 abbrev pub is_join : Option Head → Bool
 is_join (Some (head.Join c r)) = true
 is_join _ = false
-
--- ---- host calls
-
-abbrev pub is_host : CodeNode → Bool
-is_host (Host x f a b next) = true
-is_host _ = false
-
-abbrev pub asks_there : Option Place → Bool
-asks_there None = false
-asks_there (Some q) = is_host q.node
-
--- a process stands at a host call
-abbrev pub asks_host : Endpoints → Machine → Bool
-asks_host e m = asks_there (place_of e m)

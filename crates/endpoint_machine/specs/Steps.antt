@@ -6,9 +6,10 @@ use Rattle.chor_base.specs.declared.value.Load.{Load}
 use Rattle.chor_base.specs.declared.event.Event.{Event}
 use Rattle.chor_base.specs.declared.event.Event.TheVariants as event
 use Rattle.chor_base.specs.declared.event.Why.TheVariants.{Wrong}
+use Rattle.chor_base.specs.Meaning.{Hosts}
 use Rattle.endpoint_code.specs.declared.code.CodeId.{CodeId}
 use Rattle.endpoint_code.specs.declared.endpoints.Endpoints.{Endpoints}
-use Rattle.endpoint_code.specs.Network.{Machine, NetworkState, Sessions, Makes, machine_makes, put_if, has_room, queue_of, with_queue, moved, joins}
+use Rattle.endpoint_code.specs.Network.{Machine, NetworkState, Sessions, Makes, machine_makes, put_if, has_room, queue_of, with_queue, moved, joins, MachineAnswers}
 use Rattle.endpoint_code.specs.NetworkRuns.{waits_for}
 use Rattle.endpoint_machine.specs.declared.sessions.Binding.{Binding}
 use Rattle.endpoint_machine.specs.declared.head.Head.TheVariants as head
@@ -46,6 +47,12 @@ Fits e m l fits = (capacity : Option ℕ) (n : NetworkState) (s : ℕ) (a b : Na
 abbrev pub HasJoined : Endpoints → ℕ → Machine → Machine → Type 0
 HasJoined e s old new = (c r : NameId) → head_of e old ≡ Some (head.Join c r) → joins e (Some old) c r s ≡ Some new
 
--- it makes this event by itself
-abbrev pub HasActed : Endpoints → ℕ → Machine → Event → Machine → Type 0
-HasActed e p old x new = (capacity : Option ℕ) (n : NetworkState) (v : ℤ) → machine_makes e capacity n p v (Some old) ≡ Some (Makes x (moved n p new.at new.vars new.sessions))
+-- it makes this event by itself, by an answer that it may get where it asks a host function
+pub record HasActed (e : Endpoints) (hosts : Hosts) (p : ℕ) (old : Machine) (x : Event) (new : Machine) : Type 0 where
+  pub answer : ℤ
+  pub allowed : MachineAnswers hosts e (Some old) answer
+  pub made : (capacity : Option ℕ) (n : NetworkState) → machine_makes e capacity n p answer (Some old) ≡ Some (Makes x (moved n p new.at new.vars new.sessions))
+
+-- it can make this event by itself
+abbrev pub CanMake : Endpoints → Hosts → ℕ → Machine → Event → Type 0
+CanMake e hosts p m x = (new : Machine) × HasActed e hosts p m x new

@@ -1,30 +1,19 @@
-//! What a process does at a node.
+//! What a process sends, takes and joins at a node.
 
 ghost use Rattle.std.specs.Prelude.{◌≡◌, ◌<◌, ℕ, Some, None, true, false, is_some, Option, List};
 ghost use Rattle.std.specs.FinMap as fin;
 ghost use Rattle.chor_base.specs.declared.names.NameId.{NameId as AnyName};
-ghost use Rattle.chor_base.specs.Expr.{truth_of};
 ghost use Rattle.chor_base.specs.NameMap.{Variables};
 ghost use Rattle.endpoint_code.specs.Network.{Goes, Sessions, arm_at, node_joins};
 ghost use Rattle.endpoint_machine.specs.declared.head.Head.TheVariants as head;
 ghost use Rattle.endpoint_machine.specs.Heads.{node_head, sends_on, takes_on};
-ghost use Rattle.endpoint_machine.specs.Acts.{node_load, node_sent, node_takes, node_acts, knows_sessions, is_call, sends, joins, acts_alone, Acts};
+ghost use Rattle.endpoint_machine.specs.Acts.{node_load, node_sent, node_takes, knows_sessions, is_call, sends, joins};
 ghost use Rattle.endpoint_machine.specs.Places.{sessions_at, IsEven};
 
 use crate::head::Head;
 use crate::machine::{Machine, Passing};
-use chor_base::{Event, Load, NameId, Value, eval};
+use chor_base::{Load, NameId, Value, eval};
 use endpoint_code::{CodeId, CodeNode};
-
-// The truth value of a value: false where it is none.
-fn is_true(value: Value) -> bool
-    ensures { result ≡ truth_of value }
-{
-    match value {
-        Value::Bool(truth) => truth,
-        _ => false,
-    }
-}
 
 // The arm of a label.
 fn arm_named(arms: &[(NameId, CodeId)], label: NameId) -> Option<CodeId>
@@ -193,41 +182,6 @@ impl Machine {
             CodeNode::Join(_, role, session, next) => {
                 self.sessions.set(*session, sid, *role);
                 self.at = *next;
-            }
-            _ => unreachable!(),
-        }
-    }
-
-    /// Acts by itself at a node, and tells the event.
-    pub(crate) fn act_at(&mut self, node: &CodeNode) -> Event
-        requires alone { acts_alone node.now ≡ true }
-        requires variables { 0 < self.old.room.variables }
-        ensures number { self.new.number ≡ self.old.number }
-        ensures acted { node_acts self.old.number self.old.machine.vars self.old.machine.sessions node.now ≡ Some (Acts result self.new.machine) }
-    {
-        let pid = self.number;
-        match node {
-            CodeNode::Set(name, expr, next) => {
-                let value = eval(expr, &self.vars);
-                self.vars.set(*name, value);
-                self.at = *next;
-                Event::Set {
-                    pid,
-                    var: *name,
-                    value,
-                }
-            }
-            CodeNode::Show(expr, next) => {
-                self.at = *next;
-                Event::Show {
-                    pid,
-                    value: eval(expr, &self.vars),
-                }
-            }
-            CodeNode::If(expr, first, second) => {
-                let answer = is_true(eval(expr, &self.vars));
-                self.at = if answer { *first } else { *second };
-                Event::Test { pid, answer }
             }
             _ => unreachable!(),
         }

@@ -2,8 +2,11 @@
 #![tactic(auto)]
 
 mod acts;
+mod asking;
 mod head;
+mod locals;
 mod machine;
+mod same;
 mod sessions;
 
 pub use head::Head;

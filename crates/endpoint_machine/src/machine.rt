@@ -1,22 +1,26 @@
 //! A process.
 
-ghost use Rattle.std.specs.Prelude.{◌≡◌, ◌<◌, Some, true, false, OnOk, IfOk, IsOk, is_some};
+ghost use Rattle.std.specs.Prelude.{◌≡◌, ◌<◌, Some, true, false, OnOk, IfOk, IsOk, IsTrue, ◌↔◌, is_some};
 ghost use Rattle.std.specs.Option.{option_copied};
 ghost use Rattle.std.specs.FinMap as fin;
-ghost use Rattle.endpoint_code.specs.Faults.{IsFaultless};
+ghost use Rattle.chor_host.specs.Functions.{hosts_in, names_of};
+ghost use Rattle.chor_host.specs.Tables.{functions_of};
+ghost use Rattle.endpoint_code.specs.Faults.{IsFaultless, IsFaultlessWith};
 ghost use Rattle.endpoint_code.specs.Network.{node_at, procedure_of};
 ghost use Rattle.endpoint_machine.specs.Bound.{IsBound};
-ghost use Rattle.endpoint_machine.specs.Heads.{head_of, is_out, is_join, asks_host};
+ghost use Rattle.endpoint_machine.specs.Heads.{head_of, is_out, is_join};
 ghost use Rattle.endpoint_machine.specs.declared.head.Head.TheVariants as head;
 ghost use Rattle.endpoint_machine.specs.Acts.{load_of, taking_of};
-ghost use Rattle.endpoint_machine.specs.Steps.{begins, HasSent, HasTaken, Fits, HasJoined, HasActed};
+ghost use Rattle.endpoint_machine.specs.Steps.{begins, HasSent, HasTaken, Fits, HasJoined, HasActed, CanMake};
 ghost use Rattle.endpoint_machine.specs.Views.{IsReserved, passes};
 ghost use Rattle.endpoint_machine.specs.Places.{sessions_at, count_of, IsEven, StandsAt};
 
 use crate::acts::fits_at;
 use crate::head::Head;
+use crate::same::is_same_alone;
 use crate::sessions::{Binding, Bindings};
 use chor_base::{Event, Load, Memory, NameId, Vars};
+use chor_host::HostTable;
 use endpoint_code::{CodeId, CodeNode, Endpoints, Procedure};
 use std::alloc::Global;
 use std::marker::Model;
@@ -253,19 +257,34 @@ impl Machine {
         self.join_at(place.node, sid);
     }
 
-    /// Sets a variable, shows a value or decides, and tells the event. It takes no memory.
-    pub fn local_step(&mut self, endpoints: &Endpoints) -> Event
-        requires faultless { IsFaultless endpoints.now }
+    /// Sets a variable, shows a value, decides or asks a host function, and tells the event. It
+    /// takes no memory.
+    pub fn local_step(&mut self, endpoints: &Endpoints, hosts: &HostTable) -> Event
+        requires faultless { IsFaultlessWith (names_of (functions_of hosts.now)) endpoints.now }
         requires bound { IsBound endpoints.now self.old.machine }
         requires alone { head_of endpoints.now self.old.machine ≡ Some head.Local }
-        requires hostless { asks_host endpoints.now self.old.machine ≡ false }
         requires room { IsReserved endpoints.now self.old }
         ensures number { self.new.number ≡ self.old.number }
         ensures bound { IsBound endpoints.now self.new.machine }
-        ensures acted { HasActed endpoints.now self.old.number self.old.machine result self.new.machine }
+        ensures acted { HasActed endpoints.now (hosts_in endpoints.now.names (functions_of hosts.now)) self.old.number self.old.machine result self.new.machine }
     {
         let place = self.place(endpoints);
+        let answer = self.answer_at(place.node, endpoints, hosts);
+        let event = self.event_at(place.node, answer);
         self.enter(place.call);
-        self.act_at(place.node)
+        self.act_at(place.node, answer);
+        event
+    }
+
+    /// Whether the event is one that the process can make here by itself. It takes no memory.
+    pub fn may(&self, endpoints: &Endpoints, hosts: &HostTable, event: &Event) -> bool
+        requires faultless { IsFaultlessWith (names_of (functions_of hosts.now)) endpoints.now }
+        requires bound { IsBound endpoints.now self.now.machine }
+        requires alone { head_of endpoints.now self.now.machine ≡ Some head.Local }
+        ensures { IsTrue result ↔ CanMake endpoints.now (hosts_in endpoints.now.names (functions_of hosts.now)) self.now.number self.now.machine event.now }
+    {
+        let place = self.place(endpoints);
+        let answer = self.answer_at(place.node, endpoints, hosts);
+        is_same_alone(&self.event_at(place.node, answer), event)
     }
 }

@@ -31,7 +31,7 @@ use Rattle.net_core.specs.Machines.{is_join}
 use Rattle.net_core.specs.Heads.{Stands, Shows, EachStands, ended_of, why_of, is_joining, is_end, is_joining_head, is_taking, joins_as, leads_as, why_by}
 use Rattle.session_starts.specs.Machines.{AreCounted}
 use Rattle.net_core.specs.Views.{IsSound, state_of}
-use Rattle.session_starts.proofs.Places.{all_at}
+use Rattle.endpoint_machine.proofs.Actings.{all_at}
 use Rattle.net_core.proofs.Turns.{turn}
 
 -- ---- the action of a node

@@ -18,7 +18,7 @@ use Rattle.endpoint_machine.specs.Heads.{place_head, head_of}
 use Rattle.endpoint_machine.specs.Steps.{HasJoined}
 use Rattle.endpoint_machine.specs.Views.{MachineView}
 use Rattle.session_starts.specs.Starts.{AllJoin, AreApart, one_part, reserved_of, reserved_in, machines_alone, Joined, JoinsOne}
-use Rattle.session_starts.proofs.Places.{all_at}
+use Rattle.endpoint_machine.proofs.Actings.{all_at}
 use Rattle.session_starts.proofs.Places.{both_true, name_same}
 
 pub room_within : (e : Endpoints) (ms : List MachineView) (p : ℕ) → reserved_in e ms p ≡ true → p < length ms
