@@ -111,7 +111,7 @@ acted_at v vars m End is = absurd cc
 
 -- ---- answers
 
-place_answers : (hosts : Hosts) (vars : Variables) (m : Sessions) (node : CodeNode) (v : ℤ) → NodeAnswers hosts vars node v → PlaceAnswers hosts vars (Some (record { node = node; sessions = m })) v
+pub place_answers : (hosts : Hosts) (vars : Variables) (m : Sessions) (node : CodeNode) (v : ℤ) → NodeAnswers hosts vars node v → PlaceAnswers hosts vars (Some (record { node = node; sessions = m })) v
 place_answers hosts vars m (Join c r k next) v h = tt
 place_answers hosts vars m (Send k b x next) v h = tt
 place_answers hosts vars m (Recv k a x next) v h = tt
@@ -126,7 +126,7 @@ place_answers hosts vars m (If w c d) v h = tt
 place_answers hosts vars m (Call f o ns) v h = tt
 place_answers hosts vars m End v h = tt
 
-answers_place : (hosts : Hosts) (vars : Variables) (m : Sessions) (node : CodeNode) (v : ℤ) → PlaceAnswers hosts vars (Some (record { node = node; sessions = m })) v → NodeAnswers hosts vars node v
+pub answers_place : (hosts : Hosts) (vars : Variables) (m : Sessions) (node : CodeNode) (v : ℤ) → PlaceAnswers hosts vars (Some (record { node = node; sessions = m })) v → NodeAnswers hosts vars node v
 answers_place hosts vars m (Join c r k next) v h = tt
 answers_place hosts vars m (Send k b x next) v h = tt
 answers_place hosts vars m (Recv k a x next) v h = tt

@@ -1,6 +1,6 @@
 -- Events of one process.
 use Rattle.std.proofs.Common.{◌≡◌, ℕ, ◌<◌, Bool, true, false, List, [], ◌∷◌, length, get_or, refl, sym, ap, ◌∙◌, subst, Option, Some, None, arith, is_some, length-set, cond}
-use Rattle.std.specs.Prelude.{slice_get, slice_set, map, All, ℤ, pos}
+use Rattle.std.specs.Prelude.{slice_get, slice_set, map, All, ℤ}
 use Rattle.std.proofs.lemmas.List.{map-set}
 use Rattle.std.proofs.lemmas.List.Elements.{All-set}
 use Rattle.chor_base.specs.declared.names.NameId.{NameId}
@@ -9,17 +9,16 @@ use Rattle.chor_base.specs.declared.event.Why.{Why}
 use Rattle.chor_base.specs.declared.event.Why.TheVariants.{Wrong}
 use Rattle.chor_base.specs.declared.value.Load.{Load}
 use Rattle.chor_base.specs.Meaning.{Hosts}
-use Rattle.chor_base.specs.NameMap.{Variables}
 use Rattle.endpoint_code.specs.declared.code.CodeNode.{CodeNode}
 use Rattle.endpoint_code.specs.declared.code.CodeNode.TheVariants.{Join, Send, Recv, Pick, Branch, Throw, Catch, Set, Show, Host, If, Call, End}
 use Rattle.endpoint_code.specs.declared.endpoints.Endpoints.{Endpoints}
-use Rattle.endpoint_code.specs.Network.{Machine, NetworkState, Sessions, Place, Makes, place_at, makes, machine_makes, PlaceAnswers, MachineAnswers, loads_for}
+use Rattle.endpoint_code.specs.Network.{Machine, NetworkState, Sessions, Place, Makes, place_at, makes, machine_makes, MachineAnswers, loads_for}
 use Rattle.endpoint_code.specs.NetworkRuns.{has_ended, waits_for, can_step}
 use Rattle.endpoint_code.specs.Scheduled.{Chooses, chosen_at}
 use Rattle.endpoint_machine.specs.declared.head.Head.{Head}
 use Rattle.endpoint_machine.specs.declared.head.Head.TheVariants as head
 use Rattle.endpoint_machine.specs.Bound.{IsBound}
-use Rattle.endpoint_machine.specs.Heads.{place_head, head_of, is_host, asks_host, asks_there}
+use Rattle.endpoint_machine.specs.Heads.{place_head, head_of}
 use Rattle.endpoint_machine.specs.Acts.{node_takes, place_takes, taking_of}
 use Rattle.endpoint_machine.specs.Views.{MachineView}
 use Rattle.endpoint_machine.proofs.Makings.{fits_there}
@@ -55,10 +54,6 @@ joins_not e n p node s h = sym (ap is_joining (ap (place_at e) s.there ∙ s.at_
 pub head_there : (e : Endpoints) (ms : List MachineView) (q : QueuesView) (sid p : ℕ) (r : MachineView) (h : Head) → Shows e (state_of ms q sid) p h → p < length ms → r ≡ get_or ms p r → head_of e r.machine ≡ Some h
 head_there e ms q sid p r h t lt is =
     ap (head_of e) (sym (stands_there e ms q sid p r t.node t.stands lt is)) ∙ ap place_head t.stands.at_node.place ∙ t.head
-
-pub hostless_there : (e : Endpoints) (ms : List MachineView) (q : QueuesView) (sid p : ℕ) (r : MachineView) (h : Head) → Shows e (state_of ms q sid) p h → p < length ms → r ≡ get_or ms p r → asks_host e r.machine ≡ false
-hostless_there e ms q sid p r h t lt is =
-    ap (asks_host e) (sym (stands_there e ms q sid p r t.node t.stands lt is)) ∙ ap asks_there t.stands.at_node.place ∙ t.stands.hostless
 
 -- why a process waits that takes a first load
 pub waits_first : (e : Endpoints) (n : NetworkState) (p s : ℕ) (a b : NameId) (l : Load) (rest : List Load) → Shows e n p (head.Take s a b) → loads_for n.queues (s, a, b) ≡ l ∷ rest → (m : Machine) → slice_get n.machines p ≡ Some m → why_at e n p ≡ cond (is_some (taking_of e m l)) None (Some (Wrong s a b))
@@ -103,26 +98,10 @@ acts_freely e ms q sid p r h t lt is steps alone = go h t
 pub sound_after : (e : Endpoints) (ms : List MachineView) (p : ℕ) (r t : MachineView) → IsSound e ms → p < length ms → r ≡ get_or ms p r → t.number ≡ r.number → IsBound e t.machine → IsSound e (slice_set ms p t)
 sound_after e ms p r t sound lt h number bound = record {
   faultless = sound.faultless;
-  hostless = sound.hostless;
   few = (let l = length-set ms p t in let k = sound.few in omega arith);
   bound = subst (All (IsBound e)) (sym (map-set standing_of ms p t)) (All-set (IsBound e) (map standing_of ms) p (standing_of t) bound sound.bound);
   counted = λ i j k. sound.counted i j (sym (ap (λ (l : List ℕ). slice_get l i) (mapped_put number_of ms p r t lt h number)) ∙ k);
 }
-
-host_answers : (hosts : Hosts) (vars : Variables) (node : CodeNode) (m : Sessions) (v : ℤ) → is_host node ≡ false → PlaceAnswers hosts vars (Some (record { node = node; sessions = m })) v
-host_answers hosts vars (Join c r k next) m v h = tt
-host_answers hosts vars (Send k b x next) m v h = tt
-host_answers hosts vars (Recv k a x next) m v h = tt
-host_answers hosts vars (Pick k b l next) m v h = tt
-host_answers hosts vars (Branch k a arms) m v h = tt
-host_answers hosts vars (Throw k b g next) m v h = tt
-host_answers hosts vars (Catch k a g next) m v h = tt
-host_answers hosts vars (Set x w next) m v h = tt
-host_answers hosts vars (Show w next) m v h = tt
-host_answers hosts vars (Host x f u w next) m v h = absurd cc
-host_answers hosts vars (If w c d) m v h = tt
-host_answers hosts vars (Call f o ns) m v h = tt
-host_answers hosts vars End m v h = tt
 
 alone_chosen : (e : Endpoints) (n : NetworkState) (p : ℕ) (v : ℤ) (node : CodeNode) (m : Sessions) → is_join node ≡ false → chosen_at e None n p v (Some (record { node = node; sessions = m })) ≡ makes e None n p v
 alone_chosen e n p v (Join c r k next) m h = absurd cc
@@ -140,25 +119,25 @@ alone_chosen e n p v (Call f o ns) m h = refl
 alone_chosen e n p v End m h = refl
 
 -- what a process does by itself is its choice
-pub alone_chooses : (e : Endpoints) (ms : List MachineView) (q k : QueuesView) (sid p : ℕ) (r t : MachineView) (h : Head) (x : Event) → Shows e (state_of ms q sid) p h → AreCounted ms → p < length ms → r ≡ get_or ms p r → joins_at_all e (state_of ms q sid) p ≡ false → ActsWith e q r x k t → Chooses e [] None (state_of ms q sid) p x (state_of (slice_set ms p t) k sid)
-alone_chooses e ms q k sid p r t h x w counted lt is alone made =
+pub alone_chooses : (e : Endpoints) (hosts : Hosts) (ms : List MachineView) (q k : QueuesView) (sid p : ℕ) (r t : MachineView) (h : Head) (x : Event) → Shows e (state_of ms q sid) p h → AreCounted ms → p < length ms → r ≡ get_or ms p r → joins_at_all e (state_of ms q sid) p ≡ false → ActsWith e hosts q r x k t → Chooses e hosts None (state_of ms q sid) p x (state_of (slice_set ms p t) k sid)
+alone_chooses e hosts ms q k sid p r t h x w counted lt is alone acts =
     let n : NetworkState = state_of ms q sid in
     let s = w.stands in
+    let v = acts.answer in
+    let there : slice_get n.machines p ≡ Some r.machine = runner_at ms p r lt is in
     let same = stands_there e ms q sid p r w.node s lt is in
     let number : r.number ≡ p = counted p r.number (mapped_at number_of ms p r lt is) in
     record {
-      answer = pos 0;
-      allowed =
-          subst (λ (o : Option Machine). MachineAnswers [] e o (pos 0)) (sym s.there)
-          (subst (λ (o : Option Place). PlaceAnswers [] s.machine.vars o (pos 0)) (sym s.at_node.place) (host_answers [] s.machine.vars w.node s.sessions (pos 0) s.hostless));
+      answer = v;
+      allowed = subst (λ (o : Option Machine). MachineAnswers hosts e o v) (sym there) acts.allowed;
       made =
-          ap (λ (o : Option Machine). chosen_at e None n p (pos 0) (place_at e o)) s.there
-          ∙ ap (chosen_at e None n p (pos 0)) s.at_node.place
-          ∙ alone_chosen e n p (pos 0) w.node s.sessions (joins_not e n p w.node s alone)
-          ∙ ap (machine_makes e None n p (pos 0)) s.there
-          ∙ ap (λ (m : Machine). machine_makes e None n p (pos 0) (Some m)) same
-          ∙ ap (λ (i : ℕ). machine_makes e None n i (pos 0) (Some r.machine)) (sym number)
-          ∙ made n (pos 0) refl
+          ap (λ (o : Option Machine). chosen_at e None n p v (place_at e o)) s.there
+          ∙ ap (chosen_at e None n p v) s.at_node.place
+          ∙ alone_chosen e n p v w.node s.sessions (joins_not e n p w.node s alone)
+          ∙ ap (machine_makes e None n p v) s.there
+          ∙ ap (λ (m : Machine). machine_makes e None n p v (Some m)) same
+          ∙ ap (λ (i : ℕ). machine_makes e None n i v (Some r.machine)) (sym number)
+          ∙ acts.moves n refl
           ∙ ap (λ (i : ℕ). Some (Makes x (let m : NetworkState = record { machines = slice_set (map standing_of ms) i t.machine; queues = loads_in k.lanes; sid = sid } in m))) number
           ∙ ap (λ (a : List Machine). Some (Makes x (let m : NetworkState = record { machines = a; queues = loads_in k.lanes; sid = sid } in m))) (sym (map-set standing_of ms p t));
     }

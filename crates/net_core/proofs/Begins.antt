@@ -6,6 +6,7 @@ use Rattle.chor_base.specs.declared.names.NameId.{NameId}
 use Rattle.chor_base.specs.declared.event.Event.TheVariants as event
 use Rattle.endpoint_code.specs.declared.code.CodeId.{CodeId}
 use Rattle.std.specs.FinMap as fin
+use Rattle.chor_base.specs.Meaning.{Hosts}
 use Rattle.endpoint_code.specs.declared.code.CodeNode.{CodeNode}
 use Rattle.endpoint_code.specs.declared.code.CodeNode.TheVariants.{Join, Send, Recv, Pick, Branch, Throw, Catch, Set, Show, Host, If, Call, End}
 use Rattle.endpoint_machine.specs.declared.head.Head.TheVariants as head
@@ -81,9 +82,9 @@ abbrev started_with : NetworkState → NameId → List (NameId × ℕ) → List 
 started_with n c ps ms = Makes (event.Start c n.sid ps) (record n { machines = ms; sid = suc n.sid })
 
 -- a start by the least partners is the choice of the process that makes it
-pub begins : (e : Endpoints) (n : NetworkState) (p : ℕ) (c own l : NameId) (next : CodeId) (k : Channel) (ps : List (NameId × ℕ)) (ms : List Machine) → Stands e n p (Join c own l next) → channel_of e.channels c ≡ Some k → IsCast e n.machines c p own k.active ps → HasStarted e k n.sid n.machines ps ms
-    → Chooses e [] None n p (event.Start k.name n.sid (ps ++ served_parts k.serve (length n.machines))) (record n { machines = ms; sid = suc n.sid })
-begins e n p c own l next k ps ms s found cast h =
+pub begins : (e : Endpoints) (hosts : Hosts) (n : NetworkState) (p : ℕ) (c own l : NameId) (next : CodeId) (k : Channel) (ps : List (NameId × ℕ)) (ms : List Machine) → Stands e n p (Join c own l next) → channel_of e.channels c ≡ Some k → IsCast e n.machines c p own k.active ps → HasStarted e k n.sid n.machines ps ms
+    → Chooses e hosts None n p (event.Start k.name n.sid (ps ++ served_parts k.serve (length n.machines))) (record n { machines = ms; sid = suc n.sid })
+begins e hosts n p c own l next k ps ms s found cast h =
     let active = scoped_join s.at_node.bound.scoped c own l next s.at_node.found in
     let same : active.0 ≡ k = (let a : Some active.0 ≡ Some k = sym active.1 ∙ found in cc) in
     let among : is_among own k.active ≡ true = subst (λ (x : Channel). is_among own x.active ≡ true) same active.2 in
@@ -93,8 +94,8 @@ begins e n p c own l next k ps ms s found cast h =
     record {
       answer = pos 0;
       allowed =
-          subst (λ (o : Option Machine). MachineAnswers [] e o (pos 0)) (sym s.there)
-          (subst (λ (o : Option Place). PlaceAnswers [] s.machine.vars o (pos 0)) (sym s.at_node.place) tt);
+          subst (λ (o : Option Machine). MachineAnswers hosts e o (pos 0)) (sym s.there)
+          (subst (λ (o : Option Place). PlaceAnswers hosts s.machine.vars o (pos 0)) (sym s.at_node.place) tt);
       made =
           ap (λ (o : Option Machine). chosen_at e None n p (pos 0) (place_at e o)) s.there
           ∙ ap (chosen_at e None n p (pos 0)) s.at_node.place

@@ -6,6 +6,7 @@ use Rattle.chor_base.specs.declared.names.NameId.{NameId}
 use Rattle.chor_base.specs.declared.event.Event.{Event}
 use Rattle.chor_base.specs.declared.event.Event.TheVariants as event
 use Rattle.chor_base.specs.declared.event.Entry.{Entry}
+use Rattle.chor_base.specs.Meaning.{Hosts}
 use Rattle.endpoint_code.specs.declared.code.CodeNode.{CodeNode}
 use Rattle.endpoint_code.specs.declared.endpoints.Endpoints.{Endpoints}
 use Rattle.endpoint_code.specs.declared.endpoints.Channel.{Channel}
@@ -79,9 +80,9 @@ module _ {e : Endpoints} (ms : List MachineView) (q : QueuesView) {sid : ℕ} {h
   pub shows_in : (p : ℕ) (a : Head) → Shows v.endpoints v.state p a → Shows e (state_of ms q sid) p a
   shows_in p a s = subst (λ (w : NetworkView). Shows w.endpoints w.state p a) (sym is) s
 
-  pub stepped : (new : NetworkView) (p : ℕ) (x : Event) (n : NetworkState) → new.endpoints ≡ e → new.state ≡ n → new.history ≡ h ++ record { worker = 0; event = x } ∷ [] → Chooses e [] None (state_of ms q sid) p x n → HasStepped v p new
-  stepped new p x n a b d chooses =
-      subst (λ (w : NetworkView). HasStepped w p new) is (record { event = x; state = n; becomes = record { endpoints = a; state = b; history = d }; chooses = chooses })
+  pub stepped : (hosts : Hosts) (new : NetworkView) (p : ℕ) (x : Event) (n : NetworkState) → new.endpoints ≡ e → new.state ≡ n → new.history ≡ h ++ record { worker = 0; event = x } ∷ [] → Chooses e hosts None (state_of ms q sid) p x n → HasStepped hosts v p new
+  stepped hosts new p x n a b d chooses =
+      subst (λ (w : NetworkView). HasStepped hosts w p new) is (record { event = x; state = n; becomes = record { endpoints = a; state = b; history = d }; chooses = chooses })
 
   pub same_but_room : (new : NetworkView) → new.endpoints ≡ e → new.state ≡ state_of ms q sid → new.history ≡ h → IsSame v new
   same_but_room new a b d = subst (λ (w : NetworkView). IsSame w new) is (record { endpoints = a; state = b; history = d })

@@ -5,9 +5,9 @@ pub mod Scopes
 pub mod Heads
 pub mod Fields
 pub mod Rooms
+pub mod Moves
 pub mod Alone
 pub mod Casts
 pub mod Begins
 pub mod Leaders
 pub mod Runs
-pub mod Plain

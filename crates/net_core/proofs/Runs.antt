@@ -7,6 +7,7 @@ use Rattle.std.proofs.Math.Nat.{suc-mul, one-mul}
 use Rattle.chor_base.specs.declared.event.Event.{Event}
 use Rattle.chor_base.specs.declared.event.Entry.{Entry}
 use Rattle.chor_base.specs.declared.event.Why.{Why}
+use Rattle.chor_base.specs.Meaning.{Hosts}
 use Rattle.endpoint_code.specs.declared.endpoints.Endpoints.{Endpoints}
 use Rattle.endpoint_code.specs.Network.{Machine, NetworkState}
 use Rattle.endpoint_code.specs.NetworkRuns.{has_ended, all_ended, waits_for, can_step, none_can_step}
@@ -139,19 +140,19 @@ steps_no_end e n p s h = go (slice_get n.machines p) s h
 
 -- ---- a closed run
 
-pub stuck_closes : (seed steps : ℕ) (v : NetworkView) (r : Picked) → IsStuck v.endpoints v.state r → length v.history ≢ steps → none_can_step v.endpoints None v.state v.state.machines ≡ true → Turns seed steps v (Some r) v
-stuck_closes seed steps v Ended s k none = absurd s
-stuck_closes seed steps v Limit s k none = absurd s
-stuck_closes seed steps v (Stuck p why) s k none = record { same = record { endpoints = refl; state = refl; history = refl }; closes = close.stuck k none s }
-stuck_closes seed steps v Memory s k none = absurd s
+pub stuck_closes : (hosts : Hosts) (seed steps : ℕ) (v : NetworkView) (r : Picked) → IsStuck v.endpoints v.state r → length v.history ≢ steps → none_can_step v.endpoints None v.state v.state.machines ≡ true → Turns hosts seed steps v (Some r) v
+stuck_closes hosts seed steps v Ended s k none = absurd s
+stuck_closes hosts seed steps v Limit s k none = absurd s
+stuck_closes hosts seed steps v (Stuck p why) s k none = record { same = record { endpoints = refl; state = refl; history = refl }; closes = close.stuck k none s }
+stuck_closes hosts seed steps v Memory s k none = absurd s
 
-goes_more : {e : Endpoints} {seed steps : ℕ} {n m : NetworkState} {k : ℕ} {xs : List Event} → GoesOn e seed steps n k xs m → (last : NetworkState) (j p : ℕ) (x : Event) → j ≡ k + length xs → all_ended e m.machines ≡ false → j ≢ steps → picked e None seed j m ≡ Some p → Chooses e [] None m p x last → GoesOn e seed steps n k (xs ++ x ∷ []) last
+goes_more : {e : Endpoints} {hosts : Hosts} {seed steps : ℕ} {n m : NetworkState} {k : ℕ} {xs : List Event} → GoesOn e hosts seed steps n k xs m → (last : NetworkState) (j p : ℕ) (x : Event) → j ≡ k + length xs → all_ended e m.machines ≡ false → j ≢ steps → picked e None seed j m ≡ Some p → Chooses e hosts None m p x last → GoesOn e hosts seed steps n k (xs ++ x ∷ []) last
 goes_more {e} {seed} {steps} {n} {m} {k} stays last j p x h a b c d =
     let same : j ≡ k = omega arith in
     goes a (subst (λ (i : ℕ). i ≢ steps) same b) (subst (λ (i : ℕ). picked e None seed i m ≡ Some p) same c) d stays
 goes_more {k = k} (goes {events} {x = y} {xs} s t u w rest) last j p x h a b c d = goes s t u w (goes_more rest last j p x (omega arith) a b c d)
 
-closed_by : {e : Endpoints} {seed steps : ℕ} {n m : NetworkState} {k : ℕ} {xs : List Event} → GoesOn e seed steps n k xs m → (j : ℕ) (c : Close) → j ≡ k + length xs → Closes e None steps m j c → IsScheduled e [] None seed steps n k xs m c
+closed_by : {e : Endpoints} {hosts : Hosts} {seed steps : ℕ} {n m : NetworkState} {k : ℕ} {xs : List Event} → GoesOn e hosts seed steps n k xs m → (j : ℕ) (c : Close) → j ≡ k + length xs → Closes e None steps m j c → IsScheduled e hosts None seed steps n k xs m c
 closed_by {e} {steps = steps} {m = m} {k = k} stays j c h closes =
     let same : j ≡ k = omega arith in
     closed (subst (λ (i : ℕ). Closes e None steps m i c) same closes)
@@ -163,16 +164,16 @@ length-entries_of : (xs : List Event) → length (entries_of xs) ≡ length xs
 length-entries_of xs = length-map xs _
 
 -- what holds before each turn
-pub record Underway (seed steps : ℕ) (first now : NetworkView) : Type 0 where
-  pub gone : HasGone seed steps first now
+pub record Underway (hosts : Hosts) (seed steps : ℕ) (first now : NetworkView) : Type 0 where
+  pub gone : HasGone hosts seed steps first now
   pub before : length now.history ≤ steps
   pub fits : FitsMore now (steps - length now.history)
 
-pub begun_run : (seed steps : ℕ) (v : NetworkView) → length v.history ≤ steps → FitsMore v (steps - length v.history) → Underway seed steps v v
-begun_run seed steps v le fits = record { gone = record { events = []; endpoints = refl; history = sym (append-nil v.history); run = stays }; before = le; fits = fits }
+pub begun_run : (hosts : Hosts) (seed steps : ℕ) (v : NetworkView) → length v.history ≤ steps → FitsMore v (steps - length v.history) → Underway hosts seed steps v v
+begun_run hosts seed steps v le fits = record { gone = record { events = []; endpoints = refl; history = sym (append-nil v.history); run = stays }; before = le; fits = fits }
 
-events_so_far : (seed steps : ℕ) (first now : NetworkView) (g : HasGone seed steps first now) → length now.history ≡ length first.history + length g.events
-events_so_far seed steps first now g = ap length g.history ∙ length-append first.history (entries_of g.events) ∙ ap (λ (k : ℕ). length first.history + k) (length-entries_of g.events)
+events_so_far : (hosts : Hosts) (seed steps : ℕ) (first now : NetworkView) (g : HasGone hosts seed steps first now) → length now.history ≡ length first.history + length g.events
+events_so_far hosts seed steps first now g = ap length g.history ∙ length-append first.history (entries_of g.events) ∙ ap (λ (k : ℕ). length first.history + k) (length-entries_of g.events)
 
 -- so many events fit where more fit
 pub fits_fewer : (v : NetworkView) (k : ℕ) → 1 ≤ k → FitsMore v k → FitsMore v 1
@@ -194,14 +195,14 @@ fits_after old new k same g f =
       machines = subst (λ (e : Endpoints). length new.state.machines + k * most_served e.channels < 2 ^ 32) (sym same) old_fits;
     }
 
-pub turn_longer : (seed steps : ℕ) (old new : NetworkView) → HasTurned seed steps old new → length new.history ≡ length old.history + 1
-turn_longer seed steps old new t = ap length t.step.becomes.history ∙ length-append old.history (record { worker = 0; event = t.step.event } ∷ [])
+pub turn_longer : (hosts : Hosts) (seed steps : ℕ) (old new : NetworkView) → HasTurned hosts seed steps old new → length new.history ≡ length old.history + 1
+turn_longer hosts seed steps old new t = ap length t.step.becomes.history ∙ length-append old.history (record { worker = 0; event = t.step.event } ∷ [])
 
-pub underway_more : (seed steps : ℕ) (first old new : NetworkView) → Underway seed steps first old → HasTurned seed steps old new → Underway seed steps first new
-underway_more seed steps first old new u t =
+pub underway_more : (hosts : Hosts) (seed steps : ℕ) (first old new : NetworkView) → Underway hosts seed steps first old → HasTurned hosts seed steps old new → Underway hosts seed steps first new
+underway_more hosts seed steps first old new u t =
     let g = u.gone in
     let x = t.step.event in
-    let longer = turn_longer seed steps old new t in
+    let longer = turn_longer hosts seed steps old new t in
     let before : length old.history ≤ steps = u.before in
     let other : length old.history ≢ steps = t.before in
     let left : steps - length old.history ≡ suc (steps - length new.history) = omega arith in
@@ -215,38 +216,38 @@ underway_more seed steps first old new u t =
             ∙ append_assoc first.history (entries_of g.events) (record { worker = 0; event = x } ∷ [])
             ∙ ap (λ (r : List Entry). first.history ++ r) (sym (map-append _ g.events (x ∷ [])));
         run =
-            subst (λ (n : NetworkState). GoesOn first.endpoints seed steps first.state (length first.history) (g.events ++ x ∷ []) n) (sym t.step.becomes.state)
-            (goes_more g.run t.step.state (length old.history) t.process x (events_so_far seed steps first old g)
+            subst (λ (n : NetworkState). GoesOn first.endpoints hosts seed steps first.state (length first.history) (g.events ++ x ∷ []) n) (sym t.step.becomes.state)
+            (goes_more g.run t.step.state (length old.history) t.process x (events_so_far hosts seed steps first old g)
             (subst (λ (p : Endpoints). all_ended p old.state.machines ≡ false) e t.open_still)
             other
             (subst (λ (p : Endpoints). picked p None seed (length old.history) old.state ≡ Some t.process) e t.pick)
-            (subst (λ (p : Endpoints). Chooses p [] None old.state t.process x t.step.state) e t.step.chooses));
+            (subst (λ (p : Endpoints). Chooses p hosts None old.state t.process x t.step.state) e t.step.chooses));
       };
       before = omega arith;
       fits = fits_after old new (steps - length new.history) t.step.becomes.endpoints t.grown (subst (FitsMore old) left u.fits);
     }
 
-pub closed_run : (seed steps : ℕ) (first old new : NetworkView) (c : Close) → Underway seed steps first old → HasClosed steps old new c → HasRun seed steps first new c
-closed_run seed steps first old new c u h =
+pub closed_run : (hosts : Hosts) (seed steps : ℕ) (first old new : NetworkView) (c : Close) → Underway hosts seed steps first old → HasClosed steps old new c → HasRun hosts seed steps first new c
+closed_run hosts seed steps first old new c u h =
     let g = u.gone in
     record {
       events = g.events;
       endpoints = h.same.endpoints ∙ g.endpoints;
       history = h.same.history ∙ g.history;
       run =
-          subst (λ (n : NetworkState). IsScheduled first.endpoints [] None seed steps first.state (length first.history) g.events n c) (sym h.same.state)
-          (closed_by g.run (length old.history) c (events_so_far seed steps first old g) (subst (λ (e : Endpoints). Closes e None steps old.state (length old.history) c) g.endpoints h.closes));
+          subst (λ (n : NetworkState). IsScheduled first.endpoints hosts None seed steps first.state (length first.history) g.events n c) (sym h.same.state)
+          (closed_by g.run (length old.history) c (events_so_far hosts seed steps first old g) (subst (λ (e : Endpoints). Closes e None steps old.state (length old.history) c) g.endpoints h.closes));
     }
 
-pub closes_run : (seed steps : ℕ) (first old new : NetworkView) (r : Picked) → Underway seed steps first old → Turns seed steps old (Some r) new → Runs seed steps first r new
-closes_run seed steps first old new Ended u h = closed_run seed steps first old new close.Ended u h
-closes_run seed steps first old new Limit u h = closed_run seed steps first old new close.Limit u h
-closes_run seed steps first old new (Stuck p why) u h = closed_run seed steps first old new (close.Stuck p why) u h
-closes_run seed steps first old new Memory u h =
+pub closes_run : (hosts : Hosts) (seed steps : ℕ) (first old new : NetworkView) (r : Picked) → Underway hosts seed steps first old → Turns hosts seed steps old (Some r) new → Runs hosts seed steps first r new
+closes_run hosts seed steps first old new Ended u h = closed_run hosts seed steps first old new close.Ended u h
+closes_run hosts seed steps first old new Limit u h = closed_run hosts seed steps first old new close.Limit u h
+closes_run hosts seed steps first old new (Stuck p why) u h = closed_run hosts seed steps first old new (close.Stuck p why) u h
+closes_run hosts seed steps first old new Memory u h =
     let g = u.gone in
     record {
       events = g.events;
       endpoints = h.endpoints ∙ g.endpoints;
       history = h.history ∙ g.history;
-      run = subst (λ (n : NetworkState). GoesOn first.endpoints seed steps first.state (length first.history) g.events n) (sym h.state) g.run;
+      run = subst (λ (n : NetworkState). GoesOn first.endpoints hosts seed steps first.state (length first.history) g.events n) (sym h.state) g.run;
     }

@@ -16,16 +16,15 @@ use Rattle.endpoint_code.specs.declared.endpoints.Process.{Process}
 use Rattle.endpoint_code.specs.Network.{Machine, NetworkState, Sessions, Place, Taking, node_at, place_at, standing, standing_all, queue_of, takes_value, takes_label, takes_part}
 use Rattle.endpoint_code.specs.NetworkRuns.{ends_there, joins_there, node_waits, place_waits, waits_to_send, waits_to_receive, waits_for_first}
 use Rattle.endpoint_code.specs.Scheduled.{listed_at}
-use Rattle.endpoint_code.specs.Faults.{IsFaultless, IsScoped, asks_known}
+use Rattle.endpoint_code.specs.Faults.{IsFaultless, IsScoped}
 use Rattle.endpoint_machine.specs.declared.head.Head.{Head}
 use Rattle.endpoint_machine.specs.declared.head.Head.TheVariants as head
 use Rattle.endpoint_machine.specs.Bound.{IsBound}
-use Rattle.endpoint_machine.specs.Heads.{node_head, place_head, head_of, sends_on, takes_on, is_host}
+use Rattle.endpoint_machine.specs.Heads.{node_head, place_head, head_of, sends_on, takes_on}
 use Rattle.endpoint_machine.specs.Places.{StandsAt}
 use Rattle.endpoint_machine.specs.Views.{MachineView}
 use Rattle.endpoint_machine.proofs.Scopes.{some_node, stands_plainly, stands_beyond, called, procedure_all}
 use Rattle.net_core.specs.Lanes.{QueuesView}
-use Rattle.net_core.specs.Plain.{IsHostless}
 use Rattle.session_starts.specs.Machines.{standing_of}
 use Rattle.net_core.specs.Machines.{is_join}
 use Rattle.net_core.specs.Heads.{Stands, Shows, EachStands, ended_of, why_of, is_joining, is_end, is_joining_head, is_taking, joins_as, leads_as, why_by}
@@ -157,21 +156,6 @@ node_empty e n vars m End s y z h q = absurd cc
 
 -- ---- where a process stands
 
-hostless_node : (node : CodeNode) → asks_known (λ f. false) node ≡ true → is_host node ≡ false
-hostless_node (Join c r k next) h = refl
-hostless_node (Send k b x next) h = refl
-hostless_node (Recv k a x next) h = refl
-hostless_node (Pick k b l next) h = refl
-hostless_node (Branch k a arms) h = refl
-hostless_node (Throw k b g next) h = refl
-hostless_node (Catch k a g next) h = refl
-hostless_node (Set x w next) h = refl
-hostless_node (Show w next) h = refl
-hostless_node (Host x f u w next) h = absurd cc
-hostless_node (If w c d) h = refl
-hostless_node (Call f o ns) h = refl
-hostless_node End h = refl
-
 somewhere : (e : Endpoints) (m : Machine) → IsFaultless e → IsBound e m → (node : CodeNode) × (ss : Sessions) × StandsAt e m node ss
 somewhere e m faultless bound = let n = some_node bound.scoped in go n.0 n.1
   where
@@ -216,7 +200,6 @@ stands_at e ms q sid p r sound lt h =
         sessions = s.1;
         there = runner_at ms p r lt h;
         at_node = s.2;
-        hostless = hostless_node s.0 (all_at (λ n. asks_known (λ f. false) n ≡ true) e.code.nodes s.2.id.0 s.0 sound.hostless s.2.found);
         bound = bound;
       },
     )
@@ -265,10 +248,9 @@ pub length-standing_all : (ps : List Process) → length (standing_all ps) ≡ l
 length-standing_all [] = refl
 length-standing_all (p ∷ ps) = ap suc (length-standing_all ps)
 
-pub first_sound : (e : Endpoints) (ms : List MachineView) → map standing_of ms ≡ standing_all e.processes → AreCounted ms → IsFaultless e → IsHostless e → length e.processes < 2 ^ 32 → IsSound e ms
-first_sound e ms h counted faultless hostless few = record {
+pub first_sound : (e : Endpoints) (ms : List MachineView) → map standing_of ms ≡ standing_all e.processes → AreCounted ms → IsFaultless e → length e.processes < 2 ^ 32 → IsSound e ms
+first_sound e ms h counted faultless few = record {
   faultless = faultless;
-  hostless = hostless;
   few = (let l = length-standing_all e.processes in let k : length (map standing_of ms) ≡ length (standing_all e.processes) = ap length h in let i = length-map ms standing_of in omega arith);
   bound = subst (All (IsBound e)) (sym h) (first_bound e e.processes faultless.names.process_bodies);
   counted = counted;

@@ -10,7 +10,7 @@ use Rattle.endpoint_code.specs.Scheduled.{is_listed, listed_at, first_role}
 use Rattle.endpoint_machine.specs.declared.head.Head.{Head}
 use Rattle.endpoint_machine.specs.declared.head.Head.TheVariants as head
 use Rattle.endpoint_machine.specs.Bound.{IsBound}
-use Rattle.endpoint_machine.specs.Heads.{node_head, is_host}
+use Rattle.endpoint_machine.specs.Heads.{node_head}
 use Rattle.endpoint_machine.specs.Places.{StandsAt}
 use Rattle.net_core.specs.Machines.{is_join}
 
@@ -20,7 +20,6 @@ pub record Stands (e : Endpoints) (n : NetworkState) (p : ℕ) (node : CodeNode)
   pub sessions : Sessions
   pub there : slice_get n.machines p ≡ Some machine
   pub at_node : StandsAt e machine node sessions
-  pub hostless : is_host node ≡ false
   pub bound : IsBound e machine
 
 -- each process stands at a node

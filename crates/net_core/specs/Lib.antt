@@ -1,5 +1,4 @@
 pub mod Lanes
-pub mod Plain
 pub mod Machines
 pub mod Views
 pub mod Heads

@@ -2,10 +2,11 @@
 use Rattle.std.specs.Prelude.{ℕ, ◌≡◌, Bool, true, false, Option, Some, None, slice_get, slice_set, nat_lt, ℤ, is_some}
 use Rattle.chor_base.specs.declared.value.Load.{Load}
 use Rattle.chor_base.specs.declared.event.Event.{Event}
+use Rattle.chor_base.specs.Meaning.{Hosts}
 use Rattle.endpoint_code.specs.declared.code.CodeNode.{CodeNode}
 use Rattle.endpoint_code.specs.declared.code.CodeNode.TheVariants.{Join}
 use Rattle.endpoint_code.specs.declared.endpoints.Endpoints.{Endpoints}
-use Rattle.endpoint_code.specs.Network.{Machine, NetworkState, Makes, machine_makes, loads_for}
+use Rattle.endpoint_code.specs.Network.{Machine, NetworkState, Makes, machine_makes, MachineAnswers, loads_for}
 use Rattle.endpoint_machine.specs.declared.head.Head.{Head}
 use Rattle.endpoint_machine.specs.declared.head.Head.TheVariants as head
 use Rattle.endpoint_machine.specs.Acts.{taking_of}
@@ -29,9 +30,15 @@ is_join _ = false
 abbrev pub with_process : NetworkState → ℕ → MachineView → QueuesView → NetworkState
 with_process n p m q = record n { machines = slice_set n.machines p m.machine; queues = loads_in q.lanes }
 
--- a process makes this event, in each network with these queues
-abbrev pub ActsWith : Endpoints → QueuesView → MachineView → Event → QueuesView → MachineView → Type 0
-ActsWith e q m x r k = (n : NetworkState) (v : ℤ) → n.queues ≡ loads_in q.lanes → machine_makes e None n m.number v (Some m.machine) ≡ Some (Makes x (with_process n m.number k r))
+-- a process makes this event where a host function answers v, in each network with these queues
+abbrev pub MovesWith : Endpoints → ℤ → QueuesView → MachineView → Event → QueuesView → MachineView → Type 0
+MovesWith e v q m x r k = (n : NetworkState) → n.queues ≡ loads_in q.lanes → machine_makes e None n m.number v (Some m.machine) ≡ Some (Makes x (with_process n m.number k r))
+
+-- a process makes this event by an answer that it may get, in each network with these queues
+pub record ActsWith (e : Endpoints) (hosts : Hosts) (q : QueuesView) (m : MachineView) (x : Event) (r : QueuesView) (k : MachineView) : Type 0 where
+  pub answer : ℤ
+  pub allowed : MachineAnswers hosts e (Some m.machine) answer
+  pub moves : MovesWith e answer q m x r k
 
 abbrev pub fits_first : Endpoints → Machine → Option Load → Bool
 fits_first e m None = false

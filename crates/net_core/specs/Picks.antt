@@ -3,6 +3,7 @@ use Rattle.std.specs.Prelude.{ℕ, suc, ◌≡◌, ◌≢◌, ◌++◌, false, L
 use Rattle.chor_base.specs.declared.event.Event.{Event}
 use Rattle.chor_base.specs.declared.event.Entry.{Entry}
 use Rattle.chor_base.specs.declared.event.Why.{Why}
+use Rattle.chor_base.specs.Meaning.{Hosts}
 use Rattle.endpoint_code.specs.declared.endpoints.Endpoints.{Endpoints}
 use Rattle.endpoint_code.specs.Network.{NetworkState}
 use Rattle.endpoint_code.specs.NetworkRuns.{all_ended}
@@ -24,46 +25,46 @@ abbrev pub entries_of : List Event → List Entry
 entries_of xs = map (λ x. record { worker = 0; event = x }) xs
 
 -- From a state after so many events, these events follow by the pick rule and lead to a state, whether or not the run is closed there
-pub data GoesOn (e : Endpoints) (seed steps : ℕ) : NetworkState → ℕ → List Event → NetworkState → Type 0 where
-  stays : {n : NetworkState} {events : ℕ} → GoesOn e seed steps n events [] n
+pub data GoesOn (e : Endpoints) (hosts : Hosts) (seed steps : ℕ) : NetworkState → ℕ → List Event → NetworkState → Type 0 where
+  stays : {n : NetworkState} {events : ℕ} → GoesOn e hosts seed steps n events [] n
   goes : {n m last : NetworkState} {events p : ℕ} {x : Event} {xs : List Event}
       → all_ended e n.machines ≡ false
       → events ≢ steps
       → picked e None seed events n ≡ Some p
-      → Chooses e [] None n p x m
-      → GoesOn e seed steps m (suc events) xs last
-      → GoesOn e seed steps n events (x ∷ xs) last
+      → Chooses e hosts None n p x m
+      → GoesOn e hosts seed steps m (suc events) xs last
+      → GoesOn e hosts seed steps n events (x ∷ xs) last
 
 -- the history has grown by the scheduled run that is closed like this
-pub record HasRun (seed steps : ℕ) (old new : NetworkView) (c : Close) : Type 0 where
+pub record HasRun (hosts : Hosts) (seed steps : ℕ) (old new : NetworkView) (c : Close) : Type 0 where
   pub events : List Event
   pub endpoints : new.endpoints ≡ old.endpoints
   pub history : new.history ≡ old.history ++ entries_of events
-  pub run : IsScheduled old.endpoints [] None seed steps old.state (length old.history) events new.state c
+  pub run : IsScheduled old.endpoints hosts None seed steps old.state (length old.history) events new.state c
 
 -- the history has grown by events of the scheduled run
-pub record HasGone (seed steps : ℕ) (old new : NetworkView) : Type 0 where
+pub record HasGone (hosts : Hosts) (seed steps : ℕ) (old new : NetworkView) : Type 0 where
   pub events : List Event
   pub endpoints : new.endpoints ≡ old.endpoints
   pub history : new.history ≡ old.history ++ entries_of events
-  pub run : GoesOn old.endpoints seed steps old.state (length old.history) events new.state
+  pub run : GoesOn old.endpoints hosts seed steps old.state (length old.history) events new.state
 
 -- What a scheduled run answers. Where there was no memory the events made so far stand
-abbrev pub Runs : ℕ → ℕ → NetworkView → Picked → NetworkView → Type 0
-Runs seed steps old Ended new = HasRun seed steps old new close.Ended
-Runs seed steps old Limit new = HasRun seed steps old new close.Limit
-Runs seed steps old (Stuck p why) new = HasRun seed steps old new (close.Stuck p why)
-Runs seed steps old Memory new = HasGone seed steps old new
+abbrev pub Runs : Hosts → ℕ → ℕ → NetworkView → Picked → NetworkView → Type 0
+Runs hosts seed steps old Ended new = HasRun hosts seed steps old new close.Ended
+Runs hosts seed steps old Limit new = HasRun hosts seed steps old new close.Limit
+Runs hosts seed steps old (Stuck p why) new = HasRun hosts seed steps old new (close.Stuck p why)
+Runs hosts seed steps old Memory new = HasGone hosts seed steps old new
 
 -- ---- one turn
 
 -- one more event by the pick rule
-pub record HasTurned (seed steps : ℕ) (old new : NetworkView) : Type 0 where
+pub record HasTurned (hosts : Hosts) (seed steps : ℕ) (old new : NetworkView) : Type 0 where
   pub process : ℕ
   pub open_still : all_ended old.endpoints old.state.machines ≡ false
   pub before : length old.history ≢ steps
   pub pick : picked old.endpoints None seed (length old.history) old.state ≡ Some process
-  pub step : HasStepped old process new
+  pub step : HasStepped hosts old process new
   pub grown : HasGrown old new
 
 -- the run is closed, and nothing has changed but room
@@ -72,12 +73,12 @@ pub record HasClosed (steps : ℕ) (old new : NetworkView) (c : Close) : Type 0 
   pub closes : Closes old.endpoints None steps old.state (length old.history) c
 
 -- what one turn of a scheduled run answers
-abbrev pub Turns : ℕ → ℕ → NetworkView → Option Picked → NetworkView → Type 0
-Turns seed steps old None new = HasTurned seed steps old new
-Turns seed steps old (Some Ended) new = HasClosed steps old new close.Ended
-Turns seed steps old (Some Limit) new = HasClosed steps old new close.Limit
-Turns seed steps old (Some (Stuck p why)) new = HasClosed steps old new (close.Stuck p why)
-Turns seed steps old (Some Memory) new = IsSame old new
+abbrev pub Turns : Hosts → ℕ → ℕ → NetworkView → Option Picked → NetworkView → Type 0
+Turns hosts seed steps old None new = HasTurned hosts seed steps old new
+Turns hosts seed steps old (Some Ended) new = HasClosed steps old new close.Ended
+Turns hosts seed steps old (Some Limit) new = HasClosed steps old new close.Limit
+Turns hosts seed steps old (Some (Stuck p why)) new = HasClosed steps old new (close.Stuck p why)
+Turns hosts seed steps old (Some Memory) new = IsSame old new
 
 -- the first process that hasn't ended waits for this cause
 abbrev pub IsStuck : Endpoints → NetworkState → Picked → Type 0

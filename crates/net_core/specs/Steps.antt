@@ -3,6 +3,7 @@ use Rattle.std.specs.Prelude.{ℕ, suc, ◌≡◌, ◌+◌, ◌*◌, ◌^◌, �
 use Rattle.chor_base.specs.declared.names.NameId.{NameId}
 use Rattle.chor_base.specs.declared.event.Event.{Event}
 use Rattle.chor_base.specs.declared.event.Event.TheVariants as event
+use Rattle.chor_base.specs.Meaning.{Hosts}
 use Rattle.endpoint_code.specs.Network.{Machine, NetworkState, served_parts}
 use Rattle.endpoint_code.specs.Scheduled.{Chooses}
 use Rattle.endpoint_code.specs.declared.endpoints.Channel.{Channel}
@@ -13,11 +14,11 @@ use Rattle.net_core.specs.Views.{NetworkView, Becomes, IsSame, IsReserved}
 use Rattle.session_starts.specs.Starts.{HasStarted}
 
 -- a process has made one event, with the least partners where it starts a session
-pub record HasStepped (old : NetworkView) (p : ℕ) (new : NetworkView) : Type 0 where
+pub record HasStepped (hosts : Hosts) (old : NetworkView) (p : ℕ) (new : NetworkView) : Type 0 where
   pub event : Event
   pub state : NetworkState
   pub becomes : Becomes old new event state
-  pub chooses : Chooses old.endpoints [] None old.state p event state
+  pub chooses : Chooses old.endpoints hosts None old.state p event state
 
 -- a session has started on a channel with these parts, and with new processes for the service roles
 pub record HasBegun (old : NetworkView) (k : Channel) (parts : List (NameId × ℕ)) (new : NetworkView) : Type 0 where
@@ -46,8 +47,8 @@ pub record FitsMore (v : NetworkView) (events : ℕ) : Type 0 where
 
 -- What a step of a process answers: it did one event; or it waits for this cause; or it has ended; or there was no memory,
 -- which never comes where there is room for its event and it doesn't join. Other answers than Did change no more than room
-abbrev pub Answers : NetworkView → ℕ → Step → NetworkView → Type 0
-Answers old p Did new = (steps_at old.endpoints old.state p ≡ true) × HasStepped old p new × HasGrown old new
-Answers old p (Waits why) new = (why_at old.endpoints old.state p ≡ Some why) × IsSame old new
-Answers old p Ended new = (ended_at old.endpoints old.state p ≡ true) × IsSame old new
-Answers old p Memory new = (steps_at old.endpoints old.state p ≡ true) × (IsReserved old p → joins_at_all old.endpoints old.state p ≡ true) × IsSame old new
+abbrev pub Answers : Hosts → NetworkView → ℕ → Step → NetworkView → Type 0
+Answers hosts old p Did new = (steps_at old.endpoints old.state p ≡ true) × HasStepped hosts old p new × HasGrown old new
+Answers hosts old p (Waits why) new = (why_at old.endpoints old.state p ≡ Some why) × IsSame old new
+Answers hosts old p Ended new = (ended_at old.endpoints old.state p ≡ true) × IsSame old new
+Answers hosts old p Memory new = (steps_at old.endpoints old.state p ≡ true) × (IsReserved old p → joins_at_all old.endpoints old.state p ≡ true) × IsSame old new

@@ -9,7 +9,6 @@ use Rattle.endpoint_machine.specs.Bound.{IsBound}
 use Rattle.endpoint_machine.specs.Heads.{head_of}
 use Rattle.endpoint_machine.specs.Views.{MachineView}
 use Rattle.net_core.specs.Lanes.{QueuesView, loads_in}
-use Rattle.net_core.specs.Plain.{IsHostless}
 use Rattle.session_starts.specs.Machines.{standing_of, is_reserved, AreCounted}
 use Rattle.net_core.specs.Machines.{has_queue_room}
 
@@ -48,7 +47,6 @@ has_room e entries q m = nat_lt 0 entries && (is_reserved e m && has_queue_room 
 -- the programs are without fault, there are fewer than 2^32 processes, each knows its sessions and its number
 pub record IsSound (e : Endpoints) (machines : List MachineView) : Type 0 where
   pub faultless : IsFaultless e
-  pub hostless : IsHostless e
   pub few : length machines < 2 ^ 32
   pub bound : All (IsBound e) (map standing_of machines)
   pub counted : AreCounted machines

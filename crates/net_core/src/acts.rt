@@ -1,18 +1,21 @@
 //! What a process of a network does by itself.
 
-ghost use Rattle.std.specs.Prelude.{◌≡◌, ◌≤◌, Some, true, false, OnOk, IsOk, slice_get};
+ghost use Rattle.std.specs.Prelude.{◌≡◌, ◌≤◌, Some, true, false, OnOk, IsOk, slice_get, ℤ};
 ghost use Rattle.chor_base.specs.Events.{Triple};
-ghost use Rattle.endpoint_code.specs.Faults.{IsFaultless};
+ghost use Rattle.chor_host.specs.Functions.{hosts_in, names_of};
+ghost use Rattle.chor_host.specs.Tables.{functions_of};
+ghost use Rattle.endpoint_code.specs.Faults.{IsFaultless, IsFaultlessWith};
 ghost use Rattle.endpoint_code.specs.Network.{loads_for};
 ghost use Rattle.endpoint_machine.specs.declared.head.Head.TheVariants as head;
 ghost use Rattle.endpoint_machine.specs.Bound.{IsBound};
-ghost use Rattle.endpoint_machine.specs.Heads.{head_of, asks_host};
+ghost use Rattle.endpoint_machine.specs.Heads.{head_of};
 ghost use Rattle.net_core.specs.Lanes.{loads_in, room_on};
 ghost use Rattle.session_starts.specs.Machines.{is_reserved};
-ghost use Rattle.net_core.specs.Machines.{has_queue_room, fits_first, can_act, ActsWith};
+ghost use Rattle.net_core.specs.Machines.{has_queue_room, fits_first, can_act, ActsWith, MovesWith};
 
 use crate::queues::Queues;
 use chor_base::{Event, Memory, NameId};
+use chor_host::HostTable;
 use endpoint_code::Endpoints;
 use endpoint_machine::{Head, Machine};
 
@@ -55,7 +58,7 @@ fn send(
     requires queue { 1 ≤ room_on queues.old lane }
     ensures number { machine.new.number ≡ machine.old.number }
     ensures bound { IsBound endpoints.now machine.new.machine }
-    ensures acts { ActsWith endpoints.now queues.old machine.old result queues.new machine.new }
+    ensures moves { (v : ℤ) → MovesWith endpoints.now v queues.old machine.old result queues.new machine.new }
 {
     let (sid, from, to) = lane;
     let load = machine.outgoing(endpoints);
@@ -84,7 +87,7 @@ fn receive(
     requires fits { fits_first endpoints.now machine.old.machine (slice_get (loads_for (loads_in queues.old.lanes) lane) 0) ≡ true }
     ensures number { machine.new.number ≡ machine.old.number }
     ensures bound { IsBound endpoints.now machine.new.machine }
-    ensures acts { ActsWith endpoints.now queues.old machine.old result queues.new machine.new }
+    ensures moves { (v : ℤ) → MovesWith endpoints.now v queues.old machine.old result queues.new machine.new }
 {
     let (sid, from, to) = lane;
     let Some(load) = queues.first(sid, from, to) else {
@@ -102,22 +105,27 @@ fn receive(
 }
 
 /// Does what a process with this head does by itself, and tells the event.
-pub fn act(endpoints: &Endpoints, machine: &mut Machine, head: Head, queues: &mut Queues) -> Event
-    requires faultless { IsFaultless endpoints.now }
+pub fn act(
+    endpoints: &Endpoints,
+    hosts: &HostTable,
+    machine: &mut Machine,
+    head: Head,
+    queues: &mut Queues,
+) -> Event
+    requires faultless { IsFaultlessWith (names_of (functions_of hosts.now)) endpoints.now }
     requires bound { IsBound endpoints.now machine.old.machine }
-    requires hostless { asks_host endpoints.now machine.old.machine ≡ false }
     requires head { head_of endpoints.now machine.old.machine ≡ Some head }
     requires room { is_reserved endpoints.now machine.old ≡ true }
     requires queue { has_queue_room queues.old (Some head) ≡ true }
     requires goes { can_act endpoints.now queues.old machine.old head ≡ true }
     ensures number { machine.new.number ≡ machine.old.number }
     ensures bound { IsBound endpoints.now machine.new.machine }
-    ensures acts { ActsWith endpoints.now queues.old machine.old result queues.new machine.new }
+    ensures acts { ActsWith endpoints.now (hosts_in endpoints.now.names (functions_of hosts.now)) queues.old machine.old result queues.new machine.new }
 {
     match head {
         Head::Out(sid, from, to) => send(endpoints, machine, (sid, from, to), queues),
         Head::Take(sid, from, to) => receive(endpoints, machine, (sid, from, to), queues),
-        Head::Local => machine.local_step(endpoints),
+        Head::Local => machine.local_step(endpoints, hosts),
         Head::Join(_, _) => unreachable!(),
         Head::Ended => unreachable!(),
     }

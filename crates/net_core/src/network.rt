@@ -2,11 +2,13 @@
 
 ghost use Rattle.std.specs.Prelude.{◌≡◌, ◌<◌, ◌^◌, [], length, All, IfOk, OnOk, OnErr, IsTrue, ◌↔◌, Some, None, slice_get, IfSome, vec_len, vec_capacity, ◌++◌, ◌∷◌, true, false, ℕ, IsOk, not, ◌||◌, ◌==◌, ◌+◌};
 ghost use Rattle.std.specs.Prelude.{map};
+ghost use Rattle.chor_base.specs.Meaning.{Hosts};
+ghost use Rattle.chor_host.specs.Functions.{hosts_in, names_of};
+ghost use Rattle.chor_host.specs.Tables.{functions_of};
 ghost use Rattle.endpoint_code.specs.Network.{first_state, channel_of};
 ghost use Rattle.endpoint_code.specs.NetworkRuns.{all_ended, absent_among, absent_on, is_joined};
 ghost use Rattle.endpoint_code.specs.Scheduled.{least_joiner};
-ghost use Rattle.endpoint_code.specs.Faults.{IsFaultless};
-ghost use Rattle.net_core.specs.Plain.{IsHostless};
+ghost use Rattle.endpoint_code.specs.Faults.{IsFaultless, AsksKnown, is_listed};
 ghost use Rattle.endpoint_machine.specs.declared.head.Head.TheVariants as head;
 ghost use Rattle.net_core.specs.Views.{IsSame, IsReserved};
 ghost use Rattle.net_core.specs.Steps.{HasStepped, HasBegun, HasGrown, FitsMore, Answers};
@@ -19,6 +21,7 @@ use crate::answer::Step;
 use crate::parts::{append, channel_named, standing_all};
 use crate::queues::Queues;
 use chor_base::{Entry, Event, List, Memory, NameId, Why};
+use chor_host::HostTable;
 use endpoint_code::{Channel, Endpoints};
 use endpoint_machine::{Head, Machine};
 use session_starts::start_session;
@@ -57,8 +60,7 @@ impl<'a> Model for Network<'a> {
 impl<'a> Network<'a> {
     /// The first state: each process at its body, and no event yet.
     pub fn new(alloc: Global, endpoints: &'a Endpoints) -> Result<Network<'a>, Memory>
-        requires faultless { IsFaultless endpoints.now }
-        requires hostless { IsHostless endpoints.now }
+        requires { IsFaultless endpoints.now }
         ensures endpoints { IfOk result (λ network. network.endpoints ≡ endpoints.now) }
         ensures state { IfOk result (λ network. network.state ≡ first_state endpoints.now) }
         ensures history { IfOk result (λ network. network.history ≡ []) }
@@ -244,18 +246,19 @@ impl<'a> Network<'a> {
     }
 
     // Makes the event of a process that can step and doesn't join.
-    fn act(&mut self, pid: u32)
+    fn act(&mut self, pid: u32, hosts: &HostTable)
         requires there { pid < length self.old.state.machines }
+        requires hosts { AsksKnown (is_listed (names_of (functions_of hosts.now)) self.old.endpoints) self.old.endpoints }
         requires steps { steps_at self.old.endpoints self.old.state pid ≡ true }
         requires alone { joins_at_all self.old.endpoints self.old.state pid ≡ false }
         requires room { IsReserved self.old pid }
-        ensures stepped { HasStepped self.old pid self.new }
+        ensures stepped { HasStepped (hosts_in self.old.endpoints.names (functions_of hosts.now)) self.old pid self.new }
         ensures grown { HasGrown self.old self.new }
     {
         let head = self.head(pid);
         let endpoints = self.endpoints;
         let machine = &mut self.machines[pid as usize];
-        let event = act(endpoints, machine, head, &mut self.queues);
+        let event = act(endpoints, hosts, machine, head, &mut self.queues);
         append(&mut self.history, event);
     }
 
@@ -268,10 +271,11 @@ impl<'a> Network<'a> {
     }
 
     /// One step of a process. A start takes the least process that joins in each other active role.
-    pub fn step(&mut self, pid: u32) -> Step
+    pub fn step(&mut self, pid: u32, hosts: &HostTable) -> Step
         requires there { pid < length self.old.state.machines }
+        requires hosts { AsksKnown (is_listed (names_of (functions_of hosts.now)) self.old.endpoints) self.old.endpoints }
         requires fits { FitsMore self.old 1 }
-        ensures { Answers self.old pid result self.new }
+        ensures { Answers (hosts_in self.old.endpoints.names (functions_of hosts.now)) self.old pid result self.new }
     {
         if self.ended(pid) {
             return Step::Ended;
@@ -279,18 +283,19 @@ impl<'a> Network<'a> {
         if let Some(why) = self.waiting(pid) {
             return Step::Waits(why);
         }
-        match self.go(pid) {
+        match self.go(pid, hosts) {
             Ok(()) => Step::Did,
             Err(_) => Step::Memory,
         }
     }
 
     // The event of a process that can step.
-    fn go(&mut self, pid: u32) -> Result<(), Memory>
+    fn go(&mut self, pid: u32, hosts: &HostTable) -> Result<(), Memory>
         requires there { pid < length self.old.state.machines }
+        requires hosts { AsksKnown (is_listed (names_of (functions_of hosts.now)) self.old.endpoints) self.old.endpoints }
         requires fits { FitsMore self.old 1 }
         requires steps { steps_at self.old.endpoints self.old.state pid ≡ true }
-        ensures ok { OnOk result (HasStepped self.old pid self.new) }
+        ensures ok { OnOk result (HasStepped (hosts_in self.old.endpoints.names (functions_of hosts.now)) self.old pid self.new) }
         ensures grown { OnOk result (HasGrown self.old self.new) }
         ensures room { OnErr result (IsReserved self.old pid → joins_at_all self.old.endpoints self.old.state pid ≡ true) }
         ensures same { OnErr result (IsSame self.old self.new) }
@@ -299,7 +304,7 @@ impl<'a> Network<'a> {
             return self.start(pid);
         }
         self.reserve(pid)?;
-        self.act(pid);
+        self.act(pid, hosts);
         Ok(())
     }
 
@@ -341,7 +346,7 @@ impl<'a> Network<'a> {
         requires steps { steps_at self.old.endpoints self.old.state pid ≡ true }
         requires joins { joins_at_all self.old.endpoints self.old.state pid ≡ true }
         requires fits { FitsMore self.old 1 }
-        ensures ok { OnOk result (HasStepped self.old pid self.new) }
+        ensures ok { OnOk result ((hosts : Hosts) → HasStepped hosts self.old pid self.new) }
         ensures grown { OnOk result (HasGrown self.old self.new) }
         ensures err { OnErr result (IsSame self.old self.new) }
     {

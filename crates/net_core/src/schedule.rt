@@ -1,6 +1,9 @@
 //! Runs by the pick rule.
 
 ghost use Rattle.std.specs.Prelude.{◌≡◌, ◌≢◌, ◌<◌, ◌≤◌, ◌+◌, ◌-◌, ◌%◌, ◌^◌, [], length, None, Some, ◌↔◌, true, false, slice_get};
+ghost use Rattle.chor_host.specs.Functions.{hosts_in, names_of};
+ghost use Rattle.chor_host.specs.Tables.{functions_of};
+ghost use Rattle.endpoint_code.specs.Faults.{AsksKnown, is_listed};
 ghost use Rattle.endpoint_code.specs.NetworkRuns.{all_ended, none_can_step};
 ghost use Rattle.endpoint_code.specs.Scheduled.{listed, picked, first_waiting};
 ghost use Rattle.net_core.specs.Steps.{FitsMore};
@@ -8,6 +11,7 @@ ghost use Rattle.net_core.specs.Picks.{waiting_at, Runs, Turns, IsStuck};
 
 use crate::answer::{Picked, Step};
 use crate::network::Network;
+use chor_host::HostTable;
 
 // The place of what the seed picks among so many after so many events.
 fn place_of_pick(seed: u64, events: u64, count: u64) -> u64
@@ -102,10 +106,11 @@ impl Network<'_> {
     }
 
     // One event of a scheduled run, unless it is closed.
-    fn turn(&mut self, seed: u64, steps: u64) -> Option<Picked>
+    fn turn(&mut self, hosts: &HostTable, seed: u64, steps: u64) -> Option<Picked>
+        requires hosts { AsksKnown (is_listed (names_of (functions_of hosts.now)) self.old.endpoints) self.old.endpoints }
         requires seed { seed < 2 ^ 32 }
         requires fits { length self.old.history ≢ steps → FitsMore self.old 1 }
-        ensures { Turns seed steps self.old result self.new }
+        ensures { Turns (hosts_in self.old.endpoints.names (functions_of hosts.now)) seed steps self.old result self.new }
     {
         if self.finished() {
             return Some(Picked::Ended);
@@ -116,7 +121,7 @@ impl Network<'_> {
         let Some(pid) = self.pick(seed) else {
             return Some(self.stuck());
         };
-        match self.step(pid) {
+        match self.step(pid, hosts) {
             Step::Did => None,
             Step::Memory => Some(Picked::Memory),
             Step::Waits(_) => unreachable!(),
@@ -126,15 +131,16 @@ impl Network<'_> {
 
     /// Goes on by the pick rule until every process has ended, there are as many events as asked
     /// for, or no process can step. After `Memory` the events made so far stand.
-    pub fn run_picked(&mut self, seed: u64, steps: u64) -> Picked
+    pub fn run_picked(&mut self, hosts: &HostTable, seed: u64, steps: u64) -> Picked
+        requires hosts { AsksKnown (is_listed (names_of (functions_of hosts.now)) self.old.endpoints) self.old.endpoints }
         requires seed { seed < 2 ^ 32 }
         requires few { steps ≤ 1000000 }
         requires before { length self.old.history ≤ steps }
         requires fits { FitsMore self.old (steps - length self.old.history) }
-        ensures { Runs seed steps self.old result self.new }
+        ensures { Runs (hosts_in self.old.endpoints.names (functions_of hosts.now)) seed steps self.old result self.new }
     {
         loop {
-            if let Some(picked) = self.turn(seed, steps) {
+            if let Some(picked) = self.turn(hosts, seed, steps) {
                 return picked;
             }
         }

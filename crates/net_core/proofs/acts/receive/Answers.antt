@@ -12,8 +12,8 @@ use Rattle.net_core.proofs.acts.receive.Goals as goal
 pub receive-requires-clause-fits : goal.receive-requires-clause-fits
 receive-requires-clause-fits c = ap (fits_first c.args.endpoints.now c.args.machine.now.machine) c.in-Some.ensures ∙ c.requires.fits
 
-pub returns-clause-acts : goal.returns-clause-acts
-returns-clause-acts c = λ n v h.
+pub returns-clause-moves : goal.returns-clause-moves
+returns-clause-moves c = λ v n h.
     let t : Triple = c.args.lane in
     let l = c.in-Some.load in
     let m = c.receive.new.self in

@@ -7,8 +7,8 @@ use Rattle.endpoint_code.specs.Network.{NetworkState, Makes, with_loads, loads_f
 use Rattle.net_core.specs.Lanes.{loads_in}
 use Rattle.net_core.proofs.acts.send.Goals as goal
 
-pub returns-clause-acts : goal.returns-clause-acts
-returns-clause-acts c = λ n v h.
+pub returns-clause-moves : goal.returns-clause-moves
+returns-clause-moves c = λ v n h.
     let t : Triple = c.args.lane in
     let l = c.outgoing-load.result in
     let m = c.sent.new.self in

@@ -3,6 +3,7 @@ use Rattle.std.specs.Option.{option_copied}
 use Rattle.endpoint_code.specs.declared.endpoints.Channel.{Channel}
 use Rattle.endpoint_code.specs.Network.{channel_of}
 use Rattle.endpoint_code.specs.Faults.{IsFaultless}
+use Rattle.chor_base.specs.Meaning.{Hosts}
 use Rattle.chor_base.specs.declared.names.NameId.{NameId}
 use Rattle.session_starts.specs.Starts.{AllJoin}
 use Rattle.net_core.specs.Starts.{IsCast}
@@ -58,12 +59,12 @@ returns-clause-ok c =
     subst (λ (rs : List NameId). IsCast v.endpoints v.state.machines c.in-Join.channel c.args.pid c.in-Join.own rs c.in_ok-parts.parts) c.as_slice-2.ensures c.in_ok-parts.ensures
     in
     on_ok c.begin.result
-    (λ (h : HasBegun c.args.self.now k c.in_ok-parts.parts c.begin.new.self).
+    (λ (h : HasBegun c.args.self.now k c.in_ok-parts.parts c.begin.new.self) (hosts : Hosts).
     record {
       event = _;
       state = _;
       becomes = h.becomes;
-      chooses = begins v.endpoints v.state c.args.pid c.in-Join.channel c.in-Join.own t.0 t.1 k c.in_ok-parts.parts h.machines t.2 found cast h.started;
+      chooses = begins v.endpoints hosts v.state c.args.pid c.in-Join.channel c.in-Join.own t.0 t.1 k c.in_ok-parts.parts h.machines t.2 found cast h.started;
     })
     c.begin.ensures.ok
 
