@@ -1,2 +1,3 @@
 mod Found
 mod Answered
+pub mod Tables

@@ -1,12 +1,14 @@
 //! The scheduled run of endpoint programs.
 
-ghost use Rattle.std.specs.Prelude.{◌≡◌, ◌<◌, ◌≤◌, ◌^◌, [], Some, IfOk};
-ghost use Rattle.endpoint_code.specs.Faults.{IsFaultless};
-ghost use Rattle.net_core.specs.Plain.{IsHostless};
+ghost use Rattle.std.specs.Prelude.{◌≡◌, ◌<◌, ◌≤◌, ◌^◌, Some, IfOk};
+ghost use Rattle.chor_host.specs.Functions.{names_of, hosts_in};
+ghost use Rattle.chor_host.specs.Tables.{functions_of};
+ghost use Rattle.endpoint_code.specs.Faults.{IsFaultlessWith};
 ghost use Rattle.endpoint_runs.specs.Runs.{IsRun, close_of, close_by};
 
 use crate::few::are_few;
 use chor_base::{Entry, List, Memory, Why};
+use chor_host::HostTable;
 use endpoint_code::Endpoints;
 use net_core::{Network, Picked};
 use std::alloc::Global;
@@ -30,25 +32,26 @@ pub struct Ran {
 }
 
 /// The run of endpoint programs by the pick rule with this seed, from their first state until every
-/// process has ended, there are as many events as asked for, or no process can step.
+/// process has ended, there are as many events as asked for, or no process can step. The programs may
+/// ask these host functions.
 #[tactic(auto, using(crate::proofs::Runs::run_is))]
 pub fn run_endpoints(
     alloc: Global,
     endpoints: &Endpoints,
+    hosts: &HostTable,
     seed: u64,
     steps: u64,
 ) -> Result<Ran, Memory>
-    requires faultless { IsFaultless endpoints.now }
-    requires hostless { IsHostless endpoints.now }
+    requires faultless { IsFaultlessWith (names_of (functions_of hosts.now)) endpoints.now }
     requires seed { seed < 2 ^ 32 }
     requires few { steps ≤ 1000000 }
-    ensures { IfOk result (λ ran. IsRun endpoints.now [] seed steps ran.history (close_of ran.closed)) }
+    ensures { IfOk result (λ ran. IsRun endpoints.now (hosts_in endpoints.now.names (functions_of hosts.now)) seed steps ran.history (close_of ran.closed)) }
 {
     if !are_few(endpoints) {
         return Err(Memory);
     }
     let mut network = Network::new(alloc, endpoints)?;
-    let closed = closed_by(network.run_picked(seed, steps))?;
+    let closed = closed_by(network.run_picked(hosts, seed, steps))?;
     let history = entries(alloc, network.history())?;
     Ok(Ran { history, closed })
 }

@@ -1,16 +1,24 @@
 -- The run of a network of an accepted file's endpoint programs.
-use Rattle.std.proofs.Common.{◌≡◌, ℕ, List, None, inl, inr, subst}
+use Rattle.std.proofs.Common.{◌≡◌, ℕ, Bool, true, List, [], ◌∷◌, None, inl, inr, subst}
+use Rattle.std.specs.Prelude.{All}
+use Rattle.std.specs.List.{list_all}
+use Rattle.std.proofs.lemmas.List.Elements.{All-nil, All-cons}
+use Rattle.chor_base.specs.declared.names.NameId.{NameId}
 use Rattle.chor_base.specs.declared.event.Event.{Event}
 use Rattle.chor_base.specs.declared.event.Entry.{Entry}
 use Rattle.chor_base.specs.Meaning.{Hosts}
+use Rattle.chor_host.specs.Functions.{Function, hosts_in}
 use Rattle.chor_tree.specs.declared.file.File.{File}
 use Rattle.endpoint_code.specs.declared.endpoints.Endpoints.{Endpoints}
+use Rattle.endpoint_code.specs.declared.code.CodeNode.{CodeNode}
+use Rattle.endpoint_code.specs.Faults.{AsksKnown, asks_known}
 use Rattle.endpoint_code.specs.Network.{NetworkState, first_state}
 use Rattle.endpoint_code.specs.NetworkRuns.{IsNetworkRun}
 use Rattle.endpoint_code.specs.Scheduled.{Close, IsScheduled}
 use Rattle.endpoint_code.proofs.Chosen.{scheduled_leads}
 use Rattle.endpoint_code.proofs.Fifo.{network_fifo}
 use Rattle.well_formed.specs.Asked.{IsAnswered}
+use Rattle.well_formed.proofs.References.{and_first, and_second}
 use Rattle.type_check.specs.Typed.{IsFine}
 use Rattle.endpoint_runs.specs.declared.run.Closed.{Closed}
 use Rattle.endpoint_runs.specs.Runs.{IsRun, close_of as closing_of}
@@ -28,10 +36,23 @@ checked words f e fine a = record {
   ordered = λ x h. a.linear x (inr h);
 }
 
+-- each function that the code asks is known
+pub asked : (known : NameId → Bool) (e : Endpoints) → list_all (asks_known known) e.code.nodes ≡ true → AsksKnown known e
+asked known e h = go e.code.nodes h
+  where
+    go : (ns : List CodeNode) → list_all (asks_known known) ns ≡ true → All (λ n. asks_known known n ≡ true) ns
+    go [] p = All-nil (λ n. asks_known known n ≡ true)
+    go (n ∷ ns) p =
+        All-cons (λ n. asks_known known n ≡ true) n ns (and_first (asks_known known n) (list_all (asks_known known) ns) p)
+        (go ns (and_second (asks_known known n) (list_all (asks_known known) ns) p))
+
 -- ---- the run
 
-module _ (f : File) (words : List (List ℕ)) (e : Endpoints) (ok : IsChecked f words) (a : IsAccepted f e) (hosts : Hosts) (answered : IsAnswered f hosts)
+module _ (f : File) (words : List (List ℕ)) (e : Endpoints) (ok : IsChecked f words) (a : IsAccepted f e) (functions : List Function) (answered : IsAnswered f (hosts_in f.names functions))
     (closing : ScheduledRunsClose) (conforming : laws.NetworkRunsConform) where
+  abbrev hosts : Hosts
+  hosts = hosts_in f.names functions
+
   run_of : (seed steps : ℕ) (h : List Event) (last : NetworkState) (c : Close) → IsScheduled e hosts None seed steps (first_state e) 0 h last c → IsRunOf f e hosts seed steps h c
   run_of seed steps h last c run =
       let leads : IsNetworkRun e hosts None h last = scheduled_leads e hosts None seed steps h (first_state e) last 0 c run in
@@ -44,10 +65,11 @@ module _ (f : File) (words : List (List ℕ)) (e : Endpoints) (ok : IsChecked f 
         conform = conforming f words ok e a.projects hosts None h last leads;
       }
 
-  -- an accepted file's run, which is closed in one of two ways, with its endpoint programs under another name
-  pub outcome_of : (seed steps : ℕ) (entries : List Entry) (closed is : Closed) → IsRun e hosts seed steps entries (closing_of closed) → closed ≡ is
+  -- an accepted file's run, which is closed so, with its endpoint programs under another name
+  pub outcome_of : (seed steps : ℕ) (entries : List Entry) (closed is : Closed) → IsRun e (hosts_in e.names functions) seed steps entries (closing_of closed) → closed ≡ is
       → (programs : Endpoints) → e ≡ programs → IsOutcome f programs hosts seed steps entries (closing_of is)
   outcome_of seed steps entries closed is run same programs e-is =
-      let r = subst (λ (k : Closed). IsRun e hosts seed steps entries (closing_of k)) same run in
+      let asked = subst (λ (names : List (List ℕ)). IsRun e (hosts_in names functions) seed steps entries (closing_of closed)) a.projects.names run in
+      let r = subst (λ (k : Closed). IsRun e hosts seed steps entries (closing_of k)) same asked in
       subst (λ (x : Endpoints). IsOutcome f x hosts seed steps entries (closing_of is)) e-is
       (record { history = r.history; entries_are = r.entries_are; run = run_of seed steps r.history r.last (closing_of is) r.scheduled })

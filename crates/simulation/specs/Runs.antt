@@ -13,6 +13,9 @@ use Rattle.net_core.specs.Picks.{entries_of}
 use Rattle.conforming_runs.specs.History.{SessionsConform}
 use Rattle.typed_nodes.specs.Stands.{kind_in, states_in}
 use Rattle.scheduled_runs.specs.Laws.{ClosesWell}
+use Rattle.chor_host.specs.Functions.{Function, hosts_in}
+use Rattle.simulation.specs.declared.running.Outcome.{Outcome}
+use Rattle.simulation.specs.Accepted.{AcceptedView}
 
 -- the run has come to its end, or to as many events as were asked for
 abbrev pub close_of : Bool → Close
@@ -34,3 +37,7 @@ pub record IsOutcome (f : File) (e : Endpoints) (hosts : Hosts) (seed steps : �
   pub history : List Event
   pub entries_are : entries ≡ entries_of history
   pub run : IsRunOf f e hosts seed steps history close
+
+-- so it is with what is answered for an accepted file, where these host functions are there
+abbrev pub IsOutcomeOf : AcceptedView → List Function → ℕ → ℕ → Outcome → Type 0
+IsOutcomeOf a functions seed steps outcome = IsOutcome a.typed.file a.endpoints (hosts_in a.typed.file.names functions) seed steps outcome.history (close_of outcome.ended)

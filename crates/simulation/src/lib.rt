@@ -2,6 +2,7 @@
 #![tactic(auto)]
 
 mod accepted;
+mod asking;
 mod running;
 
 pub use accepted::{Accepted, accept};

@@ -1,17 +1,18 @@
 //! Running an accepted source.
 
-ghost use Rattle.std.specs.Prelude.{◌≡◌, ◌<◌, ◌≤◌, ◌^◌, [], true, false, All, IfOk, length};
-ghost use Rattle.std.specs.List.{list_all};
-ghost use Rattle.endpoint_code.specs.Faults.{asks_known};
+ghost use Rattle.std.specs.Prelude.{◌≡◌, ◌<◌, ◌≤◌, ◌^◌, IfOk};
+ghost use Rattle.chor_host.specs.Functions.{names_of, hosts_in};
+ghost use Rattle.chor_host.specs.Tables.{functions_of};
 ghost use Rattle.well_formed.specs.Asked.{IsAnswered};
 ghost use Rattle.faultless_projections.specs.Laws.{ProjectionIsFaultless};
 ghost use Rattle.accepted_files.specs.Accepted.{NetworkRunsConform};
 ghost use Rattle.scheduled_runs.specs.Laws.{ScheduledRunsClose};
-ghost use Rattle.simulation.specs.Runs.{IsOutcome, close_of};
+ghost use Rattle.simulation.specs.Runs.{IsOutcomeOf};
 
 use crate::accepted::Accepted;
+use crate::asking::asks_known;
 use chor_base::{Entry, List, Memory};
-use endpoint_code::CodeNode;
+use chor_host::HostTable;
 use endpoint_runs::{Closed, run_endpoints};
 use std::alloc::Global;
 
@@ -23,25 +24,28 @@ pub struct Outcome {
     pub ended: bool,
 }
 
-/// The run of an accepted file that asks no host function, by the pick rule with this seed, to its
-/// end or to as many events as asked for. It is never stuck.
+/// The run of an accepted file by the pick rule with this seed, to its end or to as many events as
+/// asked for. It asks the host functions of the table with which the file was accepted. It is never
+/// stuck.
 pub fn run_accepted(
     alloc: Global,
     accepted: &Accepted,
+    hosts: &HostTable,
     seed: u64,
     steps: u64,
 ) -> Result<Outcome, Memory>
-    requires answered { IsAnswered accepted.now.typed.file [] }
+    requires hosts { accepted.now.typed.hosts ≡ names_of (functions_of hosts.now) }
     requires seed { seed < 2 ^ 32 }
     requires few { steps ≤ 1000000 }
-    ensures { IfOk result (λ outcome. IsOutcome accepted.now.typed.file accepted.now.endpoints [] seed steps outcome.history (close_of outcome.ended)) }
+    ensures { IfOk result (IsOutcomeOf accepted.now (functions_of hosts.now) seed steps) }
 {
     laws();
+    functions_answer(accepted, hosts);
     let endpoints = accepted.endpoints();
-    if !asks_nobody(endpoints.code.nodes.as_slice()) {
+    if !asks_known(endpoints, accepted.typed().hosts().as_slice()) {
         return Err(Memory);
     }
-    let ran = run_endpoints(alloc, endpoints, seed, steps)?;
+    let ran = run_endpoints(alloc, endpoints, hosts, seed, steps)?;
     match ran.closed {
         Closed::Ended => Ok(Outcome {
             history: ran.history,
@@ -66,18 +70,12 @@ fn laws()
     accepted_files::checked_runs();
 }
 
-// Whether the code asks no host function. So it is for each accepted file that asks none.
-fn asks_nobody(nodes: &[CodeNode]) -> bool
-    ensures { result ≡ list_all (asks_known (λ f. false)) nodes.now }
+// Each host function that an accepted file asks has an answer.
+fn functions_answer(accepted: &Accepted, hosts: &HostTable)
+    requires { accepted.now.typed.hosts ≡ names_of (functions_of hosts.now) }
+    ensures { IsAnswered accepted.now.typed.file (hosts_in accepted.now.typed.file.names (functions_of hosts.now)) }
 {
-    nodes.iter().all(|node| asks_nothing(node))
-}
-
-fn asks_nothing(node: &CodeNode) -> bool
-    ensures { result ≡ asks_known (λ f. false) node.now }
-{
-    match node {
-        CodeNode::Host(_, _, _, _, _) => false,
-        _ => true,
-    }
+    answered_files::asked_functions_answer();
+    // that no name stands twice
+    let _count = accepted.typed().file().names.len();
 }

@@ -1,41 +1,48 @@
-use Rattle.std.proofs.Common.{[]}
+use Rattle.std.proofs.Common.{List, ℕ, sym, ap, ◌∙◌, subst}
+use Rattle.type_check.specs.declared.typed.Typed.{Typed}
+use Rattle.endpoint_code.specs.Faults.{AsksKnown, is_listed}
+use Rattle.chor_host.specs.Tables.{functions_of}
 use Rattle.endpoint_runs.specs.declared.run.Closed.TheVariants.{Ended, Limit, Stuck}
-use Rattle.simulation.proofs.Runs.{checked, outcome_of}
+use Rattle.simulation.proofs.Runs.{checked, asked, outcome_of}
 use Rattle.simulation.proofs.running.run_accepted.Goals as goal
 
 pub run_endpoints-requires-clause-faultless : goal.run_endpoints-requires-clause-faultless
-run_endpoints-requires-clause-faultless c =
+run_endpoints-requires-clause-faultless g c =
     let typed = c.args.accepted.now.typed in
     let e = c.endpoints-endpoints.result.now in
     let a = c.endpoints-endpoints.ensures.accepted in
     let ok = checked typed.hosts typed.file e typed.fine a in
-    c.laws.ensures.faultless typed.file typed.hosts ok.accepted ok.guarded e a.projects
+    let known = asked (is_listed c.as_slice.result.now e) e (sym c.asks_known.ensures ∙ search) in
+    record {
+      faultless = c.laws.ensures.faultless typed.file typed.hosts ok.accepted ok.guarded e a.projects;
+      hosts = subst (λ (words : List (List ℕ)). AsksKnown (is_listed words e) e) (c.as_slice.ensures ∙ c.hosts.ensures ∙ ap (λ (t : Typed). t.hosts) c.typed.ensures ∙ c.requires.hosts) known;
+    }
 
 pub unreachable-requires : goal.unreachable-requires
-unreachable-requires c =
+unreachable-requires g c =
     let typed = c.args.accepted.now.typed in
     let e = c.endpoints-endpoints.result.now in
     let a = c.endpoints-endpoints.ensures.accepted in
     let ok = checked typed.hosts typed.file e typed.fine a in
     let ran = c.in_ok-ran in
     let stuck = Stuck c.in-Stuck.field-0 c.in-Stuck.field-1 in
-    let run = outcome_of typed.file typed.hosts e ok a [] c.requires.answered c.laws.ensures.close c.laws.ensures.conform c.args.seed c.args.steps ran.ran.history ran.ran.closed stuck ran.ensures c.in-Stuck.is c.args.accepted.now.endpoints c.endpoints-endpoints.ensures.endpoints in
+    let run = outcome_of typed.file typed.hosts e ok a (functions_of c.args.hosts.now) c.functions_answer.ensures c.laws.ensures.close c.laws.ensures.conform c.args.seed c.args.steps ran.ran.history ran.ran.closed stuck ran.ensures c.in-Stuck.is c.args.accepted.now.endpoints c.endpoints-endpoints.ensures.endpoints in
     run.run.closes
 
 pub returns-in-Ended : goal.returns-in-Ended
-returns-in-Ended c =
+returns-in-Ended g c =
     let typed = c.args.accepted.now.typed in
     let e = c.endpoints-endpoints.result.now in
     let a = c.endpoints-endpoints.ensures.accepted in
     let ok = checked typed.hosts typed.file e typed.fine a in
     let ran = c.in_ok-ran in
-    outcome_of typed.file typed.hosts e ok a [] c.requires.answered c.laws.ensures.close c.laws.ensures.conform c.args.seed c.args.steps ran.ran.history ran.ran.closed Ended ran.ensures c.in-Ended.is c.args.accepted.now.endpoints c.endpoints-endpoints.ensures.endpoints
+    outcome_of typed.file typed.hosts e ok a (functions_of c.args.hosts.now) c.functions_answer.ensures c.laws.ensures.close c.laws.ensures.conform c.args.seed c.args.steps ran.ran.history ran.ran.closed Ended ran.ensures c.in-Ended.is c.args.accepted.now.endpoints c.endpoints-endpoints.ensures.endpoints
 
 pub returns-in-Limit : goal.returns-in-Limit
-returns-in-Limit c =
+returns-in-Limit g c =
     let typed = c.args.accepted.now.typed in
     let e = c.endpoints-endpoints.result.now in
     let a = c.endpoints-endpoints.ensures.accepted in
     let ok = checked typed.hosts typed.file e typed.fine a in
     let ran = c.in_ok-ran in
-    outcome_of typed.file typed.hosts e ok a [] c.requires.answered c.laws.ensures.close c.laws.ensures.conform c.args.seed c.args.steps ran.ran.history ran.ran.closed Limit ran.ensures c.in-Limit.is c.args.accepted.now.endpoints c.endpoints-endpoints.ensures.endpoints
+    outcome_of typed.file typed.hosts e ok a (functions_of c.args.hosts.now) c.functions_answer.ensures c.laws.ensures.close c.laws.ensures.conform c.args.seed c.args.steps ran.ran.history ran.ran.closed Limit ran.ensures c.in-Limit.is c.args.accepted.now.endpoints c.endpoints-endpoints.ensures.endpoints
