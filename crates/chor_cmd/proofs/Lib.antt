@@ -1,7 +1,6 @@
 pub mod Written
 pub mod Calls
 pub mod Answered
-pub mod Ended
 pub mod RunTexts
 pub mod Typed
 pub mod SameTexts

@@ -2,6 +2,7 @@
 use Rattle.std.proofs.Common.{◌≡◌, ◌∙◌, ℕ, suc, List, [], ◌∷◌, length, refl, ap, Bool}
 use Rattle.chor_base.specs.declared.event.Event.{Event}
 use Rattle.chor_base.specs.declared.event.Entry.{Entry}
+use Rattle.chor_host.specs.Functions.{Function, hosts_in}
 use Rattle.chor_tree.specs.declared.file.File.{File}
 use Rattle.endpoint_code.specs.declared.endpoints.Endpoints.{Endpoints}
 use Rattle.transcript.specs.Text.{transcript}
@@ -18,9 +19,9 @@ as_long : (h : List Event) → length (entries_of h) ≡ length h
 as_long [] = refl
 as_long (x ∷ xs) = ap suc (as_long xs)
 
-pub run_text : (f : File) (e : Endpoints) (options : Options) (entries : List Entry) (ended : Bool) (text : List ℕ) → IsOutcome f e [] options.seed options.steps entries (close_of ended)
-    → text ≡ transcript (book_of f) (events_of entries) (last_line ended (length entries)) → IsRunText f options text
-run_text f e options entries ended text o is = record {
+pub run_text : (functions : List Function) (f : File) (e : Endpoints) (options : Options) (entries : List Entry) (ended : Bool) (text : List ℕ) → IsOutcome f e (hosts_in f.names functions) options.seed options.steps entries (close_of ended)
+    → text ≡ transcript (book_of f) (events_of entries) (last_line ended (length entries)) → IsRunText functions f options text
+run_text functions f e options entries ended text o is = record {
   endpoints = e;
   history = o.history;
   ended = ended;

@@ -1,10 +1,11 @@
 -- What a call has written when it ends.
 use Rattle.std.proofs.Common.{ℕ, List, Option, Some, None, sym, ap, ◌∙◌, subst}
+use Rattle.chor_host.specs.Functions.{Function}
 use Rattle.chor_io.specs.Outside.{PutTells, Risen, ShelfState, SinkState}
 use Rattle.chor_io.specs.declared.outside.Put.TheVariants as put
 use Rattle.chor_cmd.specs.declared.words.Words.{Words}
 use Rattle.chor_cmd.specs.declared.status.Status.{Status}
-use Rattle.chor_cmd.specs.declared.status.Status.TheVariants.{Done, Refused, Usage, ReadFault, WriteFault, Memory, TooLarge, Unbuilt}
+use Rattle.chor_cmd.specs.declared.status.Status.TheVariants.{Done, Refused, Usage, ReadFault, WriteFault, Memory, TooLarge}
 use Rattle.chor_cmd.specs.Endings.{Ends, Wrote, WroteFront, HasEnded}
 
 wrote : (old new : Option (List ℕ)) (text : List ℕ) → PutTells old new text put.All → Wrote old new text
@@ -15,18 +16,17 @@ wrote_front : (old new : Option (List ℕ)) (text : List ℕ) → PutTells old n
 wrote_front None new text h = tt
 wrote_front (Some old) new text h = subst (λ (n : Option (List ℕ)). WroteFront (Some old) n text) (sym h.1) h.2
 
-module _ (hosts : List (List ℕ)) (words : Words) (shelf shelf' : ShelfState) (sink sink' : SinkState) where
+module _ (functions : List Function) (words : Words) (shelf shelf' : ShelfState) (sink sink' : SinkState) where
   -- the whole text was written
-  pub wrote_all : (status : Status) (text : List ℕ) → Ends hosts words shelf shelf' status text → PutTells sink.written sink'.written text put.All → HasEnded hosts words shelf shelf' sink sink' status
+  pub wrote_all : (status : Status) (text : List ℕ) → Ends functions words shelf shelf' status text → PutTells sink.written sink'.written text put.All → HasEnded functions words shelf shelf' sink sink' status
   wrote_all Done text e h = (text, e, wrote sink.written sink'.written text h)
   wrote_all Refused text e h = (text, e, wrote sink.written sink'.written text h)
   wrote_all Usage text e h = (text, e, wrote sink.written sink'.written text h)
   wrote_all ReadFault text e h = (text, e, wrote sink.written sink'.written text h)
   wrote_all TooLarge text e h = (text, e, wrote sink.written sink'.written text h)
-  wrote_all Unbuilt text e h = (text, e, wrote sink.written sink'.written text h)
   wrote_all WriteFault text e h = elim e [ ]
   wrote_all Memory text e h = elim e [ ]
 
   -- the write failed after a front of it
-  pub wrote_some : (status : Status) (text : List ℕ) → Ends hosts words shelf shelf' status text → PutTells sink.written sink'.written text put.Failed → Risen sink.faults sink'.faults → HasEnded hosts words shelf shelf' sink sink' WriteFault
+  pub wrote_some : (status : Status) (text : List ℕ) → Ends functions words shelf shelf' status text → PutTells sink.written sink'.written text put.Failed → Risen sink.faults sink'.faults → HasEnded functions words shelf shelf' sink sink' WriteFault
   wrote_some status text e h r = (r, (status, text, e, wrote_front sink.written sink'.written text h))

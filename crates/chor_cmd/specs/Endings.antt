@@ -4,18 +4,18 @@ use denote.Param.Members.{Mut}
 use Rattle.chor_base.specs.declared.rule.Refusal.{Refusal}
 use Rattle.chor_tree.specs.declared.file.File.{File}
 use Rattle.chor_host.specs.declared.table.HostTable.{HostTable}
-use Rattle.chor_host.specs.Functions.{names_of}
+use Rattle.chor_host.specs.Functions.{Function, names_of}
 use Rattle.chor_host.specs.Tables.{functions_of}
 use Rattle.chor_io.specs.Outside.{Risen, GrowsByFront, ShelfState, SinkState}
 use Rattle.chor_print.specs.Text.{canonical_text}
 use Rattle.chor_cmd.specs.declared.words.Words.{Words}
 use Rattle.chor_cmd.specs.declared.status.Status.{Status}
-use Rattle.chor_cmd.specs.declared.status.Status.TheVariants.{Done, Refused, Usage, ReadFault, WriteFault, Memory, TooLarge, Unbuilt}
+use Rattle.chor_cmd.specs.declared.status.Status.TheVariants.{Done, Refused, Usage, ReadFault, WriteFault, Memory, TooLarge}
 use Rattle.chor_cmd.specs.declared.words.Command.{Command}
 use Rattle.chor_cmd.specs.declared.words.Command.TheVariants.{Fmt}
 use Rattle.chor_cmd.specs.Words.{rules_of, IsForm, NamesFile, HasNoForm}
 use Rattle.source_check.specs.Source.{IsFileOf, IsAccepted, Violates}
-use Rattle.chor_cmd.specs.Outputs.{IsUnbuilt, Answers, usage_line, read_fault_line, too_large_line, refused_line, unbuilt_line}
+use Rattle.chor_cmd.specs.Outputs.{Answers, usage_line, read_fault_line, too_large_line, refused_line}
 
 -- a source file has at most 1 MiB
 abbrev pub source_limit : ℕ
@@ -61,15 +61,14 @@ FetchesOnly words shelf shelf' = (other : List ℕ) → (NamesFile words other �
 
 -- ---- what each status says
 
--- The statuses with which a call may end that could write its text, each with its cause and that text, where the host
--- functions have these names, and the shelf was and is so
-pub data Ends (hosts : List (List ℕ)) (words : Words) (shelf shelf' : ShelfState) : Status → List ℕ → Type 0 where
-  usage : HasNoForm words → Ends hosts words shelf shelf' Usage usage_line
-  read_fault : (name : List ℕ) → NamesFile words name → Risen (shelf.faults name) (shelf'.faults name) → Ends hosts words shelf shelf' ReadFault (read_fault_line name)
-  too_large : (name bytes : List ℕ) → NamesFile words name → MayTell shelf.files name bytes → source_limit < length bytes → Ends hosts words shelf shelf' TooLarge (too_large_line name)
-  refused : (command : Command) (bytes : List ℕ) (r : Refusal) → MayAsk words shelf command bytes → Violates (rules_of command) hosts bytes r → Ends hosts words shelf shelf' Refused (refused_line r)
-  unbuilt : (command : Command) (bytes : List ℕ) (f : File) → MayAsk words shelf command bytes → IsAccepted (rules_of command) hosts bytes f → IsUnbuilt command f → Ends hosts words shelf shelf' Unbuilt unbuilt_line
-  done : (command : Command) (bytes text : List ℕ) → MayAsk words shelf command bytes → Answers hosts command bytes text → Ends hosts words shelf shelf' Done text
+-- The statuses with which a call may end that could write its text, each with its cause and that text, where these host
+-- functions are there, and the shelf was and is so
+pub data Ends (functions : List Function) (words : Words) (shelf shelf' : ShelfState) : Status → List ℕ → Type 0 where
+  usage : HasNoForm words → Ends functions words shelf shelf' Usage usage_line
+  read_fault : (name : List ℕ) → NamesFile words name → Risen (shelf.faults name) (shelf'.faults name) → Ends functions words shelf shelf' ReadFault (read_fault_line name)
+  too_large : (name bytes : List ℕ) → NamesFile words name → MayTell shelf.files name bytes → source_limit < length bytes → Ends functions words shelf shelf' TooLarge (too_large_line name)
+  refused : (command : Command) (bytes : List ℕ) (r : Refusal) → MayAsk words shelf command bytes → Violates (rules_of command) (names_of functions) bytes r → Ends functions words shelf shelf' Refused (refused_line r)
+  done : (command : Command) (bytes text : List ℕ) → MayAsk words shelf command bytes → Answers functions command bytes text → Ends functions words shelf shelf' Done text
 
 -- where the bytes written are told, exactly this text was added
 abbrev pub Wrote : Option (List ℕ) → Option (List ℕ) → List ℕ → Type 0
@@ -83,11 +82,11 @@ WroteFront (Some old) None text = ⊥
 WroteFront (Some old) (Some new) text = GrowsByFront old new text
 
 -- A call has ended so: by a failing write after a front of a text, for want of memory, or with the whole text
-abbrev pub HasEnded : List (List ℕ) → Words → ShelfState → ShelfState → SinkState → SinkState → Status → Type 0
-HasEnded hosts words shelf shelf' sink sink' WriteFault =
-    Risen sink.faults sink'.faults × ((status : Status) × (text : List ℕ) × Ends hosts words shelf shelf' status text × WroteFront sink.written sink'.written text)
-HasEnded hosts words shelf shelf' sink sink' Memory = ((name : List ℕ) × NamesFile words name) × (sink'.written ≡ sink.written)
-HasEnded hosts words shelf shelf' sink sink' status = (text : List ℕ) × Ends hosts words shelf shelf' status text × Wrote sink.written sink'.written text
+abbrev pub HasEnded : List Function → Words → ShelfState → ShelfState → SinkState → SinkState → Status → Type 0
+HasEnded functions words shelf shelf' sink sink' WriteFault =
+    Risen sink.faults sink'.faults × ((status : Status) × (text : List ℕ) × Ends functions words shelf shelf' status text × WroteFront sink.written sink'.written text)
+HasEnded functions words shelf shelf' sink sink' Memory = ((name : List ℕ) × NamesFile words name) × (sink'.written ≡ sink.written)
+HasEnded functions words shelf shelf' sink sink' status = (text : List ℕ) × Ends functions words shelf shelf' status text × Wrote sink.written sink'.written text
 
 -- ---- which status comes
 
@@ -99,7 +98,7 @@ pub data Comes (words : Words) (shelf shelf' : ShelfState) (sink sink' : SinkSta
   unread : (name : List ℕ) → NamesFile words name → Risen (shelf.faults name) (shelf'.faults name) → Comes words shelf shelf' sink sink' status Says ReadFault
   unwritten : Risen sink.faults sink'.faults → Comes words shelf shelf' sink sink' status Says WriteFault
 
-module _ (hosts : List (List ℕ)) (words : Words) (shelf shelf' : ShelfState) (sink sink' : SinkState) (result : Status) where
+module _ (functions : List Function) (words : Words) (shelf shelf' : ShelfState) (sink sink' : SinkState) (result : Status) where
   -- for words of no form, which name no file
   abbrev pub GivesUsage : Type 0
   GivesUsage = HasNoForm words → Comes words shelf shelf' sink sink' Usage (λ text. text ≡ usage_line) result
@@ -113,20 +112,14 @@ module _ (hosts : List (List ℕ)) (words : Words) (shelf shelf' : ShelfState) (
   -- for a file that is told and violates a rule that the command applies
   abbrev pub GivesRefusal : Type 0
   GivesRefusal =
-      (command : Command) (bytes : List ℕ) (r : Refusal) → Asks words shelf command bytes → Violates (rules_of command) hosts bytes r
+      (command : Command) (bytes : List ℕ) (r : Refusal) → Asks words shelf command bytes → Violates (rules_of command) (names_of functions) bytes r
       → Comes words shelf shelf' sink sink' Refused (λ text. text ≡ refused_line r) result
 
-  -- for a file that is told and that the command accepts but doesn't handle
-  abbrev pub GivesUnbuilt : Type 0
-  GivesUnbuilt =
-      (command : Command) (bytes : List ℕ) (f : File) → Asks words shelf command bytes → IsAccepted (rules_of command) hosts bytes f → IsUnbuilt command f
-      → Comes words shelf shelf' sink sink' Unbuilt (λ text. text ≡ unbuilt_line) result
-
-  -- for any other file that is told and that the command accepts
+  -- for a file that is told and that the command accepts
   abbrev pub GivesAnswer : Type 0
   GivesAnswer =
-      (command : Command) (bytes : List ℕ) (f : File) → Asks words shelf command bytes → IsAccepted (rules_of command) hosts bytes f → (IsUnbuilt command f → ⊥)
-      → Comes words shelf shelf' sink sink' Done (Answers hosts command bytes) result
+      (command : Command) (bytes : List ℕ) (f : File) → Asks words shelf command bytes → IsAccepted (rules_of command) (names_of functions) bytes f
+      → Comes words shelf shelf' sink sink' Done (Answers functions command bytes) result
 
   -- `fmt`, for a source that is told: its canonical text, whichever file of these bytes is read
   abbrev pub GivesCanonical : Type 0

@@ -16,7 +16,7 @@ use Rattle.chor_cmd.specs.declared.words.Command.{Command}
 use Rattle.chor_cmd.specs.declared.words.Command.TheVariants.{Check, Fmt, Types, Project, Run}
 use Rattle.chor_cmd.specs.declared.options.Options.{Options}
 use Rattle.chor_cmd.specs.Words.{rules_of}
-use Rattle.host_calls.specs.Asking.{asks_hosts}
+use Rattle.chor_host.specs.Functions.{Function, names_of, hosts_in}
 use Rattle.simulation.specs.Runs.{close_of, IsRunOf}
 use Rattle.source_check.specs.Classes.{classes_of, IsFaultless}
 use Rattle.source_check.specs.Source.{IsAccepted}
@@ -44,14 +44,14 @@ last_line true n = end_line n
 last_line false n = limit_line n
 
 -- The text is the transcript of the scheduled run, with the asked seed and number of steps, of the network of this file's
--- projection: a run of its choreography in which messages are received first in, first out, and sessions follow their
+-- projection, which asks these host functions: a run of its choreography in which messages are received first in, first out, and sessions follow their
 -- protocols; with `end` each process has ended, each queue is empty and nothing is left to happen, with `limit` the run
 -- is as long as was asked for and open
-pub record IsRunText (f : File) (options : Options) (text : List ℕ) : Type 0 where
+pub record IsRunText (functions : List Function) (f : File) (options : Options) (text : List ℕ) : Type 0 where
   pub endpoints : Endpoints
   pub history : List Event
   pub ended : Bool
-  pub run : IsRunOf f endpoints [] options.seed options.steps history (close_of ended)
+  pub run : IsRunOf f endpoints (hosts_in f.names functions) options.seed options.steps history (close_of ended)
   pub text_is : text ≡ transcript (book_of f) history (last_line ended (length history))
 
 -- the text is that of endpoint programs that are the projection of this file
@@ -60,43 +60,24 @@ pub record IsProjectionText (f : File) (text : List ℕ) : Type 0 where
   pub projects : Projects f endpoints
   pub text_is : text ≡ endpoints_text endpoints
 
--- what a command writes for a file
-abbrev pub IsOutput : Command → File → List ℕ → Type 0
-IsOutput (Check word) f text = text ≡ codes "ok\n"
-IsOutput (Fmt word) f text = text ≡ canonical_text f
-IsOutput (Types word) f text = IsTypesText f text
-IsOutput (Project word) f text = IsProjectionText f text
-IsOutput (Run word options) f text = (asks_hosts f ≡ false) × IsRunText f options text
-
--- the command doesn't handle this file: so far a run asks no host function
-abbrev pub IsUnbuilt : Command → File → Type 0
-IsUnbuilt (Check word) f = ⊥
-IsUnbuilt (Fmt word) f = ⊥
-IsUnbuilt (Types word) f = ⊥
-IsUnbuilt (Project word) f = ⊥
-IsUnbuilt (Run word options) f = asks_hosts f ≡ true
+-- what a command writes for a file, where these host functions are there
+abbrev pub IsOutput : List Function → Command → File → List ℕ → Type 0
+IsOutput functions (Check word) f text = text ≡ codes "ok\n"
+IsOutput functions (Fmt word) f text = text ≡ canonical_text f
+IsOutput functions (Types word) f text = IsTypesText f text
+IsOutput functions (Project word) f text = IsProjectionText f text
+IsOutput functions (Run word options) f text = IsRunText functions f options text
 
 -- the file violates no rule that the command applies, and this is what the command writes for it
-pub record IsAnswer (hosts : List (List ℕ)) (command : Command) (f : File) (text : List ℕ) : Type 0 where
-  pub faultless : IsFaultless hosts f (classes_of (rules_of command))
-  pub output : IsOutput command f text
-
--- the file violates no rule that the command applies, and the command doesn't handle it
-pub record IsUnanswered (hosts : List (List ℕ)) (command : Command) (f : File) : Type 0 where
-  pub faultless : IsFaultless hosts f (classes_of (rules_of command))
-  pub unbuilt : IsUnbuilt command f
+pub record IsAnswer (functions : List Function) (command : Command) (f : File) (text : List ℕ) : Type 0 where
+  pub faultless : IsFaultless (names_of functions) f (classes_of (rules_of command))
+  pub output : IsOutput functions command f text
 
 -- what a command writes for a file with these bytes
-pub record Answers (hosts : List (List ℕ)) (command : Command) (bytes text : List ℕ) : Type 0 where
+pub record Answers (functions : List Function) (command : Command) (bytes text : List ℕ) : Type 0 where
   pub file : File
-  pub source : IsAccepted (rules_of command) hosts bytes file
-  pub output : IsOutput command file text
-
--- a file with these bytes is accepted by the command, which doesn't handle it
-pub record Unanswers (hosts : List (List ℕ)) (command : Command) (bytes : List ℕ) : Type 0 where
-  pub file : File
-  pub source : IsAccepted (rules_of command) hosts bytes file
-  pub unbuilt : IsUnbuilt command file
+  pub source : IsAccepted (rules_of command) (names_of functions) bytes file
+  pub output : IsOutput functions command file text
 
 -- ---- the lines
 
@@ -120,6 +101,3 @@ who_told (Some name) = 32 ∷ name
 -- `refused`, the rule, its place as line and column, and who it is about
 abbrev pub refused_line : Refusal → List ℕ
 refused_line r = codes "refused " ++ rule_name r.rule ++ codes " " ++ decimal r.place.line ++ codes ":" ++ decimal r.place.col ++ who_told r.who ++ 10 ∷ []
-
-abbrev pub unbuilt_line : List ℕ
-unbuilt_line = codes "not built\n"

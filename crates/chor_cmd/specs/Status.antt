@@ -1,7 +1,7 @@
 -- The numbers with which the process ends.
 use Rattle.std.specs.Prelude.{ℕ}
 use Rattle.chor_cmd.specs.declared.status.Status.{Status}
-use Rattle.chor_cmd.specs.declared.status.Status.TheVariants.{Done, Refused, Usage, ReadFault, WriteFault, Memory, TooLarge, Unbuilt}
+use Rattle.chor_cmd.specs.declared.status.Status.TheVariants.{Done, Refused, Usage, ReadFault, WriteFault, Memory, TooLarge}
 
 abbrev pub number_of : Status → ℕ
 number_of Done = 0
@@ -11,4 +11,3 @@ number_of ReadFault = 3
 number_of WriteFault = 4
 number_of Memory = 5
 number_of TooLarge = 8
-number_of Unbuilt = 9

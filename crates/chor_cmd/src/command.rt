@@ -1,12 +1,12 @@
 //! The call that the program makes.
 
 ghost use Rattle.std.specs.Prelude.{◌≡◌, ◌≢◌, ◌≤◌, ◌^◌, ℕ, List, IfSome, IfNone, length};
+ghost use Rattle.chor_host.specs.Tables.{functions_of};
 ghost use Rattle.chor_io.specs.Outside.{ShelfState};
 ghost use Rattle.chor_cmd.specs.declared.words.Words.{Words as CommandWords};
 ghost use Rattle.chor_cmd.specs.Words.{IsForm};
-ghost use Rattle.chor_cmd.specs.Outputs.{unbuilt_line};
-ghost use Rattle.chor_cmd.specs.Endings.{FetchesOnly, Ends, HasEnded, MayAsk, host_names};
-ghost use Rattle.chor_cmd.specs.Endings.{GivesUsage, GivesTooLarge, GivesRefusal, GivesUnbuilt, GivesAnswer, GivesCanonical, GivesSame};
+ghost use Rattle.chor_cmd.specs.Endings.{FetchesOnly, HasEnded, MayAsk};
+ghost use Rattle.chor_cmd.specs.Endings.{GivesUsage, GivesTooLarge, GivesRefusal, GivesAnswer, GivesCanonical, GivesSame};
 
 use crate::output::{finish, finish_denying, finish_naming};
 use crate::status::Status;
@@ -25,9 +25,8 @@ const SOURCE_LIMIT: u64 = 1 << 20;
 ///
 /// `check FILE` judges the file by all classes of rules and writes `ok`, `project FILE` writes the
 /// endpoint programs of a file that they accept, and `run FILE` the transcript of a run of its
-/// choreography, with the seed and of at most as many events as its options ask for. A file that
-/// asks a host function isn't run so far: for such a file `run` writes `not built`.
-/// `types FILE` writes the local types of all roles; it asks for no rules but those of tokens, of the
+/// choreography, with the seed and of at most as many events as its options ask for, in which the
+/// host functions of the table answer. `types FILE` writes the local types of all roles; it asks for no rules but those of tokens, of the
 /// grammar, of names, of protocols and of views. `fmt FILE` writes the canonical text of the file. It
 /// applies the rules of tokens and of the grammar alone. For a file that violates a rule the
 /// commands write `refused` with the rule, the place, and for M1 and M2 the process or the role. A
@@ -45,16 +44,15 @@ pub fn chor<F: Shelf, K: Sink, G: Gate + Sync>(
     ensures fetches { FetchesOnly words.now (F.state shelf.old) (F.state shelf.new) }
 
     // What each status says.
-    ensures ended { HasEnded (host_names hosts.now) words.now (F.state shelf.old) (F.state shelf.new) (K.state out.old) (K.state out.new) result }
+    ensures ended { HasEnded (functions_of hosts.now) words.now (F.state shelf.old) (F.state shelf.new) (K.state out.old) (K.state out.new) result }
 
     // Which status comes.
-    ensures usage { GivesUsage (host_names hosts.now) words.now (F.state shelf.old) (F.state shelf.new) (K.state out.old) (K.state out.new) result }
-    ensures too_large { GivesTooLarge (host_names hosts.now) words.now (F.state shelf.old) (F.state shelf.new) (K.state out.old) (K.state out.new) result }
-    ensures refused { GivesRefusal (host_names hosts.now) words.now (F.state shelf.old) (F.state shelf.new) (K.state out.old) (K.state out.new) result }
-    ensures unbuilt { GivesUnbuilt (host_names hosts.now) words.now (F.state shelf.old) (F.state shelf.new) (K.state out.old) (K.state out.new) result }
-    ensures done { GivesAnswer (host_names hosts.now) words.now (F.state shelf.old) (F.state shelf.new) (K.state out.old) (K.state out.new) result }
-    ensures canonical { GivesCanonical (host_names hosts.now) words.now (F.state shelf.old) (F.state shelf.new) (K.state out.old) (K.state out.new) result }
-    ensures same { GivesSame (host_names hosts.now) words.now (F.state shelf.old) (F.state shelf.new) (K.state out.old) (K.state out.new) result }
+    ensures usage { GivesUsage (functions_of hosts.now) words.now (F.state shelf.old) (F.state shelf.new) (K.state out.old) (K.state out.new) result }
+    ensures too_large { GivesTooLarge (functions_of hosts.now) words.now (F.state shelf.old) (F.state shelf.new) (K.state out.old) (K.state out.new) result }
+    ensures refused { GivesRefusal (functions_of hosts.now) words.now (F.state shelf.old) (F.state shelf.new) (K.state out.old) (K.state out.new) result }
+    ensures done { GivesAnswer (functions_of hosts.now) words.now (F.state shelf.old) (F.state shelf.new) (K.state out.old) (K.state out.new) result }
+    ensures canonical { GivesCanonical (functions_of hosts.now) words.now (F.state shelf.old) (F.state shelf.new) (K.state out.old) (K.state out.new) result }
+    ensures same { GivesSame (functions_of hosts.now) words.now (F.state shelf.old) (F.state shelf.new) (K.state out.old) (K.state out.new) result }
 {
     match form_of(words) {
         None => finish(
@@ -75,7 +73,7 @@ fn answer<F: Shelf, K: Sink>(
     shelf: &mut F,
     out: &mut K,
 ) -> Status
-    ensures ended { (words : CommandWords) → IsForm words command name.now → HasEnded (host_names hosts.now) words (F.state shelf.old) (F.state shelf.new) (K.state out.old) (K.state out.new) result }
+    ensures ended { (words : CommandWords) → IsForm words command name.now → HasEnded (functions_of hosts.now) words (F.state shelf.old) (F.state shelf.new) (K.state out.old) (K.state out.new) result }
     ensures others { (other : List ℕ) → other ≢ name.now → (F.state shelf.new).faults other ≡ (F.state shelf.old).faults other }
 {
     let mut bytes = Vec::new(alloc);
@@ -108,20 +106,10 @@ fn answer_bytes<K: Sink>(
     out: &mut K,
 ) -> Status
     requires { length bytes.now ≤ 2 ^ 20 }
-    ensures { (words : CommandWords) (before after : ShelfState) → MayAsk words before command bytes.now → HasEnded (host_names hosts.now) words before after (K.state out.old) (K.state out.new) result }
+    ensures { (words : CommandWords) (before after : ShelfState) → MayAsk words before command bytes.now → HasEnded (functions_of hosts.now) words before after (K.state out.old) (K.state out.new) result }
 {
     match text_of(alloc, command, bytes, hosts) {
-        Ok(text) => finish_text(out, text),
+        Ok(text) => finish(out, text.as_slice(), Status::Done),
         Err(denied) => finish_denying(alloc, out, &denied),
-    }
-}
-
-// Writes the text of an answer, or that the command doesn't handle the file.
-fn finish_text<K: Sink>(out: &mut K, text: Option<Vec<u8>>) -> Status
-    ensures { (hosts : List (List ℕ)) (words : CommandWords) (before after : ShelfState) → IfSome text (λ t. Ends hosts words before after Status.Done t.items) → IfNone text (Ends hosts words before after Status.Unbuilt unbuilt_line) → HasEnded hosts words before after (K.state out.old) (K.state out.new) result }
-{
-    match text {
-        Some(text) => finish(out, text.as_slice(), Status::Done),
-        None => finish(out, b"not built\n".as_slice(), Status::Unbuilt),
     }
 }

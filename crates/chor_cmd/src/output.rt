@@ -2,6 +2,7 @@
 
 ghost use Rattle.std.specs.Prelude.{◌≡◌, ◌++◌, ℕ, List, IfOk, OnOk};
 ghost use Rattle.chor_cmd.specs.declared.words.Words.{Words as CommandWords};
+ghost use Rattle.chor_host.specs.Functions.{Function};
 ghost use Rattle.chor_io.specs.Outside.{ShelfState};
 ghost use Rattle.chor_cmd.specs.Outputs.{line_naming, refused_line, who_told};
 ghost use Rattle.chor_cmd.specs.Endings.{Ends, HasEnded};
@@ -17,7 +18,7 @@ use std::alloc::Global;
 /// Writes the text with which a call ends, and answers the status.
 #[tactic(auto, using(crate::proofs::Written::wrote_all, crate::proofs::Written::wrote_some))]
 pub fn finish<K: Sink>(out: &mut K, text: &[u8], status: Status) -> Status
-    ensures { (hosts : List (List ℕ)) (words : CommandWords) (before after : ShelfState) → Ends hosts words before after status text.now → HasEnded hosts words before after (K.state out.old) (K.state out.new) result }
+    ensures { (functions : List Function) (words : CommandWords) (before after : ShelfState) → Ends functions words before after status text.now → HasEnded functions words before after (K.state out.old) (K.state out.new) result }
 {
     match out.put(text) {
         Put::All => status,
@@ -33,7 +34,7 @@ pub fn finish_naming<K: Sink>(
     name: &Word,
     status: Status,
 ) -> Status
-    ensures { (hosts : List (List ℕ)) (words : CommandWords) (before after : ShelfState) → NamesFile words name.now → Ends hosts words before after status (line_naming what.now name.now) → HasEnded hosts words before after (K.state out.old) (K.state out.new) result }
+    ensures { (functions : List Function) (words : CommandWords) (before after : ShelfState) → NamesFile words name.now → Ends functions words before after status (line_naming what.now name.now) → HasEnded functions words before after (K.state out.old) (K.state out.new) result }
 {
     match naming_line(alloc, what, name) {
         Ok(line) => finish(out, line.as_slice(), status),
@@ -52,7 +53,7 @@ fn naming_line(alloc: Global, what: &[u8], name: &Word) -> Result<Vec<u8>, Memor
 
 // Writes the line of a refusal, and answers the status.
 fn finish_refusing<K: Sink>(alloc: Global, out: &mut K, refusal: &Refusal) -> Status
-    ensures { (hosts : List (List ℕ)) (words : CommandWords) (before after : ShelfState) (name : List ℕ) → NamesFile words name → Ends hosts words before after Status.Refused (refused_line refusal.now) → HasEnded hosts words before after (K.state out.old) (K.state out.new) result }
+    ensures { (functions : List Function) (words : CommandWords) (before after : ShelfState) (name : List ℕ) → NamesFile words name → Ends functions words before after Status.Refused (refused_line refusal.now) → HasEnded functions words before after (K.state out.old) (K.state out.new) result }
 {
     match refused_line(alloc, refusal) {
         Ok(line) => finish(out, line.as_slice(), Status::Refused),
@@ -62,7 +63,7 @@ fn finish_refusing<K: Sink>(alloc: Global, out: &mut K, refusal: &Refusal) -> St
 
 /// Writes the line of a refusal, or nothing where there was no memory, and answers the status.
 pub fn finish_denying<K: Sink>(alloc: Global, out: &mut K, denied: &Denied) -> Status
-    ensures { (hosts : List (List ℕ)) (words : CommandWords) (before after : ShelfState) (name : List ℕ) → NamesFile words name → ((r : RefusalIs) → denied.now ≡ denials.Refused r → Ends hosts words before after Status.Refused (refused_line r)) → HasEnded hosts words before after (K.state out.old) (K.state out.new) result }
+    ensures { (functions : List Function) (words : CommandWords) (before after : ShelfState) (name : List ℕ) → NamesFile words name → ((r : RefusalIs) → denied.now ≡ denials.Refused r → Ends functions words before after Status.Refused (refused_line r)) → HasEnded functions words before after (K.state out.old) (K.state out.new) result }
 {
     match denied {
         Denied::Refused(refusal) => finish_refusing(alloc, out, refusal),

@@ -1,10 +1,10 @@
 //! The transcript of a run.
 
-ghost use Rattle.std.specs.Prelude.{◌≡◌, IfOk, IfErr, OnOk, IfSome, IfNone, length, true, false};
+ghost use Rattle.std.specs.Prelude.{◌≡◌, IfOk, IfErr, OnOk, length};
 ghost use Rattle.chor_tree.specs.Names.{names_in};
 ghost use Rattle.transcript.specs.Text.{transcript};
 ghost use Rattle.transcript.specs.Books.{words};
-ghost use Rattle.host_calls.specs.Asking.{asks_hosts};
+ghost use Rattle.chor_host.specs.Tables.{functions_of};
 ghost use Rattle.source_check.specs.Classes.{IsFaultless, classes_of};
 ghost use Rattle.source_check.specs.Source.{IsBroken};
 ghost use Rattle.source_check.specs.declared.rules.Rules.TheVariants as rules;
@@ -15,53 +15,37 @@ use crate::options::Options;
 use chor_base::{Denied, Entry, List, Memory, NameId};
 use chor_host::HostTable;
 use chor_tree::{File, Named};
-use host_calls::{asks_hosts, nobody_is_asked};
 use simulation::{Accepted, Outcome, accept, run_accepted};
 use std::alloc::Global;
 use transcript::{Book, print_events};
 
-/// What `run` writes for a file: the transcript of a run, where the file asks no host function.
+/// What `run` writes for a file: the transcript of a run.
 pub fn run_text(
     alloc: Global,
     file: File,
     options: Options,
     hosts: &HostTable,
-) -> Result<Option<Vec<u8>>, Denied>
-    ensures some { IfOk result (λ text. IfSome text (λ t. IsRunText file options t.items)) }
-    ensures asks { IfOk result (λ text. IfSome text (λ t. asks_hosts file ≡ false)) }
-    ensures none { IfOk result (λ text. IfNone text (asks_hosts file ≡ true)) }
+) -> Result<Vec<u8>, Denied>
+    ensures text { IfOk result (λ text. IsRunText (functions_of hosts.now) file options text.items) }
     ensures faultless { OnOk result (IsFaultless (host_names hosts.now) file (classes_of rules.All)) }
     ensures broken { IfErr result (IsBroken (classes_of rules.All) (host_names hosts.now) file) }
 {
     let accepted = accept(alloc, file, hosts)?;
-    let text = accepted_text(alloc, &accepted, options)?;
+    let text = text_of_run(alloc, &accepted, options, hosts)?;
     Ok(text)
 }
 
-// The transcript of the run of an accepted file, where it asks no host function.
-fn accepted_text(
+// The transcript of the run of a file that is accepted with these host functions.
+fn text_of_run(
     alloc: Global,
     accepted: &Accepted,
     options: Options,
-) -> Result<Option<Vec<u8>>, Memory>
-    ensures some { IfOk result (λ text. IfSome text (λ t. IsRunText accepted.now.typed.file options t.items)) }
-    ensures asks { IfOk result (λ text. IfSome text (λ t. asks_hosts accepted.now.typed.file ≡ false)) }
-    ensures none { IfOk result (λ text. IfNone text (asks_hosts accepted.now.typed.file ≡ true)) }
+    hosts: &HostTable,
+) -> Result<Vec<u8>, Memory>
+    requires { accepted.now.typed.hosts ≡ host_names hosts.now }
+    ensures { IfOk result (λ text. IsRunText (functions_of hosts.now) accepted.now.typed.file options text.items) }
 {
-    if asks_hosts(accepted.typed().file()) {
-        return Ok(None);
-    }
-    let text = text_of_run(alloc, accepted, options)?;
-    Ok(Some(text))
-}
-
-// The transcript of the run of an accepted file that asks no host function.
-fn text_of_run(alloc: Global, accepted: &Accepted, options: Options) -> Result<Vec<u8>, Memory>
-    requires { asks_hosts accepted.now.typed.file ≡ false }
-    ensures { IfOk result (λ text. IsRunText accepted.now.typed.file options text.items) }
-{
-    nobody_is_asked();
-    let outcome = run_accepted(alloc, accepted, options.seed, options.steps)?;
+    let outcome = run_accepted(alloc, accepted, hosts, options.seed, options.steps)?;
     let file = accepted.typed().file();
     let text = transcript_of(alloc, file, &outcome)?;
     Ok(text)

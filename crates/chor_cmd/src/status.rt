@@ -20,8 +20,6 @@ pub enum Status {
     Memory,
     /// The file is longer than its limit.
     TooLarge,
-    /// The command doesn't handle files like this one yet.
-    Unbuilt,
 }
 
 impl Status {
@@ -37,7 +35,6 @@ impl Status {
             Status::WriteFault => 4,
             Status::Memory => 5,
             Status::TooLarge => 8,
-            Status::Unbuilt => 9,
         }
     }
 }

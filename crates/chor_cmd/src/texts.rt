@@ -1,12 +1,13 @@
 //! What the commands write for a source.
 
-ghost use Rattle.std.specs.Prelude.{◌≡◌, ◌≤◌, ◌^◌, IfOk, IfErr, OnOk, IfSome, IfNone, length, codes};
+ghost use Rattle.std.specs.Prelude.{◌≡◌, ◌≤◌, ◌^◌, IfOk, IfErr, OnOk, length, codes};
+ghost use Rattle.chor_host.specs.Tables.{functions_of};
 ghost use Rattle.source_check.specs.Classes.{IsFaultless, classes_of};
 ghost use Rattle.source_check.specs.Source.{IsBroken, IsDenialOf};
 ghost use Rattle.source_check.specs.declared.rules.Rules.TheVariants as rules;
 ghost use Rattle.chor_cmd.specs.Words.{rules_of};
 ghost use Rattle.chor_cmd.specs.Types.{IsTypesText};
-ghost use Rattle.chor_cmd.specs.Outputs.{IsProjectionText, IsAnswer, IsUnanswered, Answers, Unanswers};
+ghost use Rattle.chor_cmd.specs.Outputs.{IsProjectionText, IsAnswer, Answers};
 ghost use Rattle.chor_cmd.specs.Endings.{host_names};
 
 use crate::canonical::canonical_of;
@@ -21,50 +22,39 @@ use simulation::{Accepted, accept};
 use source_check::{check, read};
 use std::alloc::Global;
 
-/// What the command writes for a source with these bytes, if it handles the source.
+/// What the command writes for a source with these bytes.
 pub fn text_of(
     alloc: Global,
     command: Command,
     bytes: &[u8],
     hosts: &HostTable,
-) -> Result<Option<Vec<u8>>, Denied>
+) -> Result<Vec<u8>, Denied>
     requires { length bytes.now ≤ 2 ^ 20 }
-    ensures some { IfOk result (λ text. IfSome text (λ t. Answers (host_names hosts.now) command bytes.now t.items)) }
-    ensures none { IfOk result (λ text. IfNone text (Unanswers (host_names hosts.now) command bytes.now)) }
+    ensures text { IfOk result (λ text. Answers (functions_of hosts.now) command bytes.now text.items) }
     ensures denied { IfErr result (IsDenialOf (rules_of command) (host_names hosts.now) bytes.now) }
 {
     let file = read(alloc, bytes)?;
     file_text(alloc, command, file, hosts)
 }
 
-// What the command writes for a file, if it handles the file.
+// What the command writes for a file.
 fn file_text(
     alloc: Global,
     command: Command,
     file: File,
     hosts: &HostTable,
-) -> Result<Option<Vec<u8>>, Denied>
-    ensures some { IfOk result (λ text. IfSome text (λ t. IsAnswer (host_names hosts.now) command file t.items)) }
-    ensures none { IfOk result (λ text. IfNone text (IsUnanswered (host_names hosts.now) command file)) }
+) -> Result<Vec<u8>, Denied>
+    ensures text { IfOk result (λ text. IsAnswer (functions_of hosts.now) command file text.items) }
     ensures broken { IfErr result (IsBroken (classes_of (rules_of command)) (host_names hosts.now) file) }
 {
     match command {
-        Command::Check(_) => {
-            let text = check_text(alloc, file, hosts)?;
-            Ok(Some(text))
-        }
+        Command::Check(_) => check_text(alloc, file, hosts),
         Command::Fmt(_) => {
             let text = canonical_of(alloc, &file)?;
-            Ok(Some(text))
+            Ok(text)
         }
-        Command::Types(_) => {
-            let text = types_text(alloc, file, hosts)?;
-            Ok(Some(text))
-        }
-        Command::Project(_) => {
-            let text = project_text(alloc, file, hosts)?;
-            Ok(Some(text))
-        }
+        Command::Types(_) => types_text(alloc, file, hosts),
+        Command::Project(_) => project_text(alloc, file, hosts),
         Command::Run(_, options) => run_text(alloc, file, options, hosts),
     }
 }

@@ -1,26 +1,27 @@
+use Rattle.chor_host.specs.Tables.{functions_of}
 use Rattle.std.proofs.Common.{◌≤◌, sym, subst, length, ℕ, List, []}
 use Rattle.chor_io.specs.Outside.{Risen, FetchGrows, FetchTells}
 use Rattle.chor_cmd.specs.declared.status.Status.TheVariants.{ReadFault, TooLarge}
 use Rattle.chor_cmd.specs.Outputs.{line_naming}
-use Rattle.chor_cmd.specs.Endings.{Ends, MayTell, host_names, source_limit, read_fault, too_large}
+use Rattle.chor_cmd.specs.Endings.{Ends, MayTell, source_limit, read_fault, too_large}
 use Rattle.chor_cmd.specs.Words.{NamesFile}
 use Rattle.chor_cmd.proofs.Calls.{few_read, told_all, told_long}
 use Rattle.chor_cmd.proofs.command.answer.Goals as goal
 
 pub returns-in-Failed-clause-ended : goal.returns-in-Failed-clause-ended
 returns-in-Failed-clause-ended g c = λ words form.
-    let hosts = host_names c.args.hosts.now in
+    let functions = functions_of c.args.hosts.now in
     let named : NamesFile words c.args.name.now = (c.args.command, form) in
     let before = g.F.Shelf.state c.args.shelf.now in
     let after = g.F.Shelf.state c.fetch.new.self in
     let risen = subst (λ (name : List ℕ). Risen (before.faults name) (after.faults name)) c.as_slice.ensures (c.fetch.ensures.cause c.in-Failed.is) in
-    c.finish_naming.ensures hosts words before after named
-    (subst (λ (what : List ℕ). Ends hosts words before after ReadFault (line_naming what c.args.name.now)) (sym c.as_slice-in-Failed.ensures)
+    c.finish_naming.ensures functions words before after named
+    (subst (λ (what : List ℕ). Ends functions words before after ReadFault (line_naming what c.args.name.now)) (sym c.as_slice-in-Failed.ensures)
     (read_fault c.args.name.now named risen))
 
 pub returns-in-TooLong-clause-ended : goal.returns-in-TooLong-clause-ended
 returns-in-TooLong-clause-ended g c = λ words form.
-    let hosts = host_names c.args.hosts.now in
+    let functions = functions_of c.args.hosts.now in
     let named : NamesFile words c.args.name.now = (c.args.command, form) in
     let before = g.F.Shelf.state c.args.shelf.now in
     let after = g.F.Shelf.state c.fetch.new.self in
@@ -32,8 +33,8 @@ returns-in-TooLong-clause-ended g c = λ words form.
     let tells' = subst (λ (old : List ℕ). FetchTells files c.args.name.now 1048576 old new c.fetch.result) c.new-bytes.ensures.items tells in
     let tells'' = subst (λ (answer : _). FetchTells files c.args.name.now 1048576 [] new answer) c.in-TooLong.is tells' in
     let long = told_long files c.args.name.now new grows' tells'' in
-    c.finish_naming-in-TooLong.ensures hosts words before after named
-    (subst (λ (what : List ℕ). Ends hosts words before after TooLarge (line_naming what c.args.name.now)) (sym c.as_slice-in-TooLong.ensures)
+    c.finish_naming-in-TooLong.ensures functions words before after named
+    (subst (λ (what : List ℕ). Ends functions words before after TooLarge (line_naming what c.args.name.now)) (sym c.as_slice-in-TooLong.ensures)
     (too_large c.args.name.now long.0 named long.1 long.2))
 
 pub returns-clause-ended : goal.returns-clause-ended

@@ -1,21 +1,21 @@
-use Rattle.std.proofs.Common.{subst}
+use Rattle.std.proofs.Common.{ℕ, List, sym, subst}
+use Rattle.chor_host.specs.Tables.{functions_of}
 use Rattle.source_check.specs.Source.{IsDenialOf}
+use Rattle.chor_cmd.specs.declared.status.Status.TheVariants.{Done}
 use Rattle.chor_cmd.specs.Words.{rules_of}
-use Rattle.chor_cmd.specs.Endings.{host_names, refused}
-use Rattle.chor_cmd.proofs.Ended.{done_all, unbuilt_all}
+use Rattle.chor_cmd.specs.Endings.{Ends, host_names, refused, done}
 use Rattle.chor_cmd.proofs.command.answer_bytes.Goals as goal
 
 pub returns-in-Ok : goal.returns-in-Ok
 returns-in-Ok g c = λ words before after asked.
-    let hosts = host_names c.args.hosts.now in
-    let bytes = c.args.bytes.now in
-    c.finish_text.ensures hosts words before after
-    (done_all hosts words before after c.args.command bytes asked (λ t. t.items) c.in-Ok.text c.in-Ok.ensures.some)
-    (unbuilt_all hosts words before after c.args.command bytes asked c.in-Ok.text c.in-Ok.ensures.none)
+    let functions = functions_of c.args.hosts.now in
+    c.finish.ensures functions words before after
+    (subst (λ (t : List ℕ). Ends functions words before after Done t) (sym c.as_slice.ensures.value)
+    (done c.args.command c.args.bytes.now c.in-Ok.text.items asked c.in-Ok.ensures.text))
 
 pub returns-in-Err : goal.returns-in-Err
 returns-in-Err g c = λ words before after asked.
     let hosts = host_names c.args.hosts.now in
     let bytes = c.args.bytes.now in
-    c.finish_denying.ensures hosts words before after asked.name (c.args.command, asked.form)
+    c.finish_denying.ensures (functions_of c.args.hosts.now) words before after asked.name (c.args.command, asked.form)
     (λ r e. refused c.args.command bytes r asked (subst (IsDenialOf (rules_of c.args.command) hosts bytes) e c.in-Err.ensures.denied))

@@ -1,16 +1,17 @@
+use Rattle.chor_host.specs.Tables.{functions_of}
 use Rattle.std.proofs.Common.{sym, subst, ℕ, List}
 use Rattle.chor_cmd.specs.declared.status.Status.TheVariants.{Usage}
-use Rattle.chor_cmd.specs.Endings.{Ends, host_names, usage}
-use Rattle.chor_cmd.proofs.Settled.{gives_usage, gives_too_large, gives_refusal, gives_unbuilt, gives_answer, gives_canonical, gives_same}
+use Rattle.chor_cmd.specs.Endings.{Ends, usage}
+use Rattle.chor_cmd.proofs.Settled.{gives_usage, gives_too_large, gives_refusal, gives_answer, gives_canonical, gives_same}
 use Rattle.chor_cmd.proofs.command.chor.Goals as goal
 
 pub returns-in-None-clause-ended : goal.returns-in-None-clause-ended
 returns-in-None-clause-ended g c =
-    let hosts = host_names c.args.hosts.now in
+    let functions = functions_of c.args.hosts.now in
     let words = c.args.words.now in
     let shelf = g.F.Shelf.state c.args.shelf.now in
-    c.finish.ensures hosts words shelf shelf
-    (subst (λ (text : List ℕ). Ends hosts words shelf shelf Usage text) (sym c.as_slice.ensures) (usage c.in-None.ensures))
+    c.finish.ensures functions words shelf shelf
+    (subst (λ (text : List ℕ). Ends functions words shelf shelf Usage text) (sym c.as_slice.ensures) (usage c.in-None.ensures))
 
 pub returns-in-None-clause-usage : goal.returns-in-None-clause-usage
 returns-in-None-clause-usage g c = gives_usage _ _ _ _ _ _ _ (returns-in-None-clause-ended g c)
@@ -20,9 +21,6 @@ returns-in-None-clause-too_large g c = gives_too_large _ _ _ _ _ _ _ (returns-in
 
 pub returns-in-None-clause-refused : goal.returns-in-None-clause-refused
 returns-in-None-clause-refused g c = gives_refusal _ _ _ _ _ _ _ (returns-in-None-clause-ended g c)
-
-pub returns-in-None-clause-unbuilt : goal.returns-in-None-clause-unbuilt
-returns-in-None-clause-unbuilt g c = gives_unbuilt _ _ _ _ _ _ _ (returns-in-None-clause-ended g c)
 
 pub returns-in-None-clause-done : goal.returns-in-None-clause-done
 returns-in-None-clause-done g c = gives_answer _ _ _ _ _ _ _ (returns-in-None-clause-ended g c)
@@ -41,9 +39,6 @@ returns-in-Some-clause-too_large g c = gives_too_large _ _ _ _ _ _ _ (c.answer.e
 
 pub returns-in-Some-clause-refused : goal.returns-in-Some-clause-refused
 returns-in-Some-clause-refused g c = gives_refusal _ _ _ _ _ _ _ (c.answer.ensures.ended c.args.words.now c.in-Some.ensures)
-
-pub returns-in-Some-clause-unbuilt : goal.returns-in-Some-clause-unbuilt
-returns-in-Some-clause-unbuilt g c = gives_unbuilt _ _ _ _ _ _ _ (c.answer.ensures.ended c.args.words.now c.in-Some.ensures)
 
 pub returns-in-Some-clause-done : goal.returns-in-Some-clause-done
 returns-in-Some-clause-done g c = gives_answer _ _ _ _ _ _ _ (c.answer.ensures.ended c.args.words.now c.in-Some.ensures)

@@ -1,4 +1,4 @@
-use Rattle.std.proofs.Common.{List, ℕ, length}
+use Rattle.std.proofs.Common.{length}
 use Rattle.std.specs.Prelude.{◌↔◌}
 use Rattle.chor_cmd.specs.declared.options.Options.{Options}
 use Rattle.chor_cmd.specs.Options.{AreOptions, Completes}

@@ -1,10 +1,11 @@
+use Rattle.chor_host.specs.Tables.{functions_of}
 use Rattle.source_check.specs.Classes.{classes_of}
 use Rattle.source_check.specs.Source.{IsBroken, IsDenialOf}
 use Rattle.source_check.proofs.Checked.{unread_so, broken_so}
 use Rattle.chor_cmd.specs.Endings.{host_names}
-use Rattle.chor_cmd.specs.Outputs.{IsAnswer, IsUnanswered, Answers, Unanswers}
+use Rattle.chor_cmd.specs.Outputs.{IsAnswer, Answers}
 use Rattle.chor_cmd.specs.Words.{rules_of}
-use Rattle.chor_cmd.proofs.Answered.{some_so, none_so, err_so, err_is, answers, unanswers}
+use Rattle.chor_cmd.proofs.Answered.{ok_so, err_so, err_is, answers}
 use Rattle.chor_cmd.proofs.texts.text_of.Goals as goal
 
 pub returns-in_err-file-clause-denied : goal.returns-in_err-file-clause-denied
@@ -15,17 +16,11 @@ returns-in_err-file-clause-denied g c =
     let denied = c.in_err-file.field-0.0 in
     err_is (IsDenialOf rules hosts bytes) c.from_residual.result denied c.from_residual.ensures.1 (unread_so rules hosts bytes denied c.in_err-file.ensures.denied)
 
-pub returns-clause-some : goal.returns-clause-some
-returns-clause-some g c =
-    let hosts = host_names c.args.hosts.now in
-    some_so (λ t. IsAnswer hosts c.args.command c.in_ok-file.file t.items) (λ t. Answers hosts c.args.command c.args.bytes.now t.items)
-    (λ t. answers hosts c.args.command c.args.bytes.now c.in_ok-file.file c.in_ok-file.ensures.file t.items) c.file_text.result c.file_text.ensures.some
-
-pub returns-clause-none : goal.returns-clause-none
-returns-clause-none g c =
-    let hosts = host_names c.args.hosts.now in
-    none_so (IsUnanswered hosts c.args.command c.in_ok-file.file) (Unanswers hosts c.args.command c.args.bytes.now)
-    (unanswers hosts c.args.command c.args.bytes.now c.in_ok-file.file c.in_ok-file.ensures.file) c.file_text.result c.file_text.ensures.none
+pub returns-clause-text : goal.returns-clause-text
+returns-clause-text g c =
+    let functions = functions_of c.args.hosts.now in
+    ok_so (λ t. IsAnswer functions c.args.command c.in_ok-file.file t.items) (λ t. Answers functions c.args.command c.args.bytes.now t.items)
+    (λ t. answers functions c.args.command c.args.bytes.now c.in_ok-file.file c.in_ok-file.ensures.file t.items) c.file_text.result c.file_text.ensures.text
 
 pub returns-clause-denied : goal.returns-clause-denied
 returns-clause-denied g c =

@@ -1,8 +1,0 @@
-//! The host functions that a source asks.
-#![tactic(auto)]
-
-mod asking;
-mod laws;
-
-pub use asking::asks_hosts;
-pub use laws::nobody_is_asked;
