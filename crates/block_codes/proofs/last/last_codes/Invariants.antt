@@ -3,7 +3,7 @@ use Rattle.std.specs.List.{AllZip}
 use Rattle.endpoint_code.specs.Trees.{Ends, code_at}
 use Rattle.branch_merge.specs.Merged.{Keeps}
 use Rattle.block_codes.specs.Parts.{IsCalled}
-use Rattle.block_codes.proofs.statement.last_codes.Given as goal
+use Rattle.block_codes.proofs.last.last_codes.Given as goal
 
 abbrev pub invariant-loop-process : goal.invariant-loop-process
 invariant-loop-process l = record {

@@ -3,7 +3,7 @@ use Rattle.chor_tree.specs.declared.file.Proc.{Proc}
 use Rattle.block_codes.specs.Nodes.{call_in}
 use Rattle.block_codes.specs.Parts.{IsLeaf}
 use Rattle.block_codes.proofs.Parts.{call_pushed}
-use Rattle.block_codes.proofs.statement.put_call.Goals as goal
+use Rattle.block_codes.proofs.last.put_call.Goals as goal
 
 pub returns-in-Some : goal.returns-in-Some
 returns-in-Some c =

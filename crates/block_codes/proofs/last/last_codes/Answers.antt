@@ -3,17 +3,17 @@ use Rattle.std.specs.List.{AllZip}
 use Rattle.chor_base.specs.declared.names.NameId.{NameId}
 use Rattle.branch_merge.proofs.ArmTables.{keeps_both, code_kept, kept_length}
 use Rattle.block_codes.specs.Parts.{IsCalled}
-use Rattle.block_codes.proofs.Parts.{keeps_pushed, pushed_inside, end_pushed, called_more}
-use Rattle.block_codes.proofs.statement.last_codes.Goals as goal
+use Rattle.block_codes.proofs.Parts.{called_more}
+use Rattle.block_codes.proofs.last.last_codes.Goals as goal
 
 pub loop-process-init : goal.loop-process-init
 loop-process-init c =
-    let e = c.in_ok-end.ensures.ok in
+    let e = c.in_ok-end.ensures in
     record {
-      kept = keeps_pushed _ _ _ e.1;
-      inside = pushed_inside _ _ _ _ e.1 e.0;
-      ends = end_pushed _ _ _ e.1 e.0;
-      each = subst (AllZip (IsCalled c.args.spot.now.file.now.procs c.args.spot.now.node.now.form c.push.new.self.nodes) []) (sym c.new-codes.ensures) tt;
+      kept = e.kept;
+      inside = e.inside;
+      ends = e.code;
+      each = subst (AllZip (IsCalled c.args.spot.now.file.now.procs c.args.spot.now.node.now.form c.put_end.new.code.nodes) []) (sym c.new-codes.ensures) tt;
     }
 
 abbrev none : NameId
