@@ -3,3 +3,4 @@ pub mod Nodes
 pub mod Parts
 pub mod Joins
 pub mod Walks
+pub mod OneProcess

@@ -17,7 +17,7 @@ use Rattle.projection.specs.Codes.{Part}
 use Rattle.projection.specs.Making.{part_tree, part_at, Puts}
 use Rattle.block_codes.specs.declared.coded.Coded.{Coded}
 use Rattle.block_codes.specs.Nodes.{call_in}
-use Rattle.block_codes.specs.Parts.{IsPut, IsLeaf, IsCallAt, IsCalled}
+use Rattle.block_codes.specs.Parts.{IsPut, IsEndAt, IsLeaf, IsCallAt, IsCalled}
 use Rattle.block_codes.proofs.Zips.{zip_weaker, zip_step}
 
 -- ---- a statement
@@ -48,14 +48,15 @@ put_more {old = old} {mid = mid} {new = new} g xs i d ys zs id lt k z inside p e
 
 -- ---- a call
 
-pub keeps_pushed : (old new : List CodeNode) (n : CodeNode) → new ≡ old ++ n ∷ [] → Keeps old new
+keeps_pushed : (old new : List CodeNode) (n : CodeNode) → new ≡ old ++ n ∷ [] → Keeps old new
 keeps_pushed old new n e = record { more = n ∷ []; is = e }
 
-pub pushed_inside : (old new : List CodeNode) (n : CodeNode) (id : CodeId) → new ≡ old ++ n ∷ [] → id.0 ≡ length old → id.0 < length new
+pushed_inside : (old new : List CodeNode) (n : CodeNode) (id : CodeId) → new ≡ old ++ n ∷ [] → id.0 ≡ length old → id.0 < length new
 pushed_inside old new n id e i = omega (arith, ap length e ∙ length-append old (n ∷ []))
 
-pub end_pushed : (old new : List CodeNode) (id : CodeId) → new ≡ old ++ End ∷ [] → id.0 ≡ length old → code_at new id ≡ Ends
-end_pushed old new id e i = code_at-pushed old new End id e i
+pub end_answer : (old new : List CodeNode) (answer : Result CodeId Memory) → IfOk answer (λ id. (id.0 ≡ length old) × (new ≡ old ++ End ∷ [])) → IfOk answer (IsEndAt old new)
+end_answer old new (Ok id) h = record { kept = keeps_pushed old new End h.1; inside = pushed_inside old new End id h.1 h.0; code = code_at-pushed old new End id h.1 h.0 }
+end_answer old new (Err m) h = tt
 
 pub call_ends : (procs : List Proc) (g : Form) (nodes : List CodeNode) (r : NameId) (id : CodeId) (made : Option CodeNode) → IsLeaf (call_in procs r g) made → made ≡ None → id.0 < length nodes → code_at nodes id ≡ Ends → IsCallAt procs g nodes nodes r id
 call_ends procs g nodes r id made leaf e lt ends = record {

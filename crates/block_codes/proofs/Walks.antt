@@ -40,7 +40,7 @@ use Rattle.block_codes.proofs.Zips.{zip_weaker, zip_lengths, zip_seconds}
 
 -- ---- codes in a table that grows
 
-coded_kept : {procs : List Proc} {b : Block} {old new : List CodeNode} (r : NameId) (x : Coded) → Keeps old new → IsCoded procs old b r x → IsCoded procs new b r x
+pub coded_kept : {procs : List Proc} {b : Block} {old new : List CodeNode} (r : NameId) (x : Coded) → Keeps old new → IsCoded procs old b r x → IsCoded procs new b r x
 coded_kept {procs = procs} {b = b} r x k h = record {
   process = h.process;
   inside = let n = kept_length k in let m = h.inside in omega arith;
@@ -66,14 +66,14 @@ module _ {f : File} {id next : NodeId} {n : TreeNode} (at : IsAt f id n) (s : Is
   pub next_inside : next.0 < length f.tree.nodes
   next_inside = let b = next_before in let i = at.inside in omega arith
 
-  statement_block : body_of f id ≡ Then n.place s.statement (body_of f next)
+  pub statement_block : body_of f id ≡ Then n.place s.statement (body_of f next)
   statement_block = at.block ∙ s.block (blocks_of f.tree.nodes) n.place
 
   statement_sites : (scope : List NameId) → sites_in scope (body_of f id) ≡ sites_in (scope ++ names_of (made_in n.form)) (body_of f next)
   statement_sites scope = ap (sites_in scope) statement_block ∙ ap (λ m. sites_in (scope ++ m) (body_of f next)) s.made
 
   module _ (mid new : List CodeNode) where
-    put_coded : (r : NameId) (x y : Coded) → IsCoded f.procs mid (body_of f next) r x → IsPut mid new n.form x y → IsCoded f.procs new (body_of f id) r y
+    pub put_coded : (r : NameId) (x y : Coded) → IsCoded f.procs mid (body_of f next) r x → IsPut mid new n.form x y → IsCoded f.procs new (body_of f id) r y
     put_coded r x y h p =
         let m = node_of s.statement in
         let same : code_at new y.code ≡ part_tree (part_in r m) (code_at mid x.code) =
@@ -172,7 +172,7 @@ module _ (f : File) (place : Place) (p : Written) (test : Expr) (first second : 
   NoClash s = HasClash f s → ⊥
 
   module _ (old new : List CodeNode) where
-    joined_code : (r : NameId) (x y z : Coded) → IsCoded f.procs old one r x → IsCoded f.procs old other r y → IsJoined old new form (x, y) z → IsCoded f.procs new whole r z
+    pub joined_code : (r : NameId) (x y z : Coded) → IsCoded f.procs old one r x → IsCoded f.procs old other r y → IsJoined old new form (x, y) z → IsCoded f.procs new whole r z
     joined_code r x y z h g j = record {
       process = j.process ∙ h.process;
       inside = j.inside;
@@ -200,7 +200,7 @@ module _ (f : File) (place : Place) (p : Written) (test : Expr) (first second : 
     joined_codes (r ∷ scope) (x ∷ xs) (y ∷ ys) [] a b j = absurd j
     joined_codes (r ∷ scope) (x ∷ xs) (y ∷ ys) (z ∷ zs) a b j = (joined_code r x y z a.0 b.0 j.0, joined_codes scope xs ys zs a.1 b.1 j.1)
 
-    joined_sites : (scope : List NameId) (xs ys zs : List Coded) → AllZip (IsCoded f.procs old one) scope xs → AllZip (IsCoded f.procs old other) scope ys → AllZip (IsJoined old new form) (zip xs ys) zs → All NoClash (sites_at scope place p one other)
+    pub joined_sites : (scope : List NameId) (xs ys zs : List Coded) → AllZip (IsCoded f.procs old one) scope xs → AllZip (IsCoded f.procs old other) scope ys → AllZip (IsJoined old new form) (zip xs ys) zs → All NoClash (sites_at scope place p one other)
     joined_sites [] xs ys zs a b j = All-nil NoClash
     joined_sites (r ∷ scope) [] ys zs a b j = absurd a
     joined_sites (r ∷ scope) (x ∷ xs) [] zs a b j = absurd b
@@ -249,7 +249,7 @@ module _ (f : File) (place : Place) (p : Written) (test : Expr) (first second : 
         go true e i = i
         go false e i = record { site' = i.site'; first' = later (λ c. n (clash_stuck r u v e a.0 b.0 c)) i.first'; place' = i.place'; process' = i.process' }
 
-    stuck_stops : (n : TreeNode) → n.form ≡ form → n.place ≡ place → (scope : List NameId) (xs ys : List Coded) (s : Stop) → AllZip (IsCoded f.procs old one) scope xs → AllZip (IsCoded f.procs old other) scope ys → StopsFirst old n (zip xs ys) s
+    pub stuck_stops : (n : TreeNode) → n.form ≡ form → n.place ≡ place → (scope : List NameId) (xs ys : List Coded) (s : Stop) → AllZip (IsCoded f.procs old one) scope xs → AllZip (IsCoded f.procs old other) scope ys → StopsFirst old n (zip xs ys) s
         → StopsAt f (sites_at scope place p one other) s
     stuck_stops n e at scope xs ys Memory a b h = tt
     stuck_stops n e at scope xs ys (Clash where' who) a b h =
@@ -272,7 +272,7 @@ module _ {f : File} {id first second : NodeId} {n : TreeNode} (at : IsAt f id n)
   abbrev both : List NameId → List Site
   both scope = sites_in scope (body_of f first) ++ sites_in scope (body_of f second)
 
-  if_block : body_of f id ≡ Either n.place c.decider (term_of c.test) (body_of f first) (body_of f second)
+  pub if_block : body_of f id ≡ Either n.place c.decider (term_of c.test) (body_of f first) (body_of f second)
   if_block = at.block ∙ ap (block_of (blocks_of f.tree.nodes) n.place) c.is
 
   if_sites : (scope : List NameId) → sites_in scope (body_of f id) ≡ both scope ++ last scope

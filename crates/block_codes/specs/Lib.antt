@@ -2,3 +2,4 @@ pub mod Nodes
 pub mod Parts
 pub mod Joins
 pub mod Walks
+pub mod Alone

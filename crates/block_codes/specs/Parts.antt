@@ -24,6 +24,16 @@ pub record ArePut (old new : List CodeNode) (g : Form) (xs ys : List Coded) : Ty
   pub kept : Keeps old new
   pub each : AllZip (IsPut old new g) xs ys
 
+-- the number of a table's first node
+abbrev pub first_id : CodeId
+first_id = record { 0 = 0 }
+
+-- the end stands at id, and old nodes stay
+pub record IsEndAt (old new : List CodeNode) (id : CodeId) : Type 0 where
+  pub kept : Keeps old new
+  pub inside : id.0 < length new
+  pub code : code_at new id ≡ Ends
+
 -- the node is this code, and nothing follows it; no node is the end
 abbrev pub IsLeaf : CodeTree → Option CodeNode → Type 0
 IsLeaf q None = q ≡ Ends

@@ -39,8 +39,8 @@ pub fn join(
     Ok(codes)
 }
 
-// The decider tests, and for another process both codes are merged.
-fn join_one(
+/// Joins the codes of one process: the decider tests, and for another both are merged.
+pub fn join_one(
     alloc: Global,
     node: &Node,
     first: Coded,

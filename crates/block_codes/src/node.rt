@@ -38,6 +38,13 @@ pub enum Turn {
     Last,
 }
 
+/// The nodes at which the branches of a conditional begin.
+#[derive(Clone, Copy)]
+pub struct Branches {
+    pub first: NodeId,
+    pub second: NodeId,
+}
+
 /// How a block goes on after a node of this form.
 pub fn turn_of(form: &Form) -> Turn
     ensures { GoesOn form.now result }

@@ -8,8 +8,9 @@ ghost use Rattle.block_codes.specs.Walks.{AreCodes, StopsAt};
 
 use crate::coded::Coded;
 use crate::joined::join;
-use crate::node::{Spot, Turn, spot_at, turn_of};
-use crate::statement::{last_codes, put_parts, scope_after};
+use crate::last::last_codes;
+use crate::node::{Branches, Spot, Turn, spot_at, turn_of};
+use crate::statement::{put_parts, scope_after};
 use crate::stop::Stop;
 use chor_base::{List, NameId};
 use chor_tree::{File, NodeId};
@@ -59,13 +60,6 @@ fn after_statement(
     let longer = scope_after(alloc, scope, form)?;
     let rest = codes(alloc, spot.file, next, longer.as_slice(), code)?;
     Ok(put_parts(alloc, form, &rest.as_slice()[..scope.len()], code)?)
-}
-
-// The nodes at which the branches of a conditional begin.
-#[derive(Clone, Copy)]
-struct Branches {
-    first: NodeId,
-    second: NodeId,
 }
 
 // From a conditional on.

@@ -2,11 +2,11 @@
 //! answer is written: the case's title, the status's number, and the text. The file `stdout` of this
 //! crate has the right answers, worked out by hand.
 //!
-//! A file of cases begins with a line that says what it is about. A line `=== WORDS: NAME` begins a case: the
+//! A file of cases begins with lines that say what it is about. A line `=== WORDS: NAME` begins a case: the
 //! words of the command line, in which `FILE` is the case's source, and what the case shows. The
 //! lines after it, up to the next `===`, are the source. What stands after a line `=== head` comes
 //! before each source of that file. What stands after a line `=== base` is a source of which the
-//! cases of that file are changes: the text of lines that begin with `- ` stands in it once, and
+//! cases after it are changes: the text of lines that begin with `- ` stands in it once, and
 //! the text of the lines with `+ ` that follow comes in its place.
 #![tactic(auto)]
 

@@ -1,5 +1,5 @@
 -- What comes after the first word of a tail.
-use Rattle.std.proofs.Common.{◌≡◌, ◌<◌, ℕ, List, [], ◌∷◌, ◌++◌, None, All, length, refl, ap, ◌∙◌, sym, map, codes, arith}
+use Rattle.std.proofs.Common.{◌≡◌, ◌≤◌, ◌<◌, ℕ, List, [], ◌∷◌, ◌++◌, None, All, length, refl, ap, ◌∙◌, sym, map, codes, arith}
 use Rattle.std.proofs.lemmas.List.{append-nil}
 use Rattle.std.proofs.lemmas.List.Elements.{All-map, All-cons, All-nil, All-head, All-tail, All-push, All-same, All-weaker}
 use Rattle.chor_base.specs.declared.expr.Expr.{Expr}
@@ -7,19 +7,20 @@ use Rattle.chor_base.specs.Expr.{term_of}
 use Rattle.chor_base.specs.declared.rule.Denied.{Denied}
 use Rattle.chor_base.specs.declared.rule.Rule.TheVariants.{E4}
 use Rattle.chor_lexer.specs.Lexeme.{Lexeme}
-use Rattle.chor_lexer.specs.declared.mark.Mark.TheVariants.{OpenBrace, CloseBrace}
+use Rattle.chor_lexer.specs.declared.mark.Mark.TheVariants.{CloseBrace}
 use Rattle.grammar_laws.specs.Classes.{a_name}
 use Rattle.grammar_laws.specs.Grammars.{seq, many, HasRoom, nowhere, Derives, in_turn, one_of_many}
 use Rattle.grammar_laws.specs.Readers.{Reads, Halts, Leads, Stands, Lacks, Begins, Tells}
-use Rattle.grammar_laws.proofs.Reading.{past, reads_past, reads_same, leads_on, after_reads, many_end, begun_by, comes_then, token_comes, misses_then, token_misses}
+use Rattle.grammar_laws.proofs.Reading.{past, reads_past, leads_on, after_reads, many_end, begun_by, comes_then, token_comes, misses_then, token_misses}
 use Rattle.grammar_laws.proofs.Sequences.{then_reads, then_halts, now_halts}
-use Rattle.grammar_laws.proofs.Progress.{read_shorter}
+use Rattle.grammar_laws.proofs.Progress.{read_shorter, read_no_longer}
 use Rattle.grammar_laws.proofs.Lists.{last_of}
 use Rattle.grammar_laws.proofs.Ways.{item_comes}
 use Rattle.endpoint_grammar.specs.Written.{Phrase, Body, Offers, Tests, Calls, Arm as WrittenArm}
-use Rattle.endpoint_grammar.specs.Grammar.{Part, mark, word, two_names, expr, arm, body, branch, conditional, signature}
+use Rattle.endpoint_grammar.specs.Grammar.{Part, NAME, mark, word, expr, arm, body, branch, conditional, signature}
 use Rattle.endpoint_grammar.specs.Values.{rules, Derived, phrase, arms_of}
 use Rattle.endpoint_reader.specs.declared.input.Input.{Input}
+use Rattle.endpoint_reader.specs.declared.input.Named.{Named}
 use Rattle.endpoint_reader.specs.declared.lines.LineId.{LineId}
 use Rattle.endpoint_reader.specs.declared.lines.Arm.{Arm}
 use Rattle.endpoint_reader.specs.declared.lines.Line.{Line}
@@ -27,8 +28,8 @@ use Rattle.endpoint_reader.specs.declared.lines.Line.TheVariants.{If}
 use Rattle.endpoint_reader.specs.Tokens.{named, written}
 use Rattle.endpoint_reader.specs.Signatures.{signed}
 use Rattle.endpoint_reader.specs.Lines.{body_in, arms_in, bodies_of, body_at}
-use Rattle.endpoint_reader.specs.Bodies.{Grows, OneArm, arms, arm_list, arm_of, branch_body, conditional_body, call_body}
-use Rattle.endpoint_reader.proofs.Tables.{grows_on, body_stays, body_pushed, no_fewer}
+use Rattle.endpoint_reader.specs.Bodies.{Grows, OneArm, arms, arm_list, arm_of, BranchOpens, branch_body, conditional_body, call_body}
+use Rattle.endpoint_reader.proofs.Tables.{grows_none, grows_on, body_stays, body_pushed, no_fewer}
 
 -- ---- arms
 
@@ -69,54 +70,88 @@ one_arm {p} {ts} b = record { on = (item_comes rules b).on; is = λ v rest d. go
 no_arm : {p : ℕ} {ts : List Lexeme} → Lacks a_name ts → Reads rules (many E4 None (arm p)) ts [] ts
 no_arm n = many_end _ (misses_then _ (token_misses _ n))
 
--- these arms were read, with their lines in the table
+-- these arms were read, with their lines in the table, and another comes
 pub record ArmsSoFar (i : Input) (p : ℕ) (ts : List Lexeme) (first ls : List Line) (xs : List Arm) (us : List Lexeme) : Type 0 where
-  pub whole : Derived (arms_left p) → Derived (arms p)
-  pub leads : Leads rules (arms p) ts (arms_left p) us whole
-  pub is : (v : Derived (arms_left p)) → arm_list p (whole v) ≡ map (arm_of i (bodies_of i ls)) xs ++ v.0
+  pub whole : Derived (arms p) → Derived (arms p)
+  pub leads : Leads rules (arms p) ts (arms p) us whole
+  pub is : (v : Derived (arms p)) → arm_list p (whole v) ≡ map (arm_of i (bodies_of i ls)) xs ++ arm_list p v
   pub there : All (Inside ls) xs
   pub grows : Grows first ls
-  pub shorter : length us < length ts
+  pub further : length us ≤ length ts
 
-module _ {i : Input} {p : ℕ} {ts : List Lexeme} {first : List Line} where
-  pub arms_begin : {ls : List Line} {xs zs : List Arm} {us : List Lexeme} (a : Arm) → Reads rules (arm p) ts (arm_of i (bodies_of i ls) a) us → a.body.0 < length ls → Grows first ls → xs ≡ [] → zs ≡ xs ++ a ∷ [] → ArmsSoFar i p ts first ls zs us
-  arms_begin {ls} {xs} {zs} a r lt g e f = record {
-    whole = λ v. (arm_of i (bodies_of i ls) a, v);
-    leads = after_reads _ r;
-    is = λ v. ap (λ ys. map (arm_of i (bodies_of i ls)) ys ++ arm_of i (bodies_of i ls) a ∷ v.0) (sym e) ∙ last_of (arm_of i (bodies_of i ls)) xs zs a v.0 f;
-    there = All-same (Inside ls) zs (a ∷ []) (f ∙ ap (λ ys. ys ++ a ∷ []) e) (All-cons (Inside ls) a [] lt (All-nil (Inside ls)));
-    grows = g;
-    shorter = read_shorter refl r;
-  }
+pub arms_begin : {i : Input} {p : ℕ} {ts : List Lexeme} {ls : List Line} {xs : List Arm} → xs ≡ [] → ArmsSoFar i p ts ls ls xs ts
+arms_begin {i} {p} {ts} {ls} {xs} e = record {
+  whole = λ v. v;
+  leads = record { on = λ h. refl; is = λ y rest d. d };
+  is = λ v. ap (λ ys. map (arm_of i (bodies_of i ls)) ys ++ arm_list p v) (sym e);
+  there = All-same (Inside ls) xs [] e (All-nil (Inside ls));
+  grows = grows_none ls;
+  further = omega arith;
+}
 
-  module _ {ls : List Line} {xs : List Arm} {us vs : List Lexeme} {l : Lexeme} where
-    pub arms_go : {new : List Line} {zs : List Arm} {ws : List Lexeme} (a : Arm) → ArmsSoFar i p ts first ls xs us → Stands a_name l us vs → Reads rules (arm p) us (arm_of i (bodies_of i new) a) ws → a.body.0 < length new → Grows ls new → zs ≡ xs ++ a ∷ [] → ArmsSoFar i p ts first new zs ws
-    arms_go {new} {zs} a s h r lt g f = record {
-      whole = λ v. s.whole (arm_of i (bodies_of i new) a ∷ v.0, v.1);
-      leads = leads_on _ s.leads (leads_on _ (one_arm (arm_begins h)) (after_reads _ r));
-      is = λ v. s.is (arm_of i (bodies_of i new) a ∷ v.0, v.1) ∙ ap (λ ys. ys ++ arm_of i (bodies_of i new) a ∷ v.0) (sym (arms_stay i xs g s.there)) ∙ last_of (arm_of i (bodies_of i new)) xs zs a v.0 f;
-      there = All-same (Inside new) zs (xs ++ a ∷ []) f (All-push (Inside new) xs a (still_inside xs g s.there) lt);
-      grows = grows_on s.grows g;
-      shorter = let k = read_shorter refl r in omega (arith, s.shorter);
-    }
+module _ {i : Input} {p : ℕ} {ts us : List Lexeme} {first ls : List Line} {xs : List Arm} (s : ArmsSoFar i p ts first ls xs us) where
+  pub label_halts : {d : Denied} → Halts rules NAME us d → Halts rules (arms p) ts d
+  label_halts h = past _ s.leads (now_halts (now_halts h))
 
-    pub arm_halts : {d : Denied} → ArmsSoFar i p ts first ls xs us → Stands a_name l us vs → Halts rules (arm p) us d → Halts rules (arms p) ts d
-    arm_halts s h k = past _ s.leads (past _ (one_arm (arm_begins h)) (now_halts k))
+  module _ {vs : List Lexeme} (l : Named) (n : Reads rules NAME us (named i l) vs) where
+    pub arm_halts : {d : Denied} → Halts rules (body p) vs d → Halts rules (arms p) ts d
+    arm_halts h = past _ s.leads (now_halts (then_halts n h))
 
-  module _ {ls : List Line} {xs : List Arm} {us : List Lexeme} where
-    pub arms_end : {vs : List Lexeme} → ArmsSoFar i p ts first ls xs us → Lacks a_name us → Reads rules (mark CloseBrace) us tt vs → Tells rules (arms p) (arm_list p) ts (map (arm_of i (bodies_of i ls)) xs) vs
-    arms_end s n c = record { value = s.whole ([], tt); reads = reads_past _ s.leads (then_reads (no_arm n) c); is = s.is ([], tt) ∙ append-nil (map (arm_of i (bodies_of i ls)) xs) }
+    module _ {new : List Line} {b : LineId} {ws : List Lexeme} {zs : List Arm} (r : Reads rules (body p) vs (body_at i new b, tt) ws) (lt : b.0 < length new) (g : Grows ls new) (e : zs ≡ xs ++ (record { label = l; body = b }) ∷ []) where
+      abbrev last : Arm
+      last = record { label = l; body = b }
 
-    pub arms_open : {d : Denied} → ArmsSoFar i p ts first ls xs us → Lacks a_name us → Halts rules (mark CloseBrace) us d → Halts rules (arms p) ts d
-    arms_open s n h = past _ s.leads (then_halts (no_arm n) h)
+      arm_read : Reads rules (arm p) us (arm_of i (bodies_of i new) last) ws
+      arm_read = then_reads n r
+
+      arms_with : (ys : List OneArm) → map (arm_of i (bodies_of i ls)) xs ++ arm_of i (bodies_of i new) last ∷ ys ≡ map (arm_of i (bodies_of i new)) zs ++ ys
+      arms_with ys = ap (λ zs. zs ++ arm_of i (bodies_of i new) last ∷ ys) (sym (arms_stay i xs g s.there)) ∙ last_of (arm_of i (bodies_of i new)) xs zs last ys e
+
+      pub arms_there : All (Inside new) zs
+      arms_there = All-same (Inside new) zs (xs ++ last ∷ []) e (All-push (Inside new) xs last (still_inside xs g s.there) lt)
+
+      pub arms_grow : Grows first new
+      arms_grow = grows_on s.grows g
+
+      pub arms_go : {m : Lexeme} {us' : List Lexeme} → Stands a_name m ws us' → ArmsSoFar i p ts first new zs ws
+      arms_go h = record {
+        whole = λ v. s.whole (arm_of i (bodies_of i new) last, (v.0 ∷ v.1.0, v.1.1));
+        leads = leads_on _ s.leads (leads_on _ (after_reads _ arm_read) (one_arm (arm_begins h)));
+        is = λ v. s.is (arm_of i (bodies_of i new) last, (v.0 ∷ v.1.0, v.1.1)) ∙ arms_with (v.0 ∷ v.1.0);
+        there = arms_there;
+        grows = arms_grow;
+        further = omega (arith, s.further, read_no_longer arm_read);
+      }
+
+      pub arms_end : {ends : List Lexeme} → Lacks a_name ws → Reads rules (mark CloseBrace) ws tt ends → Tells rules (arms p) (arm_list p) ts (map (arm_of i (bodies_of i new)) zs) ends
+      arms_end o c = record {
+        value = s.whole (arm_of i (bodies_of i new) last, ([], tt));
+        reads = reads_past _ s.leads (then_reads arm_read (then_reads (no_arm o) c));
+        is = s.is (arm_of i (bodies_of i new) last, ([], tt)) ∙ arms_with [] ∙ append-nil (map (arm_of i (bodies_of i new)) zs);
+      }
+
+      pub arms_open : {d : Denied} → Lacks a_name ws → Halts rules (mark CloseBrace) ws d → Halts rules (arms p) ts d
+      arms_open o h = past _ s.leads (then_halts arm_read (then_halts (no_arm o) h))
 
 -- ---- a branch, a conditional
 
-pub branch_is : {p : ℕ} {ts us vs ws : List Lexeme} {k a : Lexeme} {b : Body} (i : Input) (bs : List Body) (xs : List Arm) → Reads rules two_names ts (k, a) us → Reads rules (mark OpenBrace) us tt vs → Tells rules (arms p) (arm_list p) vs (map (arm_of i bs) xs) ws
+-- so were the names before them
+pub record ArmsFrom (i : Input) (p : ℕ) (ts : List Lexeme) (names : Lexeme × Lexeme) (first ls : List Line) (xs : List Arm) (us : List Lexeme) : Type 0 where
+  pub start : List Lexeme
+  pub opens : BranchOpens ts names start
+  pub arms : ArmsSoFar i p start first ls xs us
+
+pub branch_shorter : {ts us : List Lexeme} {x : Lexeme × Lexeme} → BranchOpens ts x us → length us < length ts
+branch_shorter o = omega (arith, read_shorter refl o.names, read_shorter refl o.opens)
+
+pub branch_halts_in : {p : ℕ} {ts us : List Lexeme} {x : Lexeme × Lexeme} {d : Denied} → BranchOpens ts x us → Halts rules (arms p) us d → Halts rules (branch p) ts d
+branch_halts_in o h = then_halts o.names (then_halts o.opens h)
+
+pub branch_is : {p : ℕ} {ts vs ws : List Lexeme} {k a : Lexeme} {b : Body} (i : Input) (bs : List Body) (xs : List Arm) → BranchOpens ts (k, a) vs → Tells rules (arms p) (arm_list p) vs (map (arm_of i bs) xs) ws
     → b ≡ Offers k a (arms_in i bs xs) → Tells rules (branch p) (branch_body p) ts b ws
-branch_is {k = k} {a = a} i bs xs r o t e = record {
+branch_is {k = k} {a = a} i bs xs o t e = record {
   value = ((k, a), (tt, t.value));
-  reads = then_reads r (then_reads o t.reads);
+  reads = then_reads o.names (then_reads o.opens t.reads);
   is = ap (λ ys. Offers k a (arms_of ys)) t.is ∙ ap (Offers k a) (same_arms i bs xs) ∙ sym e;
 }
 

@@ -1,5 +1,5 @@
 -- Bodies: how their readers go on.
-use Rattle.std.proofs.Common.{◌≡◌, ◌-◌, ◌<◌, ℕ, inl, inr, List, [], ◌∷◌, ◌++◌, Option, Some, None, IfSome, IfNone, length, length-append, refl, ap, ◌∙◌, sym, subst, map, arith}
+use Rattle.std.proofs.Common.{◌≡◌, ◌-◌, ◌<◌, ℕ, inl, inr, List, [], ◌∷◌, ◌++◌, Option, Some, None, IfSome, IfNone, length, length-append, refl, ap, ◌∙◌, sym, subst, map, Result, Ok, Err, OnOk, arith}
 use Rattle.chor_base.specs.declared.rule.Rule.TheVariants.{E1, E4}
 use Rattle.chor_base.specs.declared.rule.Denied.{Denied}
 use Rattle.chor_lexer.specs.Lexeme.{Lexeme}
@@ -122,3 +122,7 @@ all_pushed {ls = ls} {left = left} {next = next} p e i = no_action i left (body_
 
 pub pushed_smaller : {left : List Action} (rest : List Action) (x : Action) → left ≡ rest ++ x ∷ [] → length rest < length left
 pushed_smaller rest x e = omega (arith, ap length e, length-append rest (x ∷ []))
+
+pub ok_then : {X : Type 0} {P Q : Type 0} (r : Result X Denied) → OnOk r P → (P → Q) → OnOk r Q
+ok_then (Ok x) p f = f p
+ok_then (Err d) p f = tt

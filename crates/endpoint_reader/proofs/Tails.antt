@@ -1,20 +1,25 @@
 -- Tails by their first words.
-use Rattle.std.proofs.Common.{◌≡◌, ◌-◌, ◌<◌, ℕ, inl, inr, true, false, List, Some, length, codes, refl, ap, subst, arith}
+use Rattle.std.proofs.Common.{◌≡◌, ◌-◌, ◌<◌, ℕ, inl, inr, true, false, List, Some, length, codes, refl, sym, ap, subst, arith}
 use Rattle.chor_base.specs.declared.rule.Rule.TheVariants.{E4}
 use Rattle.chor_base.specs.declared.rule.Denied.{Denied}
-use Rattle.chor_base.specs.declared.rule.Place.{Place}
+use Rattle.chor_base.specs.declared.rule.Denied.TheVariants.{Memory}
 use Rattle.chor_lexer.specs.Lexeme.{Lexeme}
 use Rattle.grammar_laws.specs.Classes.{a_word, a_kept_word}
 use Rattle.grammar_laws.specs.Grammars.{within, is_full}
 use Rattle.grammar_laws.specs.Readers.{Reads, Halts, Leads, HasOne, Stands, Lacks, Begins, Misses, Refuses, Tells}
-use Rattle.grammar_laws.proofs.Reading.{past, reads_past, leads_on, after_reads, token_comes, token_misses, token_reads, comes_then, comes_first, comes_second, misses_then, misses_both, misses_within, first_of_two, second_of_two, begun_by, begins, has_room, full_halts, missed, other_stands}
+use Rattle.grammar_laws.proofs.Reading.{past, reads_past, leads_on, after_reads, token_comes, token_misses, token_reads, comes_then, comes_first, comes_second, misses_then, misses_both, misses_within, first_of_two, second_of_two, begun_by, begins, has_room, full_halts, missed, memory_halts, other_stands}
 use Rattle.endpoint_grammar.specs.Written.{Body, Ends}
 use Rattle.endpoint_grammar.specs.Grammar.{tail, branch, conditional, signature}
 use Rattle.endpoint_grammar.specs.Values.{rules, last_node}
+use Rattle.endpoint_reader.specs.declared.input.Input.{Input}
+use Rattle.endpoint_reader.specs.declared.lines.LineId.{LineId}
+use Rattle.endpoint_reader.specs.declared.lines.Line.{Line}
 use Rattle.endpoint_reader.specs.declared.tail.TailWord.{TailWord}
 use Rattle.endpoint_reader.specs.declared.tail.TailWord.TheVariants as begun
-use Rattle.endpoint_reader.specs.Tails.{kept_word, TailStands}
-use Rattle.endpoint_reader.specs.Bodies.{branch_body, conditional_body, call_body}
+use Rattle.endpoint_reader.specs.Tokens.{from}
+use Rattle.endpoint_reader.specs.Tails.{TailStands}
+use Rattle.endpoint_reader.specs.Lines.{body_at}
+use Rattle.endpoint_reader.specs.Bodies.{IsEndLine, branch_body, conditional_body, call_body}
 
 pub no_tail : {ts : List Lexeme} (p : ℕ) → Lacks (a_word (codes "branch")) ts → Lacks (a_word (codes "if")) ts → Lacks (a_word (codes "end")) ts → Lacks (a_kept_word (codes "call")) ts → Misses rules (tail p) ts
 no_tail p b i e c = misses_both _ (misses_then _ (token_misses _ b)) (misses_both _ (misses_then _ (token_misses _ i)) (misses_both _ (misses_then _ (token_misses _ c)) (token_misses _ e)))
@@ -66,7 +71,7 @@ module _ {ts us : List Lexeme} where
       pub call_told : {l : Lexeme} → is_full (Some n) ≡ false → Stands (a_kept_word (codes "call")) l ts us → Tells rules signature (call_body l) us b vs → Tells rules (within E4 (Some n) (tail (n - 1))) (last_node (n - 1)) ts b vs
       call_told {l = l} f s t = record { value = inr (inr (inl (l, t.value))); reads = reads_past _ (has_room _ f) (reads_past _ (to_call s) t.reads); is = t.is }
 
-    pub end_told : {b : Body} → is_full (Some n) ≡ false → HasOne (a_word (codes "end")) ts us → Ends ≡ b → Tells rules (within E4 (Some n) (tail (n - 1))) (last_node (n - 1)) ts b us
+    end_told : {b : Body} → is_full (Some n) ≡ false → HasOne (a_word (codes "end")) ts us → Ends ≡ b → Tells rules (within E4 (Some n) (tail (n - 1))) (last_node (n - 1)) ts b us
     end_told f h e = record { value = inr (inr (inr tt)); reads = reads_past _ (has_room _ f) (end_reads h); is = e }
 
     module _ {d : Denied} where
@@ -78,3 +83,9 @@ module _ {ts us : List Lexeme} where
 
       pub call_halts : {l : Lexeme} → is_full (Some n) ≡ false → Stands (a_kept_word (codes "call")) l ts us → Halts rules signature us d → Halts rules (within E4 (Some n) (tail (n - 1))) ts d
       call_halts f s t = past _ (has_room _ f) (past _ (to_call s) t)
+
+pub end_line : {n after : ℕ} {ts : List Lexeme} {ls : List Line} {x : LineId × ℕ} (i : Input) → is_full (Some n) ≡ false → HasOne (a_word (codes "end")) ts (from i after) → IsEndLine after ls x → Tells rules (within E4 (Some n) (tail (n - 1))) (last_node (n - 1)) ts (body_at i ls x.0) (from i x.1)
+end_line {ts = ts} i f h e = end_told f (subst (λ (k : ℕ). HasOne (a_word (codes "end")) ts (from i k)) (sym e.after) h) (sym (e.body i))
+
+pub memory_tail : {n : ℕ} {ts : List Lexeme} {d : Denied} → d ≡ Memory → Halts rules (within E4 (Some n) (tail (n - 1))) ts d
+memory_tail e = memory_halts _ e

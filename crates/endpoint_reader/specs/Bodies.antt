@@ -1,20 +1,21 @@
 -- What readers of bodies answer.
-use Rattle.std.specs.Prelude.{◌≡◌, ◌-◌, ℕ, List, [], ◌∷◌, ◌++◌, Some, None, codes}
+use Rattle.std.specs.Prelude.{◌≡◌, ◌-◌, ◌<◌, ℕ, List, [], ◌∷◌, ◌++◌, Some, None, length, codes}
 use Rattle.chor_base.specs.declared.rule.Place.{Place}
 use Rattle.chor_base.specs.declared.rule.Rule.TheVariants.{E4}
 use Rattle.chor_lexer.specs.Lexeme.{Lexeme}
-use Rattle.chor_lexer.specs.declared.mark.Mark.TheVariants.{CloseBrace}
+use Rattle.chor_lexer.specs.declared.mark.Mark.TheVariants.{OpenBrace, CloseBrace}
 use Rattle.grammar_laws.specs.Grammars.{row, many, within}
-use Rattle.grammar_laws.specs.Readers.{Reads, Tells}
-use Rattle.endpoint_grammar.specs.Written.{Body, Offers, Tests, Calls}
-use Rattle.endpoint_grammar.specs.Grammar.{Part, mark, arm, body, tail, branch, conditional, signature}
+use Rattle.grammar_laws.specs.Readers.{Reads, Misses, Tells}
+use Rattle.endpoint_grammar.specs.Written.{Body, Offers, Tests, Calls, Ends}
+use Rattle.endpoint_grammar.specs.Grammar.{Part, mark, node, two_names, arm, body, tail, branch, conditional, signature}
 use Rattle.endpoint_grammar.specs.Values.{rules, Derived, phrase, arms_of, session_list, last_node}
 use Rattle.endpoint_reader.specs.declared.input.Input.{Input}
+use Rattle.endpoint_reader.specs.declared.node.Action.{Action}
 use Rattle.endpoint_reader.specs.declared.lines.LineId.{LineId}
 use Rattle.endpoint_reader.specs.declared.lines.Arm.{Arm}
 use Rattle.endpoint_reader.specs.declared.lines.Line.{Line}
 use Rattle.endpoint_reader.specs.Tokens.{from, named}
-use Rattle.endpoint_reader.specs.Lines.{body_in, body_at}
+use Rattle.endpoint_reader.specs.Lines.{body_in, body_at, Going}
 use Rattle.endpoint_reader.specs.Tails.{kept_word}
 
 -- lines were added after those that were there
@@ -30,7 +31,31 @@ IsBody i room at ls x = Reads rules (body room) (from i at) (body_at i ls x.0, t
 abbrev pub IsTail : Input → ℕ → ℕ → List Line → LineId × ℕ → Type 0
 IsTail i room at ls x = Tells rules (within E4 (Some room) (tail (room - 1))) (last_node (room - 1)) (from i at) (body_at i ls x.0) (from i x.1)
 
+-- the brace before a body and these actions were read; its tail comes, and its path has room for so many more nodes
+pub record BodyOpens (i : Input) (room : ℕ) (ts : List Lexeme) (xs : List Action) (left : ℕ) (us : List Lexeme) : Type 0 where
+  pub start : List Lexeme
+  pub opens : Reads rules (mark OpenBrace) ts tt start
+  pub going : Going i room start xs left us
+  pub all : Misses rules node us
+  pub shorter : length us < length ts
+
+-- a brace was read, and the line is that of this body
+pub record BodyCloses (i : Input) (at : ℕ) (b : Input → Body) (ls : List Line) (x : LineId × ℕ) : Type 0 where
+  pub closes : Reads rules (mark CloseBrace) (from i at) tt (from i x.1)
+  pub body : (j : Input) → body_at j ls x.0 ≡ b j
+
+-- the line is that of the end, and nothing was read
+pub record IsEndLine (at : ℕ) (ls : List Line) (x : LineId × ℕ) : Type 0 where
+  pub after : x.1 ≡ at
+  pub body : (j : Input) → body_at j ls x.0 ≡ Ends
+
 -- ---- what comes after the first word of a tail
+
+-- both names of a branch and the brace before its arms were read
+pub record BranchOpens (ts : List Lexeme) (x : Lexeme × Lexeme) (us : List Lexeme) : Type 0 where
+  pub start : List Lexeme
+  pub names : Reads rules two_names ts x start
+  pub opens : Reads rules (mark OpenBrace) start tt us
 
 -- the arms of a branch, after the brace before them
 abbrev pub arms : ℕ → Part

@@ -1,5 +1,5 @@
 -- Units of endpoint files, as they are written.
-use Rattle.std.specs.Prelude.{◌<◌, List, length, map, All}
+use Rattle.std.specs.Prelude.{◌<◌, List, length, All}
 use Rattle.endpoint_grammar.specs.Written.{Channel as ChannelUnit, Procedure as ProcedureUnit, Service as ServiceUnit, Process as ProcessUnit}
 use Rattle.endpoint_reader.specs.declared.input.Input.{Input}
 use Rattle.endpoint_reader.specs.declared.lines.Line.{Line}

@@ -1,21 +1,25 @@
 //! Bodies.
 
-ghost use Rattle.std.specs.Prelude.{◌≡◌, ◌-◌, ◌<◌, ◌≤◌, ◌++◌, ◌∷◌, [], All, Some, length, map, IfOk, IfErr, OnOk};
-ghost use Rattle.grammar_laws.specs.Readers.{Reads, Halts, Misses, Tells};
+ghost use Rattle.std.specs.Prelude.{◌≡◌, ◌-◌, ◌<◌, ◌≤◌, ◌++◌, ◌∷◌, [], All, Some, false, length, map, IfOk, IfErr, OnOk};
 ghost use Rattle.chor_base.specs.declared.rule.Rule.TheVariants.{E4};
-ghost use Rattle.grammar_laws.specs.Grammars.{within};
-ghost use Rattle.endpoint_grammar.specs.Grammar.{node, lines_of, arm as an_arm, body as a_body, tail, branch, conditional, signature};
+ghost use Rattle.chor_lexer.specs.declared.mark.Mark.TheVariants.{CloseBrace};
+ghost use Rattle.grammar_laws.specs.Grammars.{within, is_full};
+ghost use Rattle.grammar_laws.specs.Readers.{Halts, Misses};
+ghost use Rattle.endpoint_grammar.specs.Written.{Offers};
+ghost use Rattle.endpoint_grammar.specs.Grammar.{mark, node, lines_of, body as a_body, tail, branch, conditional, signature};
 ghost use Rattle.endpoint_grammar.specs.Values.{rules};
 ghost use Rattle.endpoint_reader.specs.declared.input.Input.{Input as AnyInput};
 ghost use Rattle.endpoint_reader.specs.Nodes.{deed_of};
-ghost use Rattle.endpoint_reader.specs.Tokens.{from};
-ghost use Rattle.endpoint_reader.specs.Lines.{bodies_of, body_at, does_all, Going};
-ghost use Rattle.endpoint_reader.specs.Bodies.{Grows, IsBody, IsTail, IsBranch, IsConditional, IsCall, arms, arm_list, arm_of};
+ghost use Rattle.endpoint_reader.specs.Tokens.{from, named};
+ghost use Rattle.endpoint_reader.specs.Signatures.{two_of};
+ghost use Rattle.endpoint_reader.specs.Lines.{arms_in, bodies_of, body_at, does_all, Going};
+ghost use Rattle.endpoint_reader.specs.Tails.{TailStands};
+ghost use Rattle.endpoint_reader.specs.Bodies.{Grows, IsBody, IsTail, IsBranch, IsConditional, IsCall, BodyOpens, BodyCloses, IsEndLine, BranchOpens};
 
 use crate::expression::read_expression;
 use crate::input::Input;
 use crate::lines::{Arm, Line, LineId, Lines};
-use crate::lists::{read_signature, read_two_names};
+use crate::lists::{Two, read_signature, read_two_names};
 use crate::node::{Action, read_node};
 use crate::tail::{TailWord, tail_word};
 use chor_base::{Denied, List, Memory, Place, Rule};
@@ -32,6 +36,8 @@ pub struct Begun {
 }
 
 /// The line with which a body begins whose path has room for so many nodes, and the place after it.
+// Branches nest as deep as a path goes: what needs no recursion stands in functions of its own, so
+// that little stays on the stack.
 #[cycle(bodies)]
 pub fn read_body(
     alloc: Global,
@@ -45,11 +51,37 @@ pub fn read_body(
     ensures grows { OnOk result (Grows lines.old.items lines.new.items) }
     ensures halts { IfErr result (Halts rules (a_body room) (from input.now at)) }
 {
+    let begun = open_body(alloc, input, at, room)?;
+    let (last, at) = read_tail(alloc, input, begun.at, begun.room, lines)?;
+    close_body(input, at, begun.actions, last, lines)
+}
+
+// "{" { node ";" }, on a path with room for so many nodes
+fn open_body(alloc: Global, input: &Input, at: usize, room: usize) -> Result<Begun, Denied>
+    ensures opens { IfOk result (λ x. BodyOpens input.now room (from input.now at) x.actions.items x.room (from input.now x.at)) }
+    ensures halts { IfErr result (Halts rules (a_body room) (from input.now at)) }
+{
     let at = input.take_mark(at, Mark::OpenBrace)?;
     let begun = read_actions(alloc, input, at, room)?;
-    let (last, at) = read_tail(alloc, input, begun.at, begun.room, lines)?;
+    Ok(begun)
+}
+
+// The brace after a body, which begins with these actions and goes on with a line.
+fn close_body(
+    input: &Input,
+    at: usize,
+    actions: Vec<Action>,
+    last: LineId,
+    lines: &mut Lines,
+) -> Result<(LineId, usize), Denied>
+    requires { last.0 < length lines.old.items }
+    ensures closes { IfOk result (λ x. BodyCloses input.now at (λ i. does_all (map (deed_of i) actions.items) (body_at i lines.old.items last)) lines.new.items x) }
+    ensures there { IfOk result (λ x. x.0.0 < length lines.new.items) }
+    ensures grows { OnOk result (Grows lines.old.items lines.new.items) }
+    ensures halts { IfErr result (Halts rules (mark CloseBrace) (from input.now at)) }
+{
     let at = input.take_mark(at, Mark::CloseBrace)?;
-    let first = push_actions(lines, begun.actions, last)?;
+    let first = push_actions(lines, actions, last)?;
     Ok((first, at))
 }
 
@@ -114,20 +146,37 @@ fn read_tail(
     ensures grows { OnOk result (Grows lines.old.items lines.new.items) }
     ensures halts { IfErr result (Halts rules (within E4 (Some room) (tail (room - 1))) (from input.now at)) }
 {
-    let Some(begun) = tail_word(input, at) else {
-        return Err(input.refused(Rule::E1, at));
-    };
-    let (word, after) = begun;
-    input.check_room(at, room)?;
+    let (word, after) = begin_tail(input, at, room)?;
     match word {
         TailWord::Branch => read_branch(alloc, input, after, room - 1, lines),
         TailWord::If => read_conditional(alloc, input, after, room - 1, lines),
         TailWord::Call(place) => read_call(alloc, input, after, place, lines),
-        TailWord::End => {
-            let end = lines.push(Line::End)?;
-            Ok((end, after))
-        }
+        TailWord::End => push_end(lines, after),
     }
+}
+
+// The word with which a tail begins, and the place after it; a path of nodes has room for so many.
+fn begin_tail(input: &Input, at: usize, room: usize) -> Result<(TailWord, usize), Denied>
+    ensures found { IfOk result (λ x. TailStands x.0 (from input.now at) (from input.now x.1)) }
+    ensures room { OnOk result (is_full (Some room) ≡ false) }
+    ensures some { OnOk result (0 < room) }
+    ensures halts { IfErr result (Halts rules (within E4 (Some room) (tail (room - 1))) (from input.now at)) }
+{
+    let Some(begun) = tail_word(input, at) else {
+        return Err(input.refused(Rule::E1, at));
+    };
+    input.check_room(at, room)?;
+    Ok(begun)
+}
+
+fn push_end(lines: &mut Lines, at: usize) -> Result<(LineId, usize), Denied>
+    ensures ends { IfOk result (IsEndLine at lines.new.items) }
+    ensures there { IfOk result (λ x. x.0.0 < length lines.new.items) }
+    ensures grows { OnOk result (Grows lines.old.items lines.new.items) }
+    ensures memory { IfErr result (λ d. d ≡ Denied.Memory) }
+{
+    let end = lines.push(Line::End)?;
+    Ok((end, at))
 }
 
 // NAME NAME "{" NAME body { NAME body } "}"
@@ -144,56 +193,46 @@ fn read_branch(
     ensures grows { OnOk result (Grows lines.old.items lines.new.items) }
     ensures halts { IfErr result (Halts rules (branch room) (from input.now at)) }
 {
+    let (names, mut at) = open_branch(input, at, room)?;
+    let mut arms = List::new(alloc);
+    'arms: loop {
+        let (label, after) = input.take_name(at)?;
+        let (body, end) = read_body(alloc, input, after, room, lines)?;
+        arms.push(Arm { label, body })?;
+        let Some(_) = input.name_at(end) else {
+            return close_branch(input, end, names, arms, lines);
+        };
+        at = end;
+    }
+}
+
+// NAME NAME "{"
+fn open_branch(input: &Input, at: usize, room: usize) -> Result<(Two, usize), Denied>
+    ensures opens { IfOk result (λ x. BranchOpens (from input.now at) (two_of input.now x.0) (from input.now x.1)) }
+    ensures halts { IfErr result (Halts rules (branch room) (from input.now at)) }
+{
     let (names, at) = read_two_names(input, at)?;
     let at = input.take_mark(at, Mark::OpenBrace)?;
-    let (arms, at) = read_arms(alloc, input, at, room, lines)?;
+    Ok((names, at))
+}
+
+// The brace after the arms of a branch.
+fn close_branch(
+    input: &Input,
+    at: usize,
+    names: Two,
+    arms: List<Arm>,
+    lines: &mut Lines,
+) -> Result<(LineId, usize), Denied>
+    requires { All (λ a. a.body.0 < length lines.old.items) arms }
+    ensures closes { IfOk result (λ x. BodyCloses input.now at (λ i. Offers (named i names.first) (named i names.second) (arms_in i (bodies_of i lines.old.items) arms)) lines.new.items x) }
+    ensures there { IfOk result (λ x. x.0.0 < length lines.new.items) }
+    ensures grows { OnOk result (Grows lines.old.items lines.new.items) }
+    ensures halts { IfErr result (Halts rules (mark CloseBrace) (from input.now at)) }
+{
+    let at = input.take_mark(at, Mark::CloseBrace)?;
     let branch = lines.push(Line::Branch(names.first, names.second, arms))?;
     Ok((branch, at))
-}
-
-// NAME body { NAME body } "}"
-#[cycle(bodies)]
-fn read_arms(
-    alloc: Global,
-    input: &Input,
-    at: usize,
-    room: usize,
-    lines: &mut Lines,
-) -> Result<(List<Arm>, usize), Denied>
-    ensures reads { IfOk result (λ x. Tells rules (arms room) (arm_list room) (from input.now at) (map (arm_of input.now (bodies_of input.now lines.new.items)) x.0) (from input.now x.1)) }
-    ensures there { IfOk result (λ x. All (λ a. a.body.0 < length lines.new.items) x.0) }
-    ensures grows { OnOk result (Grows lines.old.items lines.new.items) }
-    ensures halts { IfErr result (Halts rules (arms room) (from input.now at)) }
-{
-    let (first, mut at) = read_arm(alloc, input, at, room, lines)?;
-    let mut arms = List::new(alloc);
-    arms.push(first)?;
-    'arms: while let Some(_) = input.name_at(at) {
-        let (arm, after) = read_arm(alloc, input, at, room, lines)?;
-        arms.push(arm)?;
-        at = after;
-    }
-    let end = input.take_mark(at, Mark::CloseBrace)?;
-    Ok((arms, end))
-}
-
-// NAME body
-#[cycle(bodies)]
-fn read_arm(
-    alloc: Global,
-    input: &Input,
-    at: usize,
-    room: usize,
-    lines: &mut Lines,
-) -> Result<(Arm, usize), Denied>
-    ensures reads { IfOk result (λ x. Reads rules (an_arm room) (from input.now at) (arm_of input.now (bodies_of input.now lines.new.items) x.0) (from input.now x.1)) }
-    ensures there { IfOk result (λ x. x.0.body.0 < length lines.new.items) }
-    ensures grows { OnOk result (Grows lines.old.items lines.new.items) }
-    ensures halts { IfErr result (Halts rules (an_arm room) (from input.now at)) }
-{
-    let (label, at) = input.take_name(at)?;
-    let (body, at) = read_body(alloc, input, at, room, lines)?;
-    Ok((Arm { label, body }, at))
 }
 
 // expr body "else" body

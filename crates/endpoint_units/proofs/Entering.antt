@@ -5,7 +5,7 @@ use Rattle.chor_base.specs.declared.rule.Denied.{Denied}
 use Rattle.chor_lexer.specs.Lexeme.{Lexeme}
 use Rattle.grammar_laws.specs.Classes.{Class, is_of, Says}
 use Rattle.grammar_laws.specs.Grammars.{Grammar, empty, one, seq, after, Value, Rules, nowhere, Derives, in_turn, by_rule}
-use Rattle.grammar_laws.specs.Machine.{Next, goes, skips, refuses, taken, followed, next, Stop, stopped, stop}
+use Rattle.grammar_laws.specs.Machine.{Next, goes, skips, refuses, taken, followed, next, stopped, stop}
 use Rattle.grammar_laws.specs.Readers.{Reads, Halts, Leads}
 use Rattle.grammar_laws.proofs.Reading.{again, same_later}
 use Rattle.grammar_laws.proofs.Ways.{one_is}

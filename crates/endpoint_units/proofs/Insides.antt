@@ -1,10 +1,9 @@
 -- Bodies begin with lines of the table, also when lines are added.
-use Rattle.std.proofs.Common.{◌≡◌, ◌<◌, ℕ, List, [], ◌∷◌, ◌++◌, All, length, map, refl, sym}
+use Rattle.std.proofs.Common.{◌≡◌, ◌<◌, List, [], ◌∷◌, ◌++◌, All, length, map, refl, sym}
 use Rattle.std.proofs.lemmas.List.Elements.{All-head, All-tail, All-push, All-same, All-weaker, All-nil}
 use Rattle.endpoint_grammar.specs.Written.{Body}
 use Rattle.endpoint_reader.specs.declared.input.Input.{Input}
 use Rattle.endpoint_reader.specs.declared.lines.Line.{Line}
-use Rattle.endpoint_reader.specs.declared.lines.Lines.{Lines}
 use Rattle.endpoint_reader.specs.declared.lines.LineId.{LineId}
 use Rattle.endpoint_reader.specs.declared.written.Procedure.{Procedure}
 use Rattle.endpoint_reader.specs.declared.written.Service.{Service}

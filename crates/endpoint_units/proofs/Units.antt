@@ -1,5 +1,5 @@
 -- How readers of units go on.
-use Rattle.std.proofs.Common.{◌≡◌, ◌-◌, ℕ, inl, inr, List, [], ◌∷◌, ◌++◌, Some, length, length-append, map, refl, sym, ap, ◌∙◌, subst, arith}
+use Rattle.std.proofs.Common.{◌≡◌, ◌-◌, ℕ, inr, List, [], ◌∷◌, ◌++◌, Some, length, length-append, map, refl, sym, ap, ◌∙◌, subst, arith}
 use Rattle.std.proofs.lemmas.List.{append-nil}
 use Rattle.chor_base.specs.declared.rule.Denied.{Denied}
 use Rattle.chor_base.specs.declared.rule.Rule.TheVariants.{E4}
@@ -7,13 +7,13 @@ use Rattle.chor_lexer.specs.Lexeme.{Lexeme}
 use Rattle.chor_lexer.specs.declared.mark.Mark.TheVariants.{OpenParen, Semicolon}
 use Rattle.grammar_laws.specs.Classes.{a_word, the_end}
 use Rattle.grammar_laws.specs.Grammars.{one, within}
-use Rattle.grammar_laws.specs.Readers.{Reads, Halts, Leads, HasOne, Tells}
+use Rattle.grammar_laws.specs.Readers.{Reads, Halts, HasOne, Tells}
 use Rattle.grammar_laws.proofs.Reading.{past, reads_past, leads_on, after_reads, into_rule}
 use Rattle.grammar_laws.proofs.Lists.{last_of}
 use Rattle.grammar_laws.proofs.Ways.{one_is}
 use Rattle.endpoint_grammar.specs.Written.{Body, Units, Roles as WrittenRoles, Channel as ChannelUnit, Procedure as ProcedureUnit, Service as ServiceUnit, Process as ProcessUnit, no_units}
-use Rattle.endpoint_grammar.specs.Grammar.{Part, NAME, mark, body, roles, roles_of, units, units_of, signature, role_of_channel, channel, procedure, service, process}
-use Rattle.endpoint_grammar.specs.Values.{rules, Derived, role_lists, units_from}
+use Rattle.endpoint_grammar.specs.Grammar.{NAME, mark, body, roles, roles_of, units, units_of, signature, role_of_channel, channel, procedure, service, process}
+use Rattle.endpoint_grammar.specs.Values.{rules, role_lists, units_from}
 use Rattle.endpoint_reader.specs.declared.input.Input.{Input}
 use Rattle.endpoint_reader.specs.declared.lists.Two.{Two}
 use Rattle.endpoint_reader.specs.declared.lines.Line.{Line}
@@ -33,7 +33,7 @@ use Rattle.endpoint_units.specs.declared.word.UnitWord.{UnitWord}
 use Rattle.endpoint_units.specs.declared.word.UnitWord.TheVariants as begun
 use Rattle.endpoint_units.specs.Words.{first_word, rest_of, with_word, units_by, LacksUnit}
 use Rattle.endpoint_units.specs.Parts.{left, ArePartsInside, units_in, joined, Goes}
-use Rattle.endpoint_units.proofs.Entering.{through, through_halts}
+use Rattle.endpoint_units.proofs.Entering.{through}
 use Rattle.endpoint_units.proofs.Words.{into_unit, no_unit}
 use Rattle.endpoint_units.proofs.Insides.{units_stay}
 

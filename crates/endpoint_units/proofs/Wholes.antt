@@ -2,12 +2,10 @@
 use Rattle.std.proofs.Common.{◌≡◌, List, [], map, refl, sym, ap, ◌∙◌, subst, codes}
 use Rattle.chor_base.specs.declared.rule.Denied.{Denied}
 use Rattle.chor_base.specs.declared.rule.Denied.TheVariants.{Refused, Memory}
-use Rattle.chor_base.specs.declared.rule.Refusal.{Refusal}
 use Rattle.chor_lexer.specs.Lexeme.{Lexeme}
 use Rattle.chor_lexer.specs.declared.mark.Mark.TheVariants.{Semicolon}
 use Rattle.grammar_laws.specs.Classes.{exactly}
 use Rattle.grammar_laws.specs.Grammars.{one, empty}
-use Rattle.grammar_laws.specs.Machine.{stop, at}
 use Rattle.grammar_laws.specs.Readers.{Reads, Halts, Tells}
 use Rattle.grammar_laws.proofs.Reading.{past, reads_past, reads_same, into_rule}
 use Rattle.grammar_laws.proofs.Sequences.{then_reads, then_halts}

@@ -1,5 +1,5 @@
 -- Units by their first words.
-use Rattle.std.proofs.Common.{ℕ, inl, inr, List, codes, refl}
+use Rattle.std.proofs.Common.{ℕ, inr, List, refl}
 use Rattle.chor_lexer.specs.Lexeme.{Lexeme}
 use Rattle.grammar_laws.specs.Classes.{a_word, the_end}
 use Rattle.grammar_laws.specs.Grammars.{one}

@@ -56,10 +56,10 @@ post_other ds p q d h = ap (λ o. post_of_desk o) (get-set_other ds p q d h)
     post_of_desk None = Busy
     post_of_desk (Some d) = d.post
 
-same_number : (a b : ℕ) → (a == b) ≡ true → a ≡ b
+pub same_number : (a b : ℕ) → (a == b) ≡ true → a ≡ b
 same_number a b h = grind (arith, nat_tests)
 
-other_number : (a b : ℕ) → (a == b) ≡ false → a ≢ b
+pub other_number : (a b : ℕ) → (a == b) ≡ false → a ≢ b
 other_number a b h = grind (arith, nat_tests)
 
 pub posts_after : (e : Endpoints) (n m : NetworkState) (x : Event) (p : ℕ) (ds : List Desk) → ActsAlone p x n m → ((q : ℕ) → IsTrueIn e n q (post_at ds q)) → (q : ℕ) → IsTrueIn e m q (post_at (made_busy (p ∷ []) ds) q)

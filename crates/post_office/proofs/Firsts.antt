@@ -2,7 +2,8 @@
 use Rattle.std.proofs.Common.{◌≡◌, ℕ, zero, suc, ◌+◌, ◌<◌, ◌^◌, Bool, true, false, cond, List, [], ◌∷◌, ◌++◌, length, take, refl, sym, ap, ◌∙◌, subst, Option, Some, None, arith, append_assoc}
 use Rattle.std.specs.Prelude.{slice_get, position, bytes_eq, nat_lt, not, ◌||◌, Decides}
 use Rattle.std.specs.List.{list_any, position_or_len}
-use Rattle.std.proofs.lemmas.List.{append-nil}
+use Rattle.std.proofs.lemmas.List.{append-nil, length-replicate}
+use Rattle.std.proofs.Math.ListN.{replicate}
 use Rattle.std.proofs.lemmas.Bool.Decides.{nat_tests}
 use Rattle.std.proofs.lemmas.Option.{slice_get_within}
 use Rattle.std.proofs.lemmas.Slice.Eq.{bytes_eq-Decides}
@@ -20,33 +21,21 @@ use Rattle.post_office.specs.declared.desk.Desk.{Desk}
 use Rattle.post_office.specs.declared.post.Post.{Post}
 use Rattle.post_office.specs.declared.post.Post.TheVariants.{Busy}
 use Rattle.post_office.specs.Queues.{QueueTable, loads_at}
-use Rattle.post_office.specs.Views.{events_of, post_at}
+use Rattle.post_office.specs.Views.{events_of, post_at, idle}
 use Rattle.post_office.specs.Posts.{IsTrueIn}
 use Rattle.post_office.specs.Kept.{IsKept}
-use Rattle.post_office.specs.Answers.{idle_desks}
 use Rattle.post_office.proofs.Acting.{busy_true}
 
 -- ---- desks
 
--- one process more
-pub idle_more : (ps : List Process) (i j : ℕ) → j ≡ i + 1 → i < length ps → idle_desks (take j ps) ≡ idle_desks (take i ps) ++ record { post = Busy; joined = None } ∷ []
-idle_more [] i j h lt = absurd (omega arith)
-idle_more (p ∷ ps) i zero h lt = absurd (omega arith)
-idle_more (p ∷ ps) zero (suc j) h lt = let e : j ≡ 0 = omega arith in ap (λ n. record { post = Busy; joined = None } ∷ idle_desks (take n ps)) e
-idle_more (p ∷ ps) (suc i) (suc j) h lt = ap (λ (ds : List Desk). record { post = Busy; joined = None } ∷ ds) (idle_more ps i j (omega arith) (omega arith))
+idle_post : (n q : ℕ) → post_at (replicate n idle) q ≡ Busy
+idle_post zero q = refl
+idle_post (suc n) zero = refl
+idle_post (suc n) (suc q) = idle_post n q
 
-idle_post : (ps : List Process) (q : ℕ) → post_at (idle_desks ps) q ≡ Busy
-idle_post [] q = refl
-idle_post (p ∷ ps) zero = refl
-idle_post (p ∷ ps) (suc q) = idle_post ps q
-
-as_many : (ps : List Process) → length (standing_all ps) ≡ length (idle_desks ps)
+as_many : (ps : List Process) → length (standing_all ps) ≡ length ps
 as_many [] = refl
 as_many (p ∷ ps) = ap suc (as_many ps)
-
-as_many_desks : (ps : List Process) → length (idle_desks ps) ≡ length ps
-as_many_desks [] = refl
-as_many_desks (p ∷ ps) = ap suc (as_many_desks ps)
 
 -- ---- host functions
 
@@ -116,17 +105,17 @@ module _ (names : List (List ℕ)) (fs : List Function) (i : ℕ) (f : Function)
 
 -- ---- the first office
 
-pub first_kept : (e : Endpoints) (hosts : Hosts) (capacity : Option ℕ) (history : List Entry) (queues : QueueTable) (desks : List Desk) (room : ℕ) → IsFaultless e → length e.processes < 2 ^ 32 → history ≡ [] → queues ≡ [] → desks ≡ idle_desks e.processes
+pub first_kept : (e : Endpoints) (hosts : Hosts) (capacity : Option ℕ) (history : List Entry) (queues : QueueTable) (desks : List Desk) (room : ℕ) → IsFaultless e → length e.processes < 2 ^ 32 → history ≡ [] → queues ≡ [] → desks ≡ replicate (length e.processes) idle
     → IsKept (record { endpoints = e; hosts = hosts; capacity = capacity; history = history; queues = queues; sid = 0; desks = desks; room = room })
-first_kept e hosts capacity history queues desks room faultless few no_history no_queues idle =
-    let many : length desks ≡ length e.processes = ap length idle ∙ as_many_desks e.processes in
+first_kept e hosts capacity history queues desks room faultless few no_history no_queues all_idle =
+    let many : length desks ≡ length e.processes = ap length all_idle ∙ length-replicate (length e.processes) idle in
     record {
       faultless = faultless;
       state = first_state e;
       after = subst (λ (h : List Entry). NetworkLeads e hosts capacity (first_state e) (events_of h) (first_state e)) (sym no_history) refl;
       queues = λ t. ap (λ (qs : QueueTable). loads_at qs t) no_queues;
       sid = refl;
-      processes = as_many e.processes ∙ sym (ap length idle);
+      processes = as_many e.processes ∙ sym many;
       few = subst (λ n. n < 2 ^ 32) (sym many) few;
-      posts = λ q. subst (λ (p : Post). IsTrueIn e (first_state e) q p) (sym (ap (λ (ds : List Desk). post_at ds q) idle ∙ idle_post e.processes q)) (busy_true e (slice_get (standing_all e.processes) q));
+      posts = λ q. subst (λ (p : Post). IsTrueIn e (first_state e) q p) (sym (ap (λ (ds : List Desk). post_at ds q) all_idle ∙ idle_post (length e.processes) q)) (busy_true e (slice_get (standing_all e.processes) q));
     }

@@ -2,3 +2,9 @@ pub mod QueueTables
 pub mod Steps
 pub mod Acting
 pub mod Firsts
+pub mod Posting
+pub mod Casts
+pub mod Starting
+pub mod Scoped
+pub mod Reached
+pub mod Begins

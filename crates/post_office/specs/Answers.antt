@@ -1,22 +1,16 @@
 -- What the calls of an office change and answer.
-use Rattle.std.specs.Prelude.{ℕ, ◌≡◌, ◌+◌, ◌≤◌, ◌++◌, Bool, true, false, List, [], ◌∷◌, map, Some, None, slice_get}
+use Rattle.std.specs.Prelude.{ℕ, ◌≡◌, ◌+◌, ◌≤◌, ◌++◌, Bool, true, false, [], ◌∷◌, Some, None, slice_get, slice_set}
 use Rattle.chor_base.specs.declared.value.Load.{Load}
 use Rattle.chor_base.specs.declared.event.Event.{Event}
 use Rattle.chor_base.specs.declared.event.Event.TheVariants as event
 use Rattle.chor_base.specs.Events.{Triple, actors_of}
-use Rattle.endpoint_code.specs.declared.endpoints.Process.{Process}
-use Rattle.post_office.specs.declared.desk.Desk.{Desk}
-use Rattle.post_office.specs.declared.post.Post.TheVariants.{Busy}
+use Rattle.post_office.specs.declared.post.Post.{Post}
 use Rattle.post_office.specs.declared.post.Sent.{Sent as Sending}
 use Rattle.post_office.specs.declared.post.Sent.TheVariants.{Sent, Full}
 use Rattle.post_office.specs.declared.post.Received.{Received}
 use Rattle.post_office.specs.declared.post.Received.TheVariants.{Got, Empty}
 use Rattle.post_office.specs.Queues.{loads_at, room_at, IsSameQueues, HasPut, HasTaken}
 use Rattle.post_office.specs.Views.{OfficeView, made_busy, is_full}
-
--- nothing is posted of these processes
-abbrev pub idle_desks : List Process → List Desk
-idle_desks ps = map (λ p. record { post = Busy; joined = None }) ps
 
 -- nothing has changed but room, of which there is no less
 pub record IsSame (old new : OfficeView) : Type 0 where
@@ -53,6 +47,10 @@ AnswersSend old worker p t l Full new = (is_full old t ≡ true) × (new ≡ old
 abbrev pub AnswersReceipt : OfficeView → ℕ → ℕ → Triple → Received → OfficeView → Type 0
 AnswersReceipt old worker p t (Got l) new = (slice_get (loads_at old.queues t) 0 ≡ Some l) × HasTaken old.queues t new.queues × HasActed old worker (event.Recv p t.0 t.1 t.2 l) new
 AnswersReceipt old worker p t Empty new = (loads_at old.queues t ≡ []) × (new ≡ old)
+
+-- a process is posted to be doing this, and has no start to take over
+abbrev pub posted : OfficeView → ℕ → Post → OfficeView
+posted v p post = record v { desks = slice_set v.desks p (record { post = post; joined = None }) }
 
 -- an event of one process that touches no queue
 abbrev pub is_local : Event → Bool

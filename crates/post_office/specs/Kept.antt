@@ -3,6 +3,7 @@ use Rattle.std.specs.Prelude.{ℕ, ◌≡◌, ◌<◌, ◌^◌, length}
 use Rattle.chor_base.specs.Events.{Triple}
 use Rattle.endpoint_code.specs.Faults.{IsFaultless}
 use Rattle.endpoint_code.specs.Network.{NetworkState, queue_of}
+use Rattle.post_office.specs.declared.post.Post.{Post}
 use Rattle.post_office.specs.Queues.{loads_at}
 use Rattle.post_office.specs.Views.{OfficeView, IsAfter, post_at}
 use Rattle.post_office.specs.Posts.{IsTrueIn}
@@ -17,3 +18,7 @@ pub record IsKept (v : OfficeView) : Type 0 where
   pub processes : length state.machines ≡ length v.desks
   pub few : length v.desks < 2 ^ 32
   pub posts : (p : ℕ) → IsTrueIn v.endpoints state p (post_at v.desks p)
+
+-- what is posted of a process is true of it after the events so far
+abbrev pub CanPost : OfficeView → ℕ → Post → Type 0
+CanPost v p post = (n : NetworkState) → IsAfter v n → IsTrueIn v.endpoints n p post

@@ -3,3 +3,4 @@ pub mod Views
 pub mod Posts
 pub mod Kept
 pub mod Answers
+pub mod Starts

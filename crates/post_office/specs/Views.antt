@@ -1,5 +1,6 @@
 -- What contracts see of an office.
 use Rattle.std.specs.Prelude.{ℕ, Bool, List, [], ◌∷◌, map, not, Option, Some, None, slice_get, slice_set}
+use Rattle.chor_base.specs.declared.names.NameId.{NameId}
 use Rattle.chor_base.specs.declared.event.Entry.{Entry}
 use Rattle.chor_base.specs.declared.event.Event.{Event}
 use Rattle.chor_base.specs.Events.{Triple}
@@ -47,6 +48,15 @@ joined_at ds p = joined_of (slice_get ds p)
 abbrev pub made_busy : List ℕ → List Desk → List Desk
 made_busy [] ds = ds
 made_busy (p ∷ ps) ds = made_busy ps (slice_set ds p (record { post = Busy; joined = joined_at ds p }))
+
+-- nothing is posted of a process
+abbrev pub idle : Desk
+idle = record { post = Busy; joined = None }
+
+-- these processes are busy, and have the start of this session to take over
+abbrev pub all_joined : ℕ → List (NameId × ℕ) → List Desk → List Desk
+all_joined s [] ds = ds
+all_joined s (q ∷ qs) ds = all_joined s qs (slice_set ds q.1 (record { post = Busy; joined = Some s }))
 
 -- ---- the state after the history
 

@@ -5,6 +5,7 @@ mod desk;
 mod entries;
 mod hosts;
 mod office;
+mod parts;
 mod post;
 mod queues;
 

@@ -1,15 +1,18 @@
 //! The office.
 
-ghost use Rattle.std.specs.Prelude.{◌≡◌, [], IfOk, All, map};
+ghost use Rattle.std.specs.Prelude.{◌≡◌, [], IfOk, length};
+ghost use Rattle.std.proofs.Math.ListN.{replicate};
 ghost use Rattle.chor_host.specs.Functions.{hosts_in};
 ghost use Rattle.chor_host.specs.Tables.{functions_of};
 ghost use Rattle.endpoint_code.specs.Faults.{IsFaultless};
-ghost use Rattle.post_office.specs.Answers.{idle_desks};
+ghost use Rattle.post_office.specs.Views.{idle};
 ghost use Rattle.post_office.specs.Kept.{IsKept};
 
+mod board;
 mod mail;
+mod starts;
 
-use crate::desk::{Desk, idle_desks};
+use crate::desk::Desk;
 use crate::hosts::known_hosts;
 use crate::queues::Queues;
 use chor_base::{Entry, Meaning, Memory, NameId};
@@ -65,10 +68,11 @@ impl<'a> Office<'a> {
         ensures history { IfOk result (λ office. office.history ≡ []) }
         ensures queues { IfOk result (λ office. office.queues ≡ []) }
         ensures sid { IfOk result (λ office. office.sid ≡ 0) }
-        ensures desks { IfOk result (λ office. office.desks ≡ idle_desks endpoints.now.processes) }
+        ensures desks { IfOk result (λ office. office.desks ≡ replicate (length endpoints.now.processes) idle) }
     {
         let hosts = known_hosts(alloc, &endpoints.names, hosts)?;
-        let desks = idle_desks(alloc, &endpoints.processes)?;
+        let processes = endpoints.processes.count();
+        let desks = vec![in alloc; Desk::idle(); processes as usize]?;
         Ok(Office {
             endpoints,
             hosts,

@@ -33,13 +33,12 @@ use Rattle.service_merge.specs.Merged.{codes_at, IsMergedOfAll}
 use Rattle.source_blocks.proofs.Blocks.{block_choreography}
 use Rattle.projection.specs.Codes.{IsCodeOf}
 use Rattle.projection.specs.Projects.{Started, starts_of, serving, body_at, IsStartCode}
-use Rattle.projection.specs.MergeFaults.{sites_in, sites_of, HasClash}
+use Rattle.projection.specs.MergeFaults.{sites_of, HasClash}
 use Rattle.projection.proofs.TreeTables.{tree_at-node}
 use Rattle.projection.proofs.OneCode.{code_distinct}
 use Rattle.projection.proofs.Exchanged.{start_code}
 use Rattle.renamed_codes.specs.Renames.{IsRenamed}
-use Rattle.block_codes.specs.declared.coded.Coded.{Coded}
-use Rattle.block_codes.specs.Walks.{AreCodes, IsCoded, IsFirstClash}
+use Rattle.block_codes.specs.Walks.{IsFirstClash}
 use Rattle.block_codes.proofs.Zips.{zip_weaker, zip_step}
 use Rattle.projection.specs.MergeFaults.{Site, IsFirstOf, here, later}
 use Rattle.service_codes.specs.declared.served.Served.{Served}
@@ -47,7 +46,9 @@ use Rattle.service_codes.specs.Starts.{HasNamesResolved, Stands, follows, starts
 use Rattle.service_codes.specs.Services.{IsDeclared, HasProcessCode, IsStartCodeAt, HasStartCode, HasServiceCode, IsClashOf}
 use Rattle.service_codes.proofs.Lists.{no_fault_at, not_true, name_same, same_number, same_names, named_among}
 use Rattle.service_codes.proofs.Names.{node_fine, start_fine, inside, unused}
-use Rattle.service_codes.proofs.Sites.{sites_from, of_one, back_names}
+use Rattle.service_codes.proofs.Sites.{sites_from, back_names}
+use Rattle.block_codes.specs.Alone.{sites_of as own_sites, HasCode}
+use Rattle.block_codes.proofs.OneProcess.{own_sites as own_clean}
 
 -- ---- the new process of a role
 
@@ -102,9 +103,9 @@ module _ (f : File) (r : HasNamesResolved f) (clean : All (λ s. HasClash f s �
     pub next_inside : next.0 < length f.tree.nodes
     next_inside = inside f (scope_after s.scope n.form) next next_stands
 
-    pub next_clean : (p : NameId) → serving x.role.name (served_of serve) ≡ Some p → All (λ t. HasClash f t → ⊥) (sites_in (p ∷ []) (body_of f next))
+    pub next_clean : (p : NameId) → serving x.role.name (served_of serve) ≡ Some p → All (λ t. HasClash f t → ⊥) (own_sites p (body_of f next))
     next_clean p e =
-        of_one (λ t. HasClash f t → ⊥) (body_of f next) p (scope_after s.scope n.form).processes within (sites_from (λ t. HasClash f t → ⊥) f clean (scope_after s.scope n.form) next next_stands)
+        own_clean (λ t. HasClash f t → ⊥) p (body_of f next) (scope_after s.scope n.form).processes within (sites_from (λ t. HasClash f t → ⊥) f clean (scope_after s.scope n.form) next next_stands)
       where
         within : (Q : NameId → Type 0) → All Q (scope_after s.scope n.form).processes → Q p
         within Q h =
@@ -133,18 +134,12 @@ module _ (f : File) (r : HasNamesResolved f) (clean : All (λ s. HasClash f s �
     }
 
 -- the code of one process
-pub one_code : (f : File) (node : NodeId) (p : NameId) (scope : List NameId) (old new : List CodeNode) (xs ys : List Coded) (d : Coded) → scope ≡ p ∷ [] → AreCodes f (body_of f node) scope old new xs → ys ≡ xs
-    → HasProcessCode f p node old new (get_or ys 0 d).code
-one_code f node p scope old new xs ys d e h same =
-    subst (λ (l : List Coded). HasProcessCode f p node old new (get_or l 0 d).code) (sym same) (go xs (subst (λ (l : List NameId). AllZip (IsCoded f.procs new (body_of f node)) l xs) e h.each))
-  where
-    go : (zs : List Coded) → AllZip (IsCoded f.procs new (body_of f node)) (p ∷ []) zs → HasProcessCode f p node old new (get_or zs 0 d).code
-    go [] z = absurd z
-    go (y ∷ ys) z = record {
-      kept = h.kept;
-      inside = z.0.inside;
-      code = subst (λ (t : Choreography). IsCodeOf f.procs p t (code_at new y.code)) (block_choreography f.tree.nodes node) z.0.code;
-    }
+pub one_code : {f : File} {node : NodeId} {p : NameId} {old new : List CodeNode} {id : CodeId} → HasCode f (body_of f node) p old new id → HasProcessCode f p node old new id
+one_code {f = f} {node = node} {p = p} {new = new} {id = id} h = record {
+  kept = h.kept;
+  inside = h.inside;
+  code = subst (λ (t : Choreography). IsCodeOf f.procs p t (code_at new id)) (block_choreography f.tree.nodes node) h.code;
+}
 
 first_none : (f : File) (t : Site) (ts : List Site) → IsFirstOf (HasClash f) t ts → All (λ s. HasClash f s → ⊥) ts → ⊥
 first_none f t [] h c = elim h [ ]

@@ -1,8 +1,8 @@
 -- No branches clash after a node, where none clash in the file.
-use Rattle.std.proofs.Common.{◌≡◌, zero, suc, ◌==◌, Bool, true, false, cond, List, [], ◌∷◌, ◌++◌, map, refl, sym, ap, subst, arith}
-use Rattle.std.specs.Prelude.{Contains, All, not}
-use Rattle.std.specs.List.{flat_map, filter}
-use Rattle.std.proofs.lemmas.List.Elements.{All-nil, All-cons, All-head, All-tail, All-append, All-contains}
+use Rattle.std.proofs.Common.{◌≡◌, zero, suc, List, [], ◌∷◌, ◌++◌, map, refl, sym, ap, subst, arith}
+use Rattle.std.specs.Prelude.{Contains, All}
+use Rattle.std.specs.List.{flat_map}
+use Rattle.std.proofs.lemmas.List.Elements.{All-nil, All-cons, All-head, All-tail, All-contains}
 use Rattle.chor_base.specs.declared.names.NameId.{NameId}
 use Rattle.chor_base.specs.declared.rule.Place.{Place}
 use Rattle.chor_tree.specs.declared.file.File.{File}
@@ -13,9 +13,9 @@ use Rattle.chor_tree.specs.declared.tree.Form.{Form}
 use Rattle.chor_tree.specs.declared.tree.Form.TheVariants.{Start, Value, Label, Give, Set, Host, Show, If, Call, End}
 use Rattle.chor_tree.specs.Children.{children_of}
 use Rattle.chor_tree.specs.Names.{Scope, scope_of_main, scope_of_procedure, scope_after}
-use Rattle.chor_tree.specs.Source.{Block, Then, Either, Calls, Ends, Procedure, procedure_of, body_of, block_of, blocks_of, source_of}
+use Rattle.chor_tree.specs.Source.{Block, Procedure, procedure_of, body_of, block_of, blocks_of, source_of}
 use Rattle.chor_tree.proofs.Blocks.{block_at}
-use Rattle.projection.specs.MergeFaults.{Site, made_by, sites_at, sites_in, sites_of}
+use Rattle.projection.specs.MergeFaults.{Site, sites_in, sites_of}
 use Rattle.service_codes.specs.Starts.{Stands, main_begins, procedure_begins, follows}
 
 end_nil : {X : Type 0} (xs : List X) → xs ++ [] ≡ xs
@@ -90,46 +90,3 @@ module _ (P : Site → Type 0) where
         subst (λ (u : Scope). All P (sites_in u.processes (body_of f id))) (sym e)
         (child_sites t n.place n.form id m
         (subst (λ (b : Block). All P (sites_in t.processes b)) (block_at f.tree.nodes before n f.tree.closed at) (sites_from h t before g)))
-
-  -- ---- with fewer in scope
-
-  -- what holds of all of the second list holds of all of the first
-  abbrev IsWithin : List NameId → List NameId → Type 1
-  IsWithin xs ys = (Q : NameId → Type 0) → All Q ys → All Q xs
-
-  kept_in : (t : NameId → Bool) (g : NameId → Site) (xs : List NameId) → All P (map g (filter t xs)) → All (λ x. t x ≡ true → P (g x)) xs
-  kept_in t g [] h = All-nil (λ x. t x ≡ true → P (g x))
-  kept_in t g (x ∷ xs) h = go (t x) refl h (kept_in t g xs)
-    where
-      go : (b : Bool) → t x ≡ b → All P (map g (cond b (x ∷ filter t xs) (filter t xs))) → (All P (map g (filter t xs)) → All (λ x. t x ≡ true → P (g x)) xs) → All (λ x. t x ≡ true → P (g x)) (x ∷ xs)
-      go true e a ih = All-cons (λ x. t x ≡ true → P (g x)) x xs (λ i. All-head P (g x) (map g (filter t xs)) a) (ih (All-tail P (g x) (map g (filter t xs)) a))
-      go false e a ih = All-cons (λ x. t x ≡ true → P (g x)) x xs (λ i. absurd cc) (ih a)
-
-  kept_from : (t : NameId → Bool) (g : NameId → Site) (xs : List NameId) → All (λ x. t x ≡ true → P (g x)) xs → All P (map g (filter t xs))
-  kept_from t g [] h = All-nil P
-  kept_from t g (x ∷ xs) h = go (t x) refl (kept_from t g xs (All-tail (λ x. t x ≡ true → P (g x)) x xs h))
-    where
-      go : (b : Bool) → t x ≡ b → All P (map g (filter t xs)) → All P (map g (cond b (x ∷ filter t xs) (filter t xs)))
-      go true e rest = All-cons P (g x) (map g (filter t xs)) (All-head (λ x. t x ≡ true → P (g x)) x xs h e) rest
-      go false e rest = rest
-
-  pub fewer : (b : Block) (xs ys : List NameId) → IsWithin xs ys → All P (sites_in ys b) → All P (sites_in xs b)
-  fewer (Then place s next) xs ys w h = fewer next (xs ++ made_by s) (ys ++ made_by s) (longer (made_by s)) h
-    where
-      longer : (zs : List NameId) → IsWithin (xs ++ zs) (ys ++ zs)
-      longer zs Q a = All-append Q xs zs (w Q (front_names Q ys zs a)) (back_names Q ys zs a)
-  fewer (Either place p e first second) xs ys w h =
-      let one = sites_in ys first in
-      let two = sites_in ys second in
-      let last = sites_at ys place p first second in
-      let both = front (one ++ two) last h in
-      let site : NameId → Site = λ r. record { place = place; first = first; second = second; process = r } in
-      let other : NameId → Bool = λ r. not (r.0 == p.name.0) in
-      All-append P (sites_in xs first ++ sites_in xs second) (sites_at xs place p first second)
-      (All-append P (sites_in xs first) (sites_in xs second) (fewer first xs ys w (front one two both)) (fewer second xs ys w (back one two both)))
-      (kept_from other site xs (w (λ x. other x ≡ true → P (site x)) (kept_in other site ys (back (one ++ two) last h))))
-  fewer (Calls place g ps ks) xs ys w h = All-nil P
-  fewer (Ends place) xs ys w h = All-nil P
-
-  pub of_one : (b : Block) (p : NameId) (ys : List NameId) → ((Q : NameId → Type 0) → All Q ys → Q p) → All P (sites_in ys b) → All P (sites_in (p ∷ []) b)
-  of_one b p ys w h = fewer b (p ∷ []) ys (λ Q a. All-cons Q p [] (w Q a) (All-nil Q)) h

@@ -1,15 +1,16 @@
 //! The code of a service role after one start.
 
-ghost use Rattle.std.specs.Prelude.{◌≡◌, ◌<◌, ◌∷◌, [], All, IfOk, length};
+ghost use Rattle.std.specs.Prelude.{◌≡◌, ◌<◌, All, IfOk, length};
 ghost use Rattle.chor_tree.specs.Source.{body_of};
 ghost use Rattle.chor_semantics.specs.Sources.{served_of};
 ghost use Rattle.projection.specs.Projects.{serving};
-ghost use Rattle.projection.specs.MergeFaults.{sites_in, sites_of, HasClash};
+ghost use Rattle.projection.specs.MergeFaults.{sites_of, HasClash};
+ghost use Rattle.block_codes.specs.Alone.{sites_of as own_sites};
 ghost use Rattle.service_codes.specs.Starts.{HasNamesResolved, IsStartOf};
 ghost use Rattle.service_codes.specs.Services.{IsDeclared, HasProcessCode, HasStartCode};
 
 use crate::served::Served;
-use block_codes::{Stop, codes};
+use block_codes::{Stop, code_of};
 use chor_base::{Memory, NameId};
 use chor_tree::{File, Form, NodeId, Part};
 use endpoint_code::{Code, CodeId};
@@ -73,11 +74,11 @@ fn process_code(
     code: &mut Code,
 ) -> Result<CodeId, Memory>
     requires inside { node.0 < length file.now.tree.nodes }
-    requires clean { All (λ s. HasClash file.now s → ⊥) (sites_in (process ∷ []) (body_of file.now node)) }
+    requires clean { All (λ s. HasClash file.now s → ⊥) (own_sites process (body_of file.now node)) }
     ensures { IfOk result (HasProcessCode file.now process node code.old.nodes code.new.nodes) }
 {
-    match codes(alloc, file, node, &[process], code) {
-        Ok(list) => Ok(list.as_slice()[0].code),
+    match code_of(alloc, file, node, process, code) {
+        Ok(id) => Ok(id),
         Err(Stop::Clash(_, _)) => unreachable!(),
         Err(Stop::Memory) => Err(Memory),
     }

@@ -1,10 +1,12 @@
 //! Tests of what lies below the commands and speaks of text: values and tables, tokens, expressions,
-//! sources and their canonical text, by public calls alone. They say what no clause says: that the
+//! sources and their canonical text, endpoint files, by public calls alone. They say what no clause says: that the
 //! calls succeed where there is memory, and what comes of sources, worked out by hand.
 #![tactic(auto)]
 
 #[cfg(test)]
 mod canonical;
+#[cfg(test)]
+mod endpoint_files;
 #[cfg(test)]
 mod expressions;
 #[cfg(test)]

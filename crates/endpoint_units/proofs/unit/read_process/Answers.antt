@@ -1,4 +1,4 @@
-use Rattle.std.proofs.Common.{◌≡◌, ◌-◌, ℕ, Some, arith}
+use Rattle.std.proofs.Common.{arith}
 use Rattle.grammar_laws.proofs.Passing.{passes}
 use Rattle.grammar_laws.proofs.Progress.{read_no_longer}
 use Rattle.grammar_laws.proofs.Sequences.{then_halts, now_halts}

@@ -1,12 +1,7 @@
 use Rattle.std.proofs.Common.{sym, subst}
 use Rattle.post_office.specs.Views.{OfficeView, CanMake}
-use Rattle.post_office.proofs.Acting.{actor_within, acted_kept, local_alone, local_place, local_flows}
+use Rattle.post_office.proofs.Acting.{acted_kept, local_alone, local_place, local_flows}
 use Rattle.post_office.proofs.office.Office.note.Goals as goal
-
-pub make_busy-requires : goal.make_busy-requires
-make_busy-requires c =
-    let x = c.args.event in
-    actor_within c.self.invariant x c.actor-pid.result (local_alone x c.requires.local) c.actor-pid.ensures (subst (λ (v : OfficeView). CanMake v x) (sym c.self.view_is) c.requires.stands)
 
 pub invariant_of-self : goal.invariant_of-self
 invariant_of-self c =

@@ -5,15 +5,8 @@ use Rattle.chor_base.specs.Events.{Triple}
 use Rattle.chor_base.specs.declared.event.Event.TheVariants as event
 use Rattle.post_office.specs.Queues.{loads_at}
 use Rattle.post_office.specs.Views.{OfficeView, CanMake}
-use Rattle.post_office.proofs.Acting.{actor_within, acted_kept, none_first, take_flows}
+use Rattle.post_office.proofs.Acting.{acted_kept, none_first, take_flows}
 use Rattle.post_office.proofs.office.Office.recv.Goals as goal
-
-pub make_busy-requires : goal.make_busy-requires
-make_busy-requires c =
-    let t : Triple = (c.args.sid, c.args.from, c.args.to) in
-    let x = event.Recv c.args.pid c.args.sid c.args.from c.args.to c.in-Some.load in
-    let can = subst (λ (v : OfficeView). (l : Load) → slice_get (loads_at v.queues t) 0 ≡ Some l → CanMake v (event.Recv c.args.pid c.args.sid c.args.from c.args.to l)) (sym c.self.view_is) c.requires.stands in
-    actor_within c.self.invariant x c.args.pid refl refl (can c.in-Some.load (sym c.in-Some.ensures))
 
 pub invariant_of-self : goal.invariant_of-self
 invariant_of-self c =

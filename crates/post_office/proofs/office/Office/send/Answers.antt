@@ -3,13 +3,8 @@ use Rattle.chor_base.specs.Events.{Triple}
 use Rattle.chor_base.specs.declared.event.Event.TheVariants as event
 use Rattle.post_office.specs.Queues.{loads_at}
 use Rattle.post_office.specs.Views.{OfficeView, CanMake, is_full}
-use Rattle.post_office.proofs.Acting.{actor_within, acted_kept, not_full, put_flows}
+use Rattle.post_office.proofs.Acting.{acted_kept, not_full, put_flows}
 use Rattle.post_office.proofs.office.Office.send.Goals as goal
-
-pub make_busy-requires : goal.make_busy-requires
-make_busy-requires c =
-    let x = event.Send c.args.pid c.args.sid c.args.from c.args.to c.args.load in
-    actor_within c.self.invariant x c.args.pid refl refl (subst (λ (v : OfficeView). CanMake v x) (sym c.self.view_is) c.requires.stands)
 
 pub invariant_of-self : goal.invariant_of-self
 invariant_of-self c =

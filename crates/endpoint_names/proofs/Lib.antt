@@ -1,0 +1,5 @@
+pub mod Keys
+pub mod Indexes
+pub mod Tables
+pub mod Walks
+pub mod Classes
