@@ -13,11 +13,12 @@ use worked::transcripts;
 const LIMIT: u64 = 1 << 16;
 
 // The transcripts that stand in the folder.
-const RUNS: [(&str, &[u8]); 4] = [
+const RUNS: [(&str, &[u8]); 5] = [
     ("hello.run", transcripts::HELLO),
     ("labels.run", transcripts::LABELS),
     ("service.run", transcripts::SERVICE),
     ("purchase.run", transcripts::PURCHASE),
+    ("host_call.run", transcripts::HOST_CALL),
 ];
 
 fn main(rt: HostRuntime) -> io::Result<ExitCode> {
