@@ -111,9 +111,3 @@ pub const HOST_CALL: &[u8] = b"1 host p x gap 3 10 7
 2 show p 7
 end 2
 ";
-
-/// A host function is asked.
-pub const HOST_CALL: &[u8] = b"1 host p x gap 3 10 7
-2 show p 7
-end 2
-";
