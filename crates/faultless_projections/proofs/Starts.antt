@@ -28,7 +28,8 @@ use Rattle.file_holders.proofs.FromBelow.{among_front}
 use Rattle.file_holders.proofs.Owned.{KeepsOwners, statement_owned}
 use Rattle.file_trees.proofs.Named.{IsNewStart, AreNamed}
 use Rattle.file_trees.proofs.Scopes.{none_of}
-use Rattle.held_sessions.specs.Held.{UsesHeld, IsFree, only_in, StartUses}
+use Rattle.projection_follows.specs.FreeSessions.{IsFree}
+use Rattle.held_sessions.specs.Held.{UsesHeld, only_in, StartUses}
 use Rattle.faultless_projections.proofs.Lists.{append_all}
 use Rattle.faultless_projections.proofs.Names.{behind_part, part_holder}
 use Rattle.faultless_projections.proofs.Knows.{HasRole, Knows, AreThere, DiffersThere, start_roles, parts_apart}

@@ -10,7 +10,8 @@ use Rattle.endpoint_code.specs.Faults.{is_among, AreDistinct, no_name, one_more}
 use Rattle.projection.specs.Codes.{name_of, is_named, role_in, proc_named, param_for}
 use Rattle.projection.specs.Projects.{session_as}
 use Rattle.projection.specs.Renamed.{IsOther, AreOther, IsOtherContent}
-use Rattle.held_sessions.specs.Held.{Held, with_held, GivesHeld, GainsNew, held_after, Exchanges, JoinsNew, HoldsListed, PassesFor, PassesAtCall, UsesHeld, IsFree}
+use Rattle.projection_follows.specs.FreeSessions.{IsFree}
+use Rattle.held_sessions.specs.Held.{Held, with_held, GivesHeld, GainsNew, held_after, Exchanges, JoinsNew, HoldsListed, PassesFor, PassesAtCall, UsesHeld}
 
 same_refs : (rs : List Ref) → map (λ p. p) rs ≡ rs
 same_refs [] = refl

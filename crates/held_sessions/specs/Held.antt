@@ -8,7 +8,7 @@ use Rattle.endpoint_code.specs.declared.endpoints.Endpoints.{Endpoints}
 use Rattle.endpoint_code.specs.Faults.{is_among, AreDistinct, IsActive}
 use Rattle.projection.specs.Codes.{name_of, is_named, role_in, proc_named, param_for, holds}
 use Rattle.projection.specs.Projects.{Started, serving}
-use Rattle.projection.specs.Renamed.{IsOther, AreOther, IsOtherContent}
+use Rattle.projection_follows.specs.FreeSessions.{IsFree}
 
 -- the sessions in which a process holds a role, by number
 abbrev pub Held : Type 0
@@ -86,16 +86,6 @@ abbrev pub Agrees : Held → List NameId → Type 0
 Agrees g bs = (y : NameId) → is_among y bs ≡ g y.0
 
 -- ---- starts
-
--- no session of it has the name a, and no start binds k
-abbrev pub IsFree : ℕ → NameId → Choreography → Type 0
-IsFree k a (Then (Starts c e h act srv) rest) = ((h == k) ≡ false) × ((h == a.0) ≡ false) × IsFree k a rest
-IsFree k a (Then (Communicates s p x q y w) rest) = IsOther a s × IsOtherContent a w × IsFree k a rest
-IsFree k a (Then (InTransit s x y m q) rest) = IsFree k a rest
-IsFree k a (Then (Alone p o) rest) = IsFree k a rest
-IsFree k a (Either p v c d) = IsFree k a c × IsFree k a d
-IsFree k a (CallsProcedure h e ps ss) = AreOther a ss
-IsFree k a Stops = Unit {0}
 
 -- the one session in which it holds a role
 abbrev pub only_in : ℕ → Held

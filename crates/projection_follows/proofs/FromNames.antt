@@ -1,5 +1,6 @@
 -- What follows a start has its session, and no session of the channel's name.
 use Rattle.std.proofs.Common.{◌≡◌, ℕ, ◌==◌, ◌&&◌, ◌||◌, Bool, true, false, List, [], ◌∷◌, refl, sym, ap, ◌∙◌}
+use Rattle.chor_base.specs.declared.names.NameId.{NameId}
 use Rattle.chor_semantics.specs.Choreography.{Ref, Live, Named, ref_eq, among, Content, OfValue, OfLabel, OfPart, Starts, Communicates, InTransit, Alone, Choreography, Then, Either, Calls, Ends}
 use Rattle.chor_semantics.specs.Sources.{Procedure}
 use Rattle.endpoint_code.specs.declared.endpoints.Channel.{Channel}
@@ -7,7 +8,8 @@ use Rattle.well_formed.specs.SourceTrees as source
 use Rattle.well_formed.specs.SourceTrees.{IsSource}
 use Rattle.well_formed.specs.WellFormed.{Scope, IsIn, AllIn, ContentFits, scope_after, IsWellFormed}
 use Rattle.projection_follows.proofs.AlongTrees.{same_test}
-use Rattle.projection_follows.proofs.FreeSessions.{IsOther, AreOthers, HasOther, IsFree}
+use Rattle.projection.specs.Renamed.{IsOther, AreOther, IsOtherContent}
+use Rattle.projection_follows.specs.FreeSessions.{IsFree}
 use Rattle.projection_follows.specs.Premises.{BindsNo}
 
 or_later : (a b : Bool) → b ≡ true → (a || b) ≡ true
@@ -22,7 +24,10 @@ turned a h e = go (a == h) refl
     go true f = let z : true ≡ false = sym f ∙ ap (λ v. v == h) (same_test a h f) ∙ sym (ap (λ v. h == v) (same_test a h f) ∙ refl) ∙ e in absurd cc
 
 module _ (ks : List Channel) (procs : List Procedure) (k a : ℕ) where
-  other : (n : ℕ) (bs : List Ref) → among (Named a 0) bs ≡ false → (u : Ref) → source.IsName u → IsIn n bs u → IsOther a u
+  abbrev name : NameId
+  name = record { 0 = a }
+
+  other : (n : ℕ) (bs : List Ref) → among (Named a 0) bs ≡ false → (u : Ref) → source.IsName u → IsIn n bs u → IsOther name u
   other n bs out (Live m) s i = absurd s
   other n bs out (Named y d) s i = go (y == a) refl
     where
@@ -30,16 +35,16 @@ module _ (ks : List Channel) (procs : List Procedure) (k a : ℕ) where
       go false e = refl
       go true e = let z : true ≡ false = sym i ∙ ap (λ v. among (Named y v) bs) s ∙ ap (λ v. among (Named v 0) bs) (same_test y a e) ∙ out in absurd cc
 
-  others : (n : ℕ) (bs : List Ref) → among (Named a 0) bs ≡ false → (us : List Ref) → source.AreNames us → AllIn n bs us → AreOthers a us
+  others : (n : ℕ) (bs : List Ref) → among (Named a 0) bs ≡ false → (us : List Ref) → source.AreNames us → AllIn n bs us → AreOther name us
   others n bs out [] s i = tt
   others n bs out (u ∷ us) s i = (other n bs out u s.0 i.0, others n bs out us s.1 i.1)
 
-  content : (sc : Scope) → among (Named a 0) sc.sessions ≡ false → (w : Content) → source.IsContent w → ContentFits sc w → HasOther a w
+  content : (sc : Scope) → among (Named a 0) sc.sessions ≡ false → (w : Content) → source.IsContent w → ContentFits sc w → IsOtherContent name w
   content sc out (OfValue e x) s i = tt
   content sc out (OfLabel l) s i = tt
   content sc out (OfPart u r) s i = other sc.sid sc.sessions out u s i
 
-  pub free : (sc : Scope) (c : Choreography) → among (Named k 0) sc.sessions ≡ true → among (Named a 0) sc.sessions ≡ false → IsSource c → IsWellFormed ks procs sc c → BindsNo a c → IsFree k a c
+  pub free : (sc : Scope) (c : Choreography) → among (Named k 0) sc.sessions ≡ true → among (Named a 0) sc.sessions ≡ false → IsSource c → IsWellFormed ks procs sc c → BindsNo a c → IsFree k name c
   free sc (Then (Starts c e h act srv) rest) i out s w b = (
     apart (h == k) refl,
     b.0,

@@ -1,5 +1,4 @@
 pub mod Plays
-pub mod FreeSessions
 pub mod StartsPlay
 pub mod Units
 pub mod Passed

@@ -8,7 +8,8 @@ use Rattle.chor_semantics.specs.Choreography.{Ref, Live, Named, Content, OfValue
 use Rattle.projection.specs.Codes.{is_named, role_in, proc_named, param_for}
 use Rattle.projection.specs.Projects.{session_as}
 use Rattle.projection_follows.proofs.AlongTrees.{same_test, self_test}
-use Rattle.projection_follows.proofs.FreeSessions.{IsOther, AreOthers, HasOther, IsFree}
+use Rattle.projection.specs.Renamed.{IsOther, AreOther, IsOtherContent}
+use Rattle.projection_follows.specs.FreeSessions.{IsFree}
 use Rattle.projection_follows.specs.Roles.{Roles, with_role, HoldsRole, number, GivesAway, roles_sent, roles_gained, TakesPart}
 use Rattle.projection_follows.proofs.Plays.{IsName, AreNames, IsNamedContent, OthersNew, PassesRoles, PlaysPassed, PlaysCall, Plays}
 
@@ -33,7 +34,7 @@ module _ (fs : List Proc) (r : NameId) (k a : ℕ) where
   abbrev Agree : Roles → Roles → Type 0
   Agree g h = ((y : ℕ) → (y == k) ≡ false → (y == a) ≡ false → h y ≡ g y) × (h a ≡ g k)
 
-  at_ref : (g h : Roles) → Agree g h → (u : Ref) → IsName u → IsOther a u → h (number (ren u)) ≡ g (number u)
+  at_ref : (g h : Roles) → Agree g h → (u : Ref) → IsName u → IsOther name u → h (number (ren u)) ≡ g (number u)
   at_ref g h w (Live n) i o = absurd i
   at_ref g h w (Named y e) i o = go (y == k) refl
     where
@@ -49,7 +50,7 @@ module _ (fs : List Proc) (r : NameId) (k a : ℕ) where
       go true = tt
       go false = tt
 
-  holds_ren : (g h : Roles) → Agree g h → (u : Ref) (t : NameId) → IsName u → IsOther a u → HoldsRole g u t → HoldsRole h (ren u) t
+  holds_ren : (g h : Roles) → Agree g h → (u : Ref) (t : NameId) → IsName u → IsOther name u → HoldsRole g u t → HoldsRole h (ren u) t
   holds_ren g h w (Live n) t i o v = absurd i
   holds_ren g h w (Named y e) t i o v = go (y == k) refl (at_ref g h w (Named y e) i o)
     where
@@ -72,7 +73,7 @@ module _ (fs : List Proc) (r : NameId) (k a : ℕ) where
     ap (λ c. if c then o else h a) (self_test a) ∙ sym (ap (λ c. if c then o else g k) (self_test k)),
   )
 
-  agree_ref : (g h : Roles) (u : Ref) (o : Option NameId) → IsName u → IsOther a u → Agree g h → Agree (with_role g (number u) o) (with_role h (number (ren u)) o)
+  agree_ref : (g h : Roles) (u : Ref) (o : Option NameId) → IsName u → IsOther name u → Agree g h → Agree (with_role g (number u) o) (with_role h (number (ren u)) o)
   agree_ref g h (Live n) o i j w = absurd i
   agree_ref g h (Named y e) o i j w = go (y == k) refl
     where
@@ -86,34 +87,34 @@ module _ (fs : List Proc) (r : NameId) (k a : ℕ) where
   named_content (OfLabel l) i = i
   named_content (OfPart u t) i = is_name u i
 
-  gives : (g h : Roles) → Agree g h → (w : Content) → IsNamedContent w → HasOther a w → GivesAway g w → GivesAway h (put_content ren w)
+  gives : (g h : Roles) → Agree g h → (w : Content) → IsNamedContent w → IsOtherContent name w → GivesAway g w → GivesAway h (put_content ren w)
   gives g h ag (OfValue e x) i o v = v
   gives g h ag (OfLabel l) i o v = v
   gives g h ag (OfPart u t) i o v = holds_ren g h ag u t i o v
 
-  after_sent : (g h : Roles) → Agree g h → (w : Content) → IsNamedContent w → HasOther a w → Agree (roles_sent g w) (roles_sent h (put_content ren w))
+  after_sent : (g h : Roles) → Agree g h → (w : Content) → IsNamedContent w → IsOtherContent name w → Agree (roles_sent g w) (roles_sent h (put_content ren w))
   after_sent g h ag (OfValue e x) i o = ag
   after_sent g h ag (OfLabel l) i o = ag
   after_sent g h ag (OfPart u t) i o = agree_ref g h u None i o ag
 
-  after_gained : (g h : Roles) → Agree g h → (w : Content) → IsNamedContent w → HasOther a w → Agree (roles_gained g w) (roles_gained h (put_content ren w))
+  after_gained : (g h : Roles) → Agree g h → (w : Content) → IsNamedContent w → IsOtherContent name w → Agree (roles_gained g w) (roles_gained h (put_content ren w))
   after_gained g h ag (OfValue e x) i o = ag
   after_gained g h ag (OfLabel l) i o = ag
   after_gained g h ag (OfPart u t) i o = agree_ref g h u (Some t) i o ag
 
-  both : (g h : Roles) → Agree g h → (u : Ref) (c b : NameId) (w : Content) → IsName u → IsOther a u → IsNamedContent w → HasOther a w → (K L : Roles → Type 0) → ((g h : Roles) → Agree g h → K g → L h) → (i j : Bool)
+  both : (g h : Roles) → Agree g h → (u : Ref) (c b : NameId) (w : Content) → IsName u → IsOther name u → IsNamedContent w → IsOtherContent name w → (K L : Roles → Type 0) → ((g h : Roles) → Agree g h → K g → L h) → (i j : Bool)
       → TakesPart i j g u c b w K → TakesPart i j h (ren u) c b (put_content ren w) L
   both g h ag u c b w n o m p K L more true j v = (holds_ren g h ag u c n o v.0, gives g h ag w m p v.1, more (roles_sent g w) (roles_sent h (put_content ren w)) (after_sent g h ag w m p) v.2)
   both g h ag u c b w n o m p K L more false true v = (holds_ren g h ag u b n o v.0, more (roles_gained g w) (roles_gained h (put_content ren w)) (after_gained g h ag w m p) v.1)
   both g h ag u c b w n o m p K L more false false v = more g h ag v
 
-  passes : (g h : Roles) → Agree g h → (p : NameId) (ks : List SessionParam) (ss : List Ref) → AreOthers a ss → PassesRoles g p ks ss → PassesRoles h p ks (map ren ss)
+  passes : (g h : Roles) → Agree g h → (p : NameId) (ks : List SessionParam) (ss : List Ref) → AreOther name ss → PassesRoles g p ks ss → PassesRoles h p ks (map ren ss)
   passes g h ag p [] [] o v = v
   passes g h ag p [] (s ∷ ss) o v = v
   passes g h ag p (q ∷ qs) [] o v = v
   passes g h ag p (q ∷ qs) (s ∷ ss) o v = (is_name s v.0, (λ i. at_ref g h ag s v.0 o.0 ∙ v.1 i), passes g h ag p qs ss o.1 v.2)
 
-  call_plays : (g h : Roles) → Agree g h → (ps ss : List Ref) → AreOthers a ss → (x : Option Proc) → PlaysCall r ps ss g x → PlaysCall r ps (map ren ss) h x
+  call_plays : (g h : Roles) → Agree g h → (ps ss : List Ref) → AreOther name ss → (x : Option Proc) → PlaysCall r ps ss g x → PlaysCall r ps (map ren ss) h x
   call_plays g h ag ps ss o None v = v
   call_plays g h ag ps ss o (Some x) v = go (param_for r x.params ps) v
     where
@@ -121,7 +122,7 @@ module _ (fs : List Proc) (r : NameId) (k a : ℕ) where
       go None v = v
       go (Some p) v = (v.0, passes g h ag p x.sessions ss o v.1)
 
-  pub plays_renamed : (c : Choreography) → IsFree k a c → (g h : Roles) → Agree g h → Plays fs r c g → Plays fs r (put (λ p. p) ren c) h
+  pub plays_renamed : (c : Choreography) → IsFree k name c → (g h : Roles) → Agree g h → Plays fs r c g → Plays fs r (put (λ p. p) ren c) h
   plays_renamed (Then (Starts c0 e0 s act srv) rest) o g h ag v =
       let w = plays_renamed rest o.2 (with_role g s (role_in r act)) (with_role h s (role_in r act)) (agree_other g h s (role_in r act) o.0 o.1 ag) v.2 in
       subst (λ z. AreNames z × OthersNew r srv × Plays fs r (put (λ p. p) ren rest) (with_role h s (role_in r z))) (sym (same_parts act)) (v.0, v.1, w)

@@ -4,7 +4,8 @@ use Rattle.std.proofs.lemmas.Bool.Decides.{nat_tests}
 use Rattle.chor_base.specs.declared.names.NameId.{NameId}
 use Rattle.chor_semantics.specs.Choreography.{Ref, Live, Named, Content, OfValue, OfLabel, OfPart, Starts, Communicates, InTransit, Alone, Choreography, Then, Either, Calls, Ends, put, put_part, put_content, bound, bound_served, named_by, instance_of}
 use Rattle.projection.specs.Projects.{session_as}
-use Rattle.projection_follows.proofs.FreeSessions.{IsOther, AreOthers, HasOther, IsFree}
+use Rattle.projection.specs.Renamed.{IsOther, AreOther, IsOtherContent}
+use Rattle.projection_follows.specs.FreeSessions.{IsFree}
 
 same_test : (x y : ℕ) → (x == y) ≡ true → x ≡ y
 same_test x y h = grind (arith, nat_tests)
@@ -16,7 +17,7 @@ module _ (k a d : ℕ) where
   abbrev Agree : (ℕ → Ref) → (ℕ → Ref) → Type 0
   Agree s t = ((y : ℕ) → (y == k) ≡ false → (y == a) ≡ false → t y ≡ s y) × (t a ≡ s k)
 
-  ref_same : (s t : ℕ → Ref) → Agree s t → (r : Ref) → IsOther a r → named_by t (session_as k name r) ≡ named_by s r
+  ref_same : (s t : ℕ → Ref) → Agree s t → (r : Ref) → IsOther name r → named_by t (session_as k name r) ≡ named_by s r
   ref_same s t h (Live n) o = refl
   ref_same s t h (Named y e) o = go (y == k) refl
     where
@@ -24,7 +25,7 @@ module _ (k a d : ℕ) where
       go true i = ap (λ c. named_by t (if c then Named a e else Named y e)) i ∙ h.1 ∙ ap s (sym (same_test y k i))
       go false i = ap (λ c. named_by t (if c then Named a e else Named y e)) i ∙ h.0 y i o
 
-  refs_same : (s t : ℕ → Ref) → Agree s t → (rs : List Ref) → AreOthers a rs → map (named_by t) (map (session_as k name) rs) ≡ map (named_by s) rs
+  refs_same : (s t : ℕ → Ref) → Agree s t → (rs : List Ref) → AreOther name rs → map (named_by t) (map (session_as k name) rs) ≡ map (named_by s) rs
   refs_same s t h [] o = refl
   refs_same s t h (r ∷ rs) o = let i = ref_same s t h r o.0 in let j = refs_same s t h rs o.1 in cc
 
@@ -36,7 +37,7 @@ module _ (k a d : ℕ) where
   parts_same f [] = refl
   parts_same f (q ∷ qs) = ap (λ z. (named_by f q.0, q.1) ∷ z) (parts_same f qs)
 
-  content_same : (s t : ℕ → Ref) → Agree s t → (w : Content) → HasOther a w → put_content (named_by t) (put_content (session_as k name) w) ≡ put_content (named_by s) w
+  content_same : (s t : ℕ → Ref) → Agree s t → (w : Content) → IsOtherContent name w → put_content (named_by t) (put_content (session_as k name) w) ≡ put_content (named_by s) w
   content_same s t h (OfValue e x) o = refl
   content_same s t h (OfLabel l) o = refl
   content_same s t h (OfPart u r) o = ap (λ z. OfPart z r) (ref_same s t h u o)
@@ -48,7 +49,7 @@ module _ (k a d : ℕ) where
       go y true e u v = ap (λ c. if c then Named x d else t y) e ∙ sym (ap (λ c. if c then Named x d else s y) e)
       go y false e u v = ap (λ c. if c then Named x d else t y) e ∙ h.0 y u v ∙ sym (ap (λ c. if c then Named x d else s y) e)
 
-  pub renamed : (c : Choreography) (f s t : ℕ → Ref) → Agree s t → IsFree k a c → instance_of d f t (put (λ p. p) (session_as k name) c) ≡ instance_of d f s c
+  pub renamed : (c : Choreography) (f s t : ℕ → Ref) → Agree s t → IsFree k name c → instance_of d f t (put (λ p. p) (session_as k name) c) ≡ instance_of d f s c
   renamed (Then (Starts c e h act srv) rest) f s t g o =
       let i = parts_same f act in
       let j = renamed rest (bound_served d srv f) (bound h (Named h d) s) (bound h (Named h d) t) (bound_same s t h g o.0 o.1) o.2 in cc

@@ -32,7 +32,7 @@ use Rattle.projection_follows.proofs.Passing.{found_proc}
 use Rattle.projection_follows.proofs.ThroughCalls.{follows}
 use Rattle.projection_follows.proofs.Plays.{Plays, IsOver, ProceduresPlay}
 use Rattle.projection_follows.specs.Roles.{with_role, params_of, sessions_of, process_name}
-use Rattle.projection_follows.proofs.FreeSessions.{IsFree}
+use Rattle.projection_follows.specs.FreeSessions.{IsFree}
 use Rattle.projection_follows.proofs.StartsPlay.{has_pair, ServicesPlay, StartsPlay, AllStartsPlay, IsOwn, AreShallow}
 
 -- ---- names of this depth
@@ -189,7 +189,7 @@ module _ (f : File) (e : Endpoints) (pr : Projects f e) (plays : ProceduresPlay 
   procs = procedures_of f
 
   -- one service
-  one_service : (c : NameId) (d k : ℕ) (F G : ℕ → Ref) (all : List (ℕ × NameId)) (rest : Choreography) (x : ℕ) (r : NameId) → IsOwn d F → bound_served d all F x ≡ Named x d → IsFree k c.0 rest → serving r all ≡ Some (process_name x)
+  one_service : (c : NameId) (d k : ℕ) (F G : ℕ → Ref) (all : List (ℕ × NameId)) (rest : Choreography) (x : ℕ) (r : NameId) → IsOwn d F → bound_served d all F x ≡ Named x d → IsFree k c rest → serving r all ≡ Some (process_name x)
       → Plays f.procs (process_name x) rest (with_role (λ y. None) k (Some r)) → StartServed c r (record { session = k; serve = all; rest = rest })
       → IsEqualUpToPruning e procs (Named x d) (instance_of d (bound_served d all F) (bound k (Named k d) G) rest) (service_of e.services c r) (with_session no_sessions c (Named k d, r))
   one_service c d k F G all rest x r own here free serves w s n =
@@ -221,7 +221,7 @@ module _ (f : File) (e : Endpoints) (pr : Projects f e) (plays : ProceduresPlay 
       knows y t true i = let z : r ≡ t = cc in ap (entry (Named k d)) z
       knows y t false i = absurd cc
 
-  services : (c : NameId) (d k : ℕ) (F G : ℕ → Ref) (all : List (ℕ × NameId)) (rest : Choreography) → IsOwn d F → IsFree k c.0 rest → ((r : NameId) → has_pair c r (service_roles (started_services f)) ≡ true → StartServed c r (record { session = k; serve = all; rest = rest }))
+  services : (c : NameId) (d k : ℕ) (F G : ℕ → Ref) (all : List (ℕ × NameId)) (rest : Choreography) → IsOwn d F → IsFree k c rest → ((r : NameId) → has_pair c r (service_roles (started_services f)) ≡ true → StartServed c r (record { session = k; serve = all; rest = rest }))
       → (ss : List (ℕ × NameId)) → AllByRecursion (λ s. bound_served d all F s.0 ≡ Named s.0 d) ss → ServicesPlay f c k all rest ss → EachServiceFollows e procs (instance_of d (bound_served d all F) (bound k (Named k d) G) rest) c d k ss
   services c d k F G all rest own free st [] b w = tt
   services c d k F G all rest own free st (s ∷ ss) b w =

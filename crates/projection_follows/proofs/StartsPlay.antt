@@ -8,7 +8,7 @@ use Rattle.projection.specs.Codes.{proc_named}
 use Rattle.projection.specs.Projects.{serving, service_roles, started_services, body_at}
 use Rattle.projection_follows.proofs.Plays.{Plays}
 use Rattle.projection_follows.specs.Roles.{with_role, process_name}
-use Rattle.projection_follows.proofs.FreeSessions.{IsFree}
+use Rattle.projection_follows.specs.FreeSessions.{IsFree}
 use Rattle.well_formed.proofs.Absent.{IsNoDeeper}
 
 abbrev pub has_pair : NameId → NameId → List (NameId × NameId) → Bool
@@ -25,7 +25,7 @@ ServicesPlay f c k all rest (s ∷ ss) =
     × ServicesPlay f c k all rest ss
 
 abbrev pub StartPlays : File → Node → Choreography → Type 0
-StartPlays f (Starts c e k act srv) rest = IsFree k c.0 rest × ServicesPlay f c k srv rest srv
+StartPlays f (Starts c e k act srv) rest = IsFree k c rest × ServicesPlay f c k srv rest srv
 StartPlays f (Communicates s p a q b w) rest = Unit {0}
 StartPlays f (InTransit s a b m q) rest = Unit {0}
 StartPlays f (Alone p o) rest = Unit {0}

@@ -1,3 +1,4 @@
+pub mod FreeSessions
 pub mod Roles
 pub mod Premises
 pub mod Laws
