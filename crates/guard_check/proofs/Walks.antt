@@ -2,7 +2,6 @@
 use Rattle.std.proofs.Common.{◌≡◌, ℕ, ◌+◌, ◌<◌, ◌≤◌, ◌==◌, ◌||◌, ◌&&◌, Bool, true, false, length, drop, List, [], ◌∷◌, map, refl, ap, sym, ◌∙◌, subst, inl, inr, arith}
 use Rattle.std.specs.List.{list_any}
 use Rattle.std.proofs.lemmas.List.{drop_all}
-use Rattle.std.proofs.lemmas.Option.{slice_get_cases}
 use Rattle.std.proofs.lemmas.Bool.Decides.{nat_tests}
 use Rattle.std.specs.Prelude.{Option, Some, None, Contains, slice_get, slice_index_or, not}
 use Rattle.chor_base.specs.declared.names.NameId.{NameId}
@@ -18,11 +17,12 @@ use Rattle.chor_tree.specs.declared.tree.NodeId.{NodeId}
 use Rattle.chor_tree.specs.declared.tree.Node.{Node}
 use Rattle.chor_tree.specs.declared.tree.Form.{Form}
 use Rattle.chor_tree.specs.declared.tree.Form.TheVariants.{Start, Value, Label, Give, Set, Host, Show, If, Call, End}
-use Rattle.chor_tree.specs.Children.{children_of, IsClosed}
+use Rattle.chor_tree.specs.Children.{children_of}
 use Rattle.chor_tree.specs.Forms.{head_of}
 use Rattle.chor_tree.specs.Names.{is_among}
 use Rattle.chor_tree.specs.Source.{Block, Ends, nowhere as no_place, place_of, tails_of, block_of, blocks_of, body_of}
-use Rattle.chor_tree.proofs.Blocks.{block_at, block_past, tails_same}
+use Rattle.chor_tree.proofs.Blocks.{tails_same}
+use Rattle.tree_walks.proofs.Nodes.{place_same, block_is, no_block}
 use Rattle.typing_rules.specs.Guarded.{named_by, passed_by, IsUnguardedCall, IsGuardFault}
 use Rattle.typing_rules.specs.Guarded.IsUnguardedCall.{here, further}
 use Rattle.guard_check.specs.InBodies.{IsUnguardedIn, IsUnguardedInProcedures}
@@ -123,18 +123,6 @@ passed_same bs p (If q e first second) = refl
 passed_same bs p (Call f ps ss) = refl
 passed_same bs p End = refl
 
-place_same : (bs : List Block) (p : Place) (f : Form) → place_of (block_of bs p f) ≡ p
-place_same bs p (Start c k active serve next) = refl
-place_same bs p (Value from e to x k next) = refl
-place_same bs p (Label from to k l next) = refl
-place_same bs p (Give from to k given next) = refl
-place_same bs p (Set q x e next) = refl
-place_same bs p (Host q x f l r next) = refl
-place_same bs p (Show q e next) = refl
-place_same bs p (If q e first second) = refl
-place_same bs p (Call f ps ss) = refl
-place_same bs p End = refl
-
 -- what passes a process is a call
 no_tails : (bs : List Block) (p : Place) (f : Form) (ps : List NameId) → list_any (is_among ps) (passed_by (head_of f)) ≡ true → tails_of (block_of bs p f) ≡ []
 no_tails bs p (Start c k active serve next) ps h = absurd cc
@@ -149,9 +137,6 @@ no_tails bs p (Call f qs ss) ps h = refl
 no_tails bs p End ps h = absurd cc
 
 module _ (f : File) where
-  block_is : (id : NodeId) (n : Node) → slice_get f.tree.nodes id.0 ≡ Some n → body_of f id ≡ block_of (blocks_of f.tree.nodes) n.place n.form
-  block_is id n at = block_at f.tree.nodes id n f.tree.closed at
-
   abbrev bodies : List NodeId → List Block
   bodies ids = map (body_of f) ids
 
@@ -165,7 +150,7 @@ module _ (f : File) where
       let b = block_of bs n.place n.form in
       let found : IsFirst (IsUnguardedIn ps b) (Some (fault U1 (place_of b))) = call_first ps b (ap (list_any (is_among ps)) (passed_same bs n.place n.form) ∙ h) (no_tails bs n.place n.form ps h) in
       let placed : IsFirst (IsUnguardedIn ps b) (Some (fault U1 n.place)) = subst (λ p. IsFirst (IsUnguardedIn ps b) (Some (fault U1 p))) (place_same bs n.place n.form) found in
-      rest (Some (fault U1 n.place)) (subst (λ c. IsFirst (IsUnguardedIn ps c) (Some (fault U1 n.place))) (sym (block_is id n at)) placed)
+      rest (Some (fault U1 n.place)) (subst (λ c. IsFirst (IsUnguardedIn ps c) (Some (fault U1 n.place))) (sym (block_is f id n at)) placed)
 
   -- a node that passes none of these, and what follows it
   pub node_then : (W : Fault → Type 0) (ps left : List NameId) (id : NodeId) (n : Node) (ids : List NodeId) → slice_get f.tree.nodes id.0 ≡ Some n
@@ -179,7 +164,7 @@ module _ (f : File) where
       let of_block : IsFirst (IsUnguardedIn ps b) o =
       block_first ps left b o (subst (λ l. AreUnnamed ps l left) (sym (named_same bs n.place n.form)) are) (ap (list_any (is_among ps)) (passed_same bs n.place n.form) ∙ none)
       (subst (λ l. IsFirst (IsUnguardedAfter left l) o) tails h) in
-      rest o (subst (λ c. IsFirst (IsUnguardedIn ps c) o) (sym (block_is id n at)) of_block)
+      rest o (subst (λ c. IsFirst (IsUnguardedIn ps c) o) (sym (block_is f id n at)) of_block)
 
   pub after_none : (ps : List NameId) → IsFirst (IsUnguardedAfter ps (bodies [])) None
   after_none ps x a = nowhere a.0 a.1
@@ -204,12 +189,8 @@ module _ (f : File) where
   pub walk_ends : (W : Fault → Type 0) (ps : List NameId) (id : NodeId) → None ≡ slice_get f.tree.nodes id.0
       → ((o : Option Fault) → IsFirst (IsUnguardedIn ps (body_of f id)) o → IsFirst W o) → IsFirst W None
   walk_ends W ps id none rest =
-      let ends : body_of f id ≡ Ends no_place = block_past f.tree.nodes id (past f.tree.nodes id.0 (sym none)) in
-      rest None (subst (λ b. IsFirst (IsUnguardedIn ps b) None) (sym ends) (λ x u. nothing x u.2))
+      rest None (subst (λ b. IsFirst (IsUnguardedIn ps b) None) (sym (no_block f id none)) (λ x u. nothing x u.2))
     where
-      past : {X : Type 0} (xs : List X) (i : ℕ) → slice_get xs i ≡ None → length xs ≤ i
-      past xs i h = elim (slice_get_cases xs i).1 [ inl (x, lt, e, g) ↦ absurd cc | inr (le, e) ↦ le ]
-
       nothing : (x : Fault) {p : NameId} → IsUnguardedCall p x (Ends no_place) → ⊥
       nothing x (here pass e) = absurd cc
       nothing x (further {next = next} other m u) = nowhere next m
@@ -249,6 +230,3 @@ module _ (f : File) where
       let none : drop i hs ≡ [] = drop_all i hs (subst (λ l. length l ≤ i) same le) in
       let empty : IsFirst (IsUnguardedInProcedures f (drop i hs)) None = subst (λ l. IsFirst (IsUnguardedInProcedures f l) None) (sym none) (λ x a. nowhere a.0 a.1) in
       subst (λ q. IsFirst W q) (earlier_none first) (rest None empty)
-
-pub child_below : (nodes : List Node) (i : ℕ) (n : Node) (next : NodeId) → IsClosed nodes → slice_get nodes i ≡ Some n → Contains (children_of n.form) next → next.0 < i
-child_below nodes i n next closed at m = subst (λ c. c.0 < i) m.2 (closed i n at m.0 next m.1)

@@ -5,11 +5,12 @@ ghost use Rattle.chor_tree.specs.Source.{body_of};
 ghost use Rattle.chor_base.specs.Faults.{IsFirst};
 ghost use Rattle.guard_check.specs.InBodies.{IsUnguardedIn};
 
-use crate::nodes::{Following, passes, what_follows};
+use crate::nodes::passes;
 use crate::unnamed::unnamed_after;
 use chor_base::{Fault, List, Memory, NameId, Rule, earlier};
 use chor_tree::{File, Node, NodeId};
 use std::alloc::Global;
+use tree_walks::{Following, what_follows};
 
 // The first call from a node on that passes one of these processes where nothing before it names
 // that.

@@ -1,38 +1,13 @@
-//! What a node names, what it passes and what follows it.
+//! What a node names, and what it passes.
 
 ghost use Rattle.std.specs.Prelude.{◌≡◌, map};
 ghost use Rattle.std.specs.List.{list_any};
-ghost use Rattle.chor_tree.specs.Children.{children_of};
 ghost use Rattle.chor_tree.specs.Forms.{head_of};
 ghost use Rattle.chor_tree.specs.Names.{is_among, names_in};
 ghost use Rattle.typing_rules.specs.Guarded.{named_by, passed_by};
-ghost use Rattle.guard_check.specs.Following.{followers};
 
 use chor_base::NameId;
-use chor_tree::{Form, Named, NodeId, Part};
-
-// What follows a node.
-pub enum Following {
-    Nothing,
-    One(NodeId),
-    Either(NodeId, NodeId),
-}
-
-pub fn what_follows(form: &Form) -> Following
-    ensures { followers result ≡ children_of form.now }
-{
-    match form {
-        Form::Start { next, .. }
-        | Form::Value { next, .. }
-        | Form::Label { next, .. }
-        | Form::Give { next, .. }
-        | Form::Set { next, .. }
-        | Form::Host { next, .. }
-        | Form::Show { next, .. } => Following::One(*next),
-        Form::If { first, second, .. } => Following::Either(*first, *second),
-        Form::Call { .. } | Form::End => Following::Nothing,
-    }
-}
+use chor_tree::{Form, Named, Part};
 
 // Whether a node names a process.
 #[tactic(auto, using(crate::proofs::Members::among_parts, crate::proofs::Members::among_two, crate::proofs::Members::among_one))]

@@ -17,11 +17,11 @@ use Rattle.chor_tree.specs.Children.{children_of}
 use Rattle.chor_tree.specs.Forms.{head_of}
 use Rattle.chor_tree.specs.Source.{Block, Then, Either, Calls, Ends, nowhere as no_place, place_of, tails_of, block_of, blocks_of, body_of}
 use Rattle.chor_tree.proofs.Blocks.{tails_same}
+use Rattle.tree_walks.proofs.Nodes.{place_same, block_is, no_block}
 use Rattle.well_formed.specs.Linear.{Members}
 use Rattle.linearity.specs.OrderFaults.{IsUnorderedStart, here, after, first, second}
 use Rattle.linear_check.specs.declared.heard.Heard.{Heard}
 use Rattle.linear_check.specs.Tracks.{channel_at, Tracks, members_by, all_members_by, joins_by, Misses, IsUnorderedOfAny, IsUnorderedAfter}
-use Rattle.linear_check.proofs.WalksOn.{block_is, ends}
 
 -- ---- one block
 
@@ -66,18 +66,6 @@ module _ (cs : List NameId) (m : ℕ → Members) where
       (starts_here b) (starts_after b) (starts_split b)
 
 -- ---- one node
-
-place_same : (bs : List Block) (p : Place) (f : Form) → place_of (block_of bs p f) ≡ p
-place_same bs p (Start c k active serve next) = refl
-place_same bs p (Value from e to x k next) = refl
-place_same bs p (Label from to k l next) = refl
-place_same bs p (Give from to k given next) = refl
-place_same bs p (Set q x e next) = refl
-place_same bs p (Host q x f l r next) = refl
-place_same bs p (Show q e next) = refl
-place_same bs p (If q e one other) = refl
-place_same bs p (Call f ps ss) = refl
-place_same bs p End = refl
 
 members_same : (a : NameId) (m : Members) (bs : List Block) (p : Place) (f : Form) → members_by a m (block_of bs p f) ≡ members_by a m (head_of f)
 members_same a m bs p (Start c k active serve next) = refl
@@ -154,7 +142,7 @@ module _ (f : File) (cs : List NameId) where
       let rest : IsFirst (IsUnorderedAfter cs (all_members_by cs m b) (tails_of b)) o =
       subst (λ l. IsFirst (IsUnorderedAfter cs (all_members_by cs m b) l) o) tails (subst (λ k. IsFirst (IsUnorderedAfter cs k (map (body_of f) ids)) o) (sym members) h) in
       let found : IsFirst (IsUnorderedOfAny cs m b) (earlier (first_of_all (fault_if t U2 (place_of b))) o) = block_first cs m b t o misses rest in
-      subst (λ c. IsFirst (IsUnorderedOfAny cs m c) (earlier (first_of_all (fault_if t U2 n.place)) o)) (sym (block_is f cs id n at))
+      subst (λ c. IsFirst (IsUnorderedOfAny cs m c) (earlier (first_of_all (fault_if t U2 n.place)) o)) (sym (block_is f id n at))
       (subst (λ p. IsFirst (IsUnorderedOfAny cs m b) (earlier (first_of_all (fault_if t U2 p)) o)) (place_same bs n.place n.form) found)
 
   -- ---- a walk that goes on
@@ -215,7 +203,7 @@ module _ (f : File) (cs : List NameId) where
   pub seek_ends : (start old : Heard) (m : ℕ → Members) (id at : NodeId) (found : Option Fault) → None ≡ slice_get f.tree.nodes at.0
       → SeeksOn start old m id at found → IsFirst (IsUnorderedOfAny cs m (body_of f id)) found
   seek_ends start old m id at found none g =
-      let empty : IsFirst (IsUnorderedOfAny cs g.members (body_of f at)) None = subst (λ b. IsFirst (IsUnorderedOfAny cs g.members b) None) (sym (ends f cs at none)) (λ x u. nothing x u.2) in
+      let empty : IsFirst (IsUnorderedOfAny cs g.members (body_of f at)) None = subst (λ b. IsFirst (IsUnorderedOfAny cs g.members b) None) (sym (no_block f at none)) (λ x u. nothing x u.2) in
       subst (λ p. IsFirst (IsUnorderedOfAny cs m (body_of f id)) p) (earlier_none found) (g.rest None empty)
     where
       nothing : (x : Fault) {a : NameId} {k : Members} → IsUnorderedStart a x k (Ends no_place) → ⊥

@@ -1,7 +1,6 @@
 -- Walks of bodies, node by node.
-use Rattle.std.proofs.Common.{◌≡◌, ℕ, zero, suc, ◌<◌, ◌≤◌, ◌==◌, ◌&&◌, length, List, [], ◌∷◌, map, refl, ap, sym, ◌∙◌, subst, inl, inr, arith, Some, None}
-use Rattle.std.specs.Prelude.{Contains, slice_get, if◌then◌else◌}
-use Rattle.std.proofs.lemmas.Option.{slice_get_cases}
+use Rattle.std.proofs.Common.{◌≡◌, ℕ, zero, suc, ◌≤◌, ◌==◌, ◌&&◌, length, List, [], ◌∷◌, map, refl, ap, sym, ◌∙◌, subst, arith, Some, None}
+use Rattle.std.specs.Prelude.{slice_get, if◌then◌else◌}
 use Rattle.std.proofs.lemmas.Bool.Decides.{nat_tests}
 use Rattle.chor_base.specs.declared.names.NameId.{NameId}
 use Rattle.chor_base.specs.declared.rule.Place.{Place}
@@ -12,10 +11,10 @@ use Rattle.chor_tree.specs.declared.tree.NodeId.{NodeId}
 use Rattle.chor_tree.specs.declared.tree.Node.{Node}
 use Rattle.chor_tree.specs.declared.tree.Form.{Form}
 use Rattle.chor_tree.specs.declared.tree.Form.TheVariants.{Start, Value, Label, Give, Set, Host, Show, If, Call, End}
-use Rattle.chor_tree.specs.Children.{children_of, IsClosed}
+use Rattle.chor_tree.specs.Children.{children_of}
 use Rattle.chor_tree.specs.Forms.{head_of}
-use Rattle.chor_tree.specs.Source.{Block, Ends, nowhere as no_place, block_in, block_of, blocks_of, body_of}
-use Rattle.chor_tree.proofs.Blocks.{block_at, block_past}
+use Rattle.chor_tree.specs.Source.{Block, block_in, block_of, blocks_of, body_of}
+use Rattle.tree_walks.proofs.Nodes.{block_is, no_block}
 use Rattle.chor_semantics.specs.Sources.{name_ref}
 use Rattle.source_blocks.specs.Blocks.{choreography_of}
 use Rattle.well_formed.specs.Linear.{Members, ParameterSets}
@@ -67,9 +66,6 @@ turned : (x y : ℕ) → (x == y) ≡ (y == x)
 turned x y = grind (arith, nat_tests)
 
 module _ (f : File) (cs : List NameId) where
-  pub block_is : (id : NodeId) (n : Node) → slice_get f.tree.nodes id.0 ≡ Some n → body_of f id ≡ block_of (blocks_of f.tree.nodes) n.place n.form
-  block_is id n at = block_at f.tree.nodes id n f.tree.closed at
-
   -- a tail
   tail_taken : (h : Heard) (m : ℕ → Members) (old new : Sets) (bs : List Block) (p : Place) (g : Form) → length cs ≤ 64 → Tracks cs h m → children_of g ≡ [] → TakesAtTail h (head_of g) old new
       → TakesAway cs m (block_of bs p g) old new
@@ -89,16 +85,10 @@ module _ (f : File) (cs : List NameId) where
   pub tail_away : (h : Heard) (m : ℕ → Members) (old new : Sets) (id : NodeId) (n : Node) → length cs ≤ 64 → slice_get f.tree.nodes id.0 ≡ Some n → Tracks cs h m → [] ≡ children_of n.form
       → TakesAtTail h (head_of n.form) old new → TakesAway cs m (body_of f id) old new
   tail_away h m old new id n few at tracks none t =
-      subst (λ b. TakesAway cs m b old new) (sym (block_is id n at)) (tail_taken h m old new (blocks_of f.tree.nodes) n.place n.form few tracks (sym none) t)
-
-  past : {X : Type 0} (xs : List X) (i : ℕ) → slice_get xs i ≡ None → length xs ≤ i
-  past xs i h = elim (slice_get_cases xs i).1 [ inl (x, lt, e, g) ↦ absurd cc | inr (le, e) ↦ le ]
-
-  pub ends : (id : NodeId) → None ≡ slice_get f.tree.nodes id.0 → body_of f id ≡ Ends no_place
-  ends id none = block_past f.tree.nodes id (past f.tree.nodes id.0 (sym none))
+      subst (λ b. TakesAway cs m b old new) (sym (block_is f id n at)) (tail_taken h m old new (blocks_of f.tree.nodes) n.place n.form few tracks (sym none) t)
 
   pub past_away : (m : ℕ → Members) (old : Sets) (id : NodeId) → None ≡ slice_get f.tree.nodes id.0 → TakesAway cs m (body_of f id) old old
-  past_away m old id none = subst (λ b. TakesAway cs m b old old) (sym (ends id none)) (λ c lt o i. refl)
+  past_away m old id none = subst (λ b. TakesAway cs m b old old) (sym (no_block f id none)) (λ c lt o i. refl)
 
   -- a statement
   pub next_away : (m : ℕ → Members) (old new : Sets) (id next : NodeId) (n : Node) → slice_get f.tree.nodes id.0 ≡ Some n → next ∷ [] ≡ children_of n.form
@@ -106,7 +96,7 @@ module _ (f : File) (cs : List NameId) where
   next_away m old new id next n at one t = λ c lt o i.
       t c lt o i
       ∙ ap (λ (s : ParameterSets). s o i) (sym (taken_next (channel_at cs c) (m c) (holds old c) (blocks_of f.tree.nodes) n.place n.form next (sym one)))
-      ∙ ap (λ b. taken (channel_at cs c) (holds old c) (m c) (choreography_of b) o i) (sym (block_is id n at))
+      ∙ ap (λ b. taken (channel_at cs c) (holds old c) (m c) (choreography_of b) o i) (sym (block_is f id n at))
 
   -- a conditional
   pub branches_away : (m : ℕ → Members) (old middle new : Sets) (id one other : NodeId) (n : Node) → slice_get f.tree.nodes id.0 ≡ Some n → one ∷ other ∷ [] ≡ children_of n.form
@@ -116,7 +106,7 @@ module _ (f : File) (cs : List NameId) where
       u c lt o i
       ∙ ap (λ s. taken (channel_at cs c) s (m c) (choreography_of (body_of f other)) o i) same
       ∙ ap (λ (s : ParameterSets). s o i) (sym (taken_branches (channel_at cs c) (m c) (holds old c) (blocks_of f.tree.nodes) n.place n.form one other (sym two)))
-      ∙ ap (λ b. taken (channel_at cs c) (holds old c) (m c) (choreography_of b) o i) (sym (block_is id n at))
+      ∙ ap (λ b. taken (channel_at cs c) (holds old c) (m c) (choreography_of b) o i) (sym (block_is f id n at))
 
   -- ---- a walk that goes on
 
@@ -137,6 +127,3 @@ module _ (f : File) (cs : List NameId) where
     tracks = after g.members g.tracks;
     rest = λ before after_it t. g.rest before after_it (next_away g.members before after_it at next n is one t);
   }
-
-pub child_below : (nodes : List Node) (i : ℕ) (n : Node) (next : NodeId) → IsClosed nodes → slice_get nodes i ≡ Some n → Contains (children_of n.form) next → next.0 < i
-child_below nodes i n next closed at m = subst (λ c. c.0 < i) m.2 (closed i n at m.0 next m.1)

@@ -2,10 +2,8 @@
 
 ghost use Rattle.std.specs.Prelude.{ℕ, ◌≡◌, false, IfOk, OnOk, option_copied, slice_get};
 ghost use Rattle.chor_base.specs.Faults.{IsFirst};
-ghost use Rattle.chor_tree.specs.Children.{children_of};
 ghost use Rattle.chor_tree.specs.Source.{body_of};
 ghost use Rattle.well_formed.specs.Linear.{Members};
-ghost use Rattle.linear_check.specs.Following.{followers};
 ghost use Rattle.linear_check.specs.Takes.{TakesAway};
 ghost use Rattle.linear_check.specs.Tracks.{Tracks, IsUnorderedOfAny};
 
@@ -13,31 +11,9 @@ use crate::group::Group;
 use crate::heard::Heard;
 use crate::sets::Sets;
 use chor_base::{Fault, Memory, Rule, earlier, fault_if};
-use chor_tree::{Form, Node, NodeId};
+use chor_tree::{Node, NodeId};
 use std::alloc::Global;
-
-// What follows a node.
-pub enum Following {
-    Nothing,
-    One(NodeId),
-    Either(NodeId, NodeId),
-}
-
-fn what_follows(form: &Form) -> Following
-    ensures { followers result ≡ children_of form.now }
-{
-    match form {
-        Form::Start { next, .. }
-        | Form::Value { next, .. }
-        | Form::Label { next, .. }
-        | Form::Give { next, .. }
-        | Form::Set { next, .. }
-        | Form::Host { next, .. }
-        | Form::Show { next, .. } => Following::One(*next),
-        Form::If { first, second, .. } => Following::Either(*first, *second),
-        Form::Call { .. } | Form::End => Following::Nothing,
-    }
-}
+use tree_walks::{Following, what_follows};
 
 impl<'a> Group<'a> {
     fn node_at(&self, id: NodeId) -> Option<&'a Node>

@@ -13,7 +13,7 @@ use Rattle.chor_tree.specs.declared.tree.Node.{Node}
 use Rattle.chor_tree.specs.declared.tree.Part.{Part}
 use Rattle.chor_tree.specs.declared.tree.Form.{Form}
 use Rattle.chor_tree.specs.declared.tree.Form.TheVariants.{Start, Value, Label, Give, Set, Host, Show, If, Call, End}
-use Rattle.chor_tree.specs.Children.{children_of, IsClosed}
+use Rattle.chor_tree.specs.Children.{children_of}
 use Rattle.chor_base.specs.declared.fault.Fault.{Fault}
 use Rattle.chor_tree.specs.Names.{Scope, fault_at, unknown, unknown_process, unknown_session, message_faults, unknown_function, wrong_parts, wrong_numbers, channels_of, channel_of, procedures_of, procedure_of, named_as_channel, repeated, node_faults, scope_after, scope_of_main, scope_of_procedure, declaration_faults, IsBodyFault, IsNameFault}
 use Rattle.chor_tree.specs.Names.IsBodyFault.{here, further}
@@ -207,8 +207,3 @@ module _ (f : File) (hosts : List (List ℕ)) where
         which x (in_a_declaration m) = inl m
         which x (in_main b) = inr (inl b)
         which x (in_a_procedure {p = p} m b) = inr (inr (p, m, b))
-
--- ---- nodes come after those that follow them
-
-pub child_below : (nodes : List Node) (i : ℕ) (n : Node) (next : NodeId) → IsClosed nodes → slice_get nodes i ≡ Some n → Contains (children_of n.form) next → next.0 < i
-child_below nodes i n next closed at m = subst (λ c. c.0 < i) m.2 (closed i n at m.0 next m.1)

@@ -1,4 +1,3 @@
-pub mod Following
 pub mod Places
 pub mod InProcedures
 pub mod Sets

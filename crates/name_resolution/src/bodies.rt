@@ -2,12 +2,10 @@
 
 ghost use Rattle.std.specs.Prelude.{◌≡◌, ◌++◌, ◌∷◌, [], map, IfOk, OnOk, option_copied, slice_get};
 ghost use Rattle.std.specs.List.{flat_map};
-ghost use Rattle.chor_tree.specs.Children.{children_of};
 ghost use Rattle.chor_tree.specs.Names.{node_faults, scope_after, wrong_parts, wrong_numbers, unknown, channels_of, channel_of, named_as_channel, repeated, unknown_process, unknown_session, procedures_of, procedure_of, IsBodyFault};
 ghost use Rattle.chor_host.specs.Functions.{names_of};
 ghost use Rattle.chor_host.specs.Tables.{functions_of};
 ghost use Rattle.chor_base.specs.Faults.{first_of_all, IsFirst};
-ghost use Rattle.name_resolution.specs.Following.{followers};
 ghost use Rattle.name_resolution.specs.Sets.{IsSameScope, BeginsWith, bound_in};
 
 use crate::declared::Declared;
@@ -19,29 +17,7 @@ use crate::scope::Bound;
 use chor_base::{Fault, List, Memory, earlier};
 use chor_host::HostTable;
 use chor_tree::{Form, Named, Node, NodeId, Part};
-
-// What follows a node.
-enum Following {
-    Nothing,
-    One(NodeId),
-    Either(NodeId, NodeId),
-}
-
-fn what_follows(form: &Form) -> Following
-    ensures { followers result ≡ children_of form.now }
-{
-    match form {
-        Form::Start { next, .. }
-        | Form::Value { next, .. }
-        | Form::Label { next, .. }
-        | Form::Give { next, .. }
-        | Form::Set { next, .. }
-        | Form::Host { next, .. }
-        | Form::Show { next, .. } => Following::One(*next),
-        Form::If { first, second, .. } => Following::Either(*first, *second),
-        Form::Call { .. } | Form::End => Following::Nothing,
-    }
-}
+use tree_walks::{Following, what_follows};
 
 impl<'a> Declared<'a> {
     // The first fault of a node and of those that follow it. What is bound before is bound

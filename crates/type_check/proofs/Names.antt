@@ -1,5 +1,5 @@
 -- Where no name is at fault, a start binds a session of which nobody holds a role yet.
-use Rattle.std.proofs.Common.{◌≡◌, ℕ, ◌<◌, List, [], ◌∷◌, ◌++◌, map, refl, sym, ap, ◌∙◌, subst, Some, None, Option, Bool, true, false, ◌==◌, ◌||◌, arith}
+use Rattle.std.proofs.Common.{◌≡◌, ℕ, List, [], ◌∷◌, ◌++◌, map, refl, sym, ap, ◌∙◌, subst, Some, None, Option, Bool, true, false, ◌==◌, ◌||◌, arith}
 use Rattle.std.proofs.lemmas.Bool.Decides.{nat_tests}
 use Rattle.std.specs.Prelude.{Contains, slice_get, Result, Ok, Err}
 use Rattle.std.specs.List.{flat_map}
@@ -15,9 +15,10 @@ use Rattle.chor_tree.specs.declared.tree.NodeId.{NodeId}
 use Rattle.chor_tree.specs.declared.tree.Node.{Node as TreeNode}
 use Rattle.chor_tree.specs.declared.tree.Form.{Form}
 use Rattle.chor_tree.specs.declared.tree.Form.TheVariants.{Start, Value, Label, Give, Set, Host, Show, If, Call, End}
-use Rattle.chor_tree.specs.Children.{children_of, IsClosed}
+use Rattle.chor_tree.specs.Children.{children_of}
 use Rattle.chor_tree.specs.Forms.{head_of}
 use Rattle.chor_tree.specs.Names.{Scope, is_among, fault_at, repeated, unknown, unknown_process, wrong_parts, named_as_channel, channels_of, channel_of, node_faults, scope_after, here, further}
+use Rattle.tree_walks.proofs.Nodes.{child_below}
 use Rattle.delegation.specs.declared.held.Held.{Held}
 use Rattle.delegation.specs.Owners.{Lacks, started}
 use Rattle.delegation.proofs.Parts.{lacks_append, lacks_passed, own_started, apart}
@@ -123,9 +124,6 @@ module _ (scope : Scope) (e : Environment) (held : HoldInScope scope e.owners) w
   held_after f End = held
 
 -- nodes come after those that follow them
-pub child_below : (nodes : List TreeNode) (i : ℕ) (n : TreeNode) (next : NodeId) → IsClosed nodes → slice_get nodes i ≡ Some n → Contains (children_of n.form) next → next.0 < i
-child_below nodes i n next closed at m = subst (λ c. c.0 < i) m.2 (closed i n at m.0 next m.1)
-
 -- the names of a body that follows a node have no fault
 pub resolved_next : (f : File) (e now : Environment) (id next : NodeId) (n : TreeNode) → IsResolved f e id → slice_get f.tree.nodes id.0 ≡ Some n → now ≡ after f e (head_of n.form) → Contains (children_of n.form) next
     → IsResolved f now next

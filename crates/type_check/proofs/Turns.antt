@@ -8,7 +8,7 @@ use Rattle.chor_base.specs.Faults.{IsFirst, earlier, fault}
 use Rattle.chor_base.proofs.Members.{nowhere, at_head, at_tail, head_or_tail}
 use Rattle.chor_base.proofs.Faults.{first_along, first_of_either, earlier_assoc, earlier_none}
 use Rattle.chor_tree.specs.declared.tree.NodeId.{NodeId}
-use Rattle.type_check.specs.Following.{fault_in}
+use Rattle.type_check.specs.NodeFaults.{fault_in}
 
 -- ---- items under a map
 

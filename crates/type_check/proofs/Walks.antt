@@ -14,12 +14,13 @@ use Rattle.chor_tree.specs.declared.tree.Form.TheVariants.{Start, Value, Label, 
 use Rattle.chor_tree.specs.Children.{children_of}
 use Rattle.chor_tree.specs.Forms.{head_of}
 use Rattle.chor_tree.specs.Source.{Block, place_of, tails_of, block_in, block_of, blocks_of, body_of}
-use Rattle.chor_tree.proofs.Blocks.{block_at, tails_same}
+use Rattle.chor_tree.proofs.Blocks.{tails_same}
+use Rattle.tree_walks.proofs.Nodes.{place_same, block_is}
 use Rattle.typing_rules.specs.Environment.{Environment}
 use Rattle.typing_rules.specs.Checks.{rule_at}
 use Rattle.typing_rules.specs.After.{after}
 use Rattle.typing_rules.specs.TypeFaults.{IsBodyFault, here, further}
-use Rattle.type_check.specs.Following.{fault_in}
+use Rattle.type_check.specs.NodeFaults.{fault_in}
 use Rattle.type_check.proofs.Turns.{map_contains, contains_map, no_rule, some_rule, IsFaultAfter, Rest}
 
 -- ---- the block at a node begins with the node's statement or tail
@@ -48,18 +49,6 @@ module _ (f : File) (e : Environment) (bs : List Block) (p : Place) where
   after_same (If q x first second) = refl
   after_same (Call g ps ks) = refl
   after_same End = refl
-
-pub place_same : (bs : List Block) (p : Place) (n : Form) → place_of (block_of bs p n) ≡ p
-place_same bs p (Start c k active serve next) = refl
-place_same bs p (Value a x b y k next) = refl
-place_same bs p (Label a b k l next) = refl
-place_same bs p (Give a b k given next) = refl
-place_same bs p (Set q y x next) = refl
-place_same bs p (Host q y g x z next) = refl
-place_same bs p (Show q x next) = refl
-place_same bs p (If q x first second) = refl
-place_same bs p (Call g ps ks) = refl
-place_same bs p End = refl
 
 -- ---- a block
 
@@ -97,7 +86,7 @@ module _ (f : File) where
     block = block_of (blocks_of f.tree.nodes) n.place n.form
 
     is_block : body_of f id ≡ block
-    is_block = block_at f.tree.nodes id n f.tree.closed at
+    is_block = block_is f id n at
 
     -- the fault of a node that violates a rule
     node_at_fault : (r : Rule) → rule_at f e (head_of n.form) ≡ Some r → IsFirst (IsFaultAt e id) (Some (fault r n.place))

@@ -1,4 +1,4 @@
 pub mod Resolved
-pub mod Following
+pub mod NodeFaults
 pub mod InProcedures
 pub mod Typed

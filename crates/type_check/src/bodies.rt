@@ -1,6 +1,6 @@
 //! The types of bodies.
 
-ghost use Rattle.std.specs.Prelude.{◌≡◌, None, IfOk};
+ghost use Rattle.std.specs.Prelude.{◌≡◌, ◌<◌, None, Some, IfOk, length, slice_get};
 ghost use Rattle.chor_base.specs.Faults.{IsFirst};
 ghost use Rattle.chor_tree.specs.Forms.{head_of};
 ghost use Rattle.chor_tree.specs.Source.{body_of};
@@ -8,14 +8,14 @@ ghost use Rattle.typing_rules.specs.Checks.{rule_at};
 ghost use Rattle.typing_rules.specs.After.{after};
 ghost use Rattle.typing_rules.specs.TypeFaults.{IsBodyFault};
 ghost use Rattle.typing_steps.specs.Known.{environment_of, IsFresh};
-ghost use Rattle.type_check.specs.Following.{fault_in};
+ghost use Rattle.type_check.specs.NodeFaults.{fault_in};
 ghost use Rattle.type_check.specs.Resolved.{IsResolved};
 
-use crate::following::{Following, node_at, what_follows};
 use chor_base::{Fault, Memory, earlier};
-use chor_tree::{File, Node, NodeId};
+use chor_tree::{File, Node, NodeId, Tree};
 use delegation::OwnFault;
 use std::alloc::Global;
+use tree_walks::{Following, what_follows};
 use typing_steps::Known;
 
 // The first fault of the types of a body that begins at a node, where this much is known. What
@@ -70,4 +70,12 @@ fn judge(
         })),
         Err(OwnFault::Memory) => Err(Memory),
     }
+}
+
+// The node of a number.
+fn node_at(tree: &Tree, id: NodeId) -> &Node
+    requires { id.0 < length tree.now.nodes }
+    ensures { slice_get tree.now.nodes id.0 ≡ Some result.now }
+{
+    tree.nodes.at(id.0 as usize)
 }

@@ -3,7 +3,6 @@
 
 mod bodies;
 mod checking;
-mod following;
 mod heads;
 mod hosts;
 mod typed;

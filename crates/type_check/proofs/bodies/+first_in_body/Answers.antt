@@ -3,8 +3,9 @@ use Rattle.std.specs.Prelude.{Contains}
 use Rattle.chor_base.specs.Faults.{IsFirst}
 use Rattle.chor_base.proofs.Members.{at_head, at_tail}
 use Rattle.chor_tree.specs.Children.{children_of}
+use Rattle.tree_walks.proofs.Nodes.{child_below}
 use Rattle.typing_steps.specs.Known.{environment_of}
-use Rattle.type_check.proofs.Names.{is_fresh, child_below, resolved_next}
+use Rattle.type_check.proofs.Names.{is_fresh, resolved_next}
 use Rattle.type_check.proofs.Turns.{none_is, turn_ends, turn_goes_on, turn_branches}
 use Rattle.type_check.proofs.Walks.{IsFaultAt, walk_stops, walk_passes}
 use Rattle.type_check.proofs.bodies.+first_in_body.Goals as goal

@@ -4,8 +4,9 @@ use Rattle.chor_tree.specs.Source.{body_of}
 use Rattle.linear_check.specs.Tracks.{Tracks}
 use Rattle.linear_check.specs.Takes.{TakesAway}
 use Rattle.chor_base.proofs.Members.{at_head, at_tail}
+use Rattle.tree_walks.proofs.Nodes.{child_below}
 use Rattle.linear_check.proofs.PassedOn.{neither}
-use Rattle.linear_check.proofs.WalksOn.{begins, goes_on, tail_away, past_away, branches_away, child_below}
+use Rattle.linear_check.proofs.WalksOn.{begins, goes_on, tail_away, past_away, branches_away}
 use Rattle.linear_check.proofs.group.Group.+take_from.Goals as goal
 
 pub returns-in-Nothing-clause-taken : goal.returns-in-Nothing-clause-taken

@@ -1,18 +1,24 @@
-//! What follows a node.
+//! What a walk through a body needs of each node: which nodes follow it, and which block begins there.
+#![tactic(auto)]
 
-ghost use Rattle.std.specs.Prelude.{◌≡◌, ◌<◌, Some, length, slice_get};
+ghost use Rattle.std.specs.Prelude.{◌≡◌};
 ghost use Rattle.chor_tree.specs.Children.{children_of};
-ghost use Rattle.type_check.specs.Following.{followers};
+ghost use Rattle.tree_walks.specs.Following.{followers};
 
-use chor_tree::{Form, Node, NodeId, Tree};
+use chor_tree::{Form, NodeId};
 
-// What follows a node.
+/// What follows a node.
+#[derive(Clone, Copy, Debug, PartialEq, Eq)]
 pub enum Following {
+    /// Nothing, after a tail.
     Nothing,
+    /// The node after a statement.
     One(NodeId),
+    /// The two branches of a conditional.
     Either(NodeId, NodeId),
 }
 
+/// What follows a node of this form.
 pub fn what_follows(form: &Form) -> Following
     ensures { followers result ≡ children_of form.now }
 {
@@ -27,12 +33,4 @@ pub fn what_follows(form: &Form) -> Following
         Form::If { first, second, .. } => Following::Either(*first, *second),
         Form::Call { .. } | Form::End => Following::Nothing,
     }
-}
-
-// The node of a number.
-pub fn node_at(tree: &Tree, id: NodeId) -> &Node
-    requires { id.0 < length tree.now.nodes }
-    ensures { slice_get tree.now.nodes id.0 ≡ Some result.now }
-{
-    tree.nodes.at(id.0 as usize)
 }
