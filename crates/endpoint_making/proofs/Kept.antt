@@ -13,7 +13,7 @@ use Rattle.endpoint_code.specs.Kept as kept
 use Rattle.endpoint_making.specs.Making.{channel_made, procedure_made, service_made, process_made, AreNumbered}
 
 -- what holds of each item that is made holds of all that are made
-moved : {X Y : Type 0} (P : Y → Type 0) (f : X → Y) (xs : List X) (ys : List Y) → ys ≡ map f xs → All (λ x. P (f x)) xs → All P ys
+pub moved : {X Y : Type 0} (P : Y → Type 0) (f : X → Y) (xs : List X) (ys : List Y) → ys ≡ map f xs → All (λ x. P (f x)) xs → All P ys
 moved P f xs ys e h = subst (λ l. All P l) (sym e) (All-map P f xs h)
 
 module _ (w : Written) (nodes : List CodeNode) (cs : List Channel) (ps : List Procedure) (ss : List ServiceCode) (qs : List Process)

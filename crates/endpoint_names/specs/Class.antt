@@ -26,5 +26,7 @@ pub record IsFaultless (s : Setting) : Type 0 where
 
 -- A refusal tells the first fault of names, or, where there is none, the first of how procedures begin. Want of memory tells nothing
 abbrev pub IsBroken : Setting → Denied → Type 0
-IsBroken s (Refused r) = IsDenial (Contains (name_faults s)) (Refused r) ⊎ ((name_faults s ≡ []) × IsDenial (Contains (begin_faults s.written)) (Refused r))
+IsBroken s (Refused r) =
+    IsDenial (Contains (name_faults s)) (Refused r)
+    ⊎ ((name_faults s ≡ []) × IsDenial (Contains (begin_faults s.written)) (Refused r))
 IsBroken s Memory = Unit {0}

@@ -149,10 +149,20 @@ service_faults s v =
 abbrev pub process_faults : Setting → Process → List Fault
 process_faults s p = body_faults s [] (body_at s.written.lines.items p.body)
 
+-- ---- whole files
+
+abbrev pub faults_of_channels : Written → List Fault
+faults_of_channels w = repeated [] (map sign_of_channel w.channels) ++ flat_map (channel_faults w) w.channels
+
+abbrev pub faults_of_procedures : Setting → List Fault
+faults_of_procedures s = repeated [] (map sign_of_procedure s.written.procedures) ++ flat_map (procedure_faults s) s.written.procedures
+
+abbrev pub faults_of_services : Setting → List Fault
+faults_of_services s = repeated [] (map sign_of_service s.written.services) ++ flat_map (service_faults s) s.written.services
+
+abbrev pub faults_of_processes : Setting → List Fault
+faults_of_processes s = repeated [] (map sign_of_process s.written.processes) ++ flat_map (process_faults s) s.written.processes
+
 -- The faults of all names
 abbrev pub name_faults : Setting → List Fault
-name_faults s =
-    repeated [] (map sign_of_channel s.written.channels) ++ flat_map (channel_faults s.written) s.written.channels
-    ++ (repeated [] (map sign_of_procedure s.written.procedures) ++ flat_map (procedure_faults s) s.written.procedures)
-    ++ (repeated [] (map sign_of_service s.written.services) ++ flat_map (service_faults s) s.written.services)
-    ++ (repeated [] (map sign_of_process s.written.processes) ++ flat_map (process_faults s) s.written.processes)
+name_faults s = faults_of_channels s.written ++ faults_of_procedures s ++ faults_of_services s ++ faults_of_processes s

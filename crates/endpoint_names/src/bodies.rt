@@ -5,9 +5,9 @@ ghost use Rattle.std.specs.List.{flat_map};
 ghost use Rattle.chor_base.specs.Faults.{first_of_all};
 ghost use Rattle.endpoint_reader.specs.Lines.{nexts_of};
 ghost use Rattle.endpoint_names.specs.Keys.{sign_of_arm};
-ghost use Rattle.endpoint_names.specs.Bodies.{body_at, bodies_of, line_body, arms_in};
-ghost use Rattle.endpoint_names.specs.Faults.{unbound, action_faults, call_faults, body_faults, arms_faults};
-ghost use Rattle.endpoint_names.specs.Functions.{setting_of};
+ghost use Rattle.endpoint_names.specs.Bodies.{body_at, bodies_of, line_body};
+ghost use Rattle.endpoint_names.specs.Faults.{unbound, action_faults, call_faults, body_faults};
+ghost use Rattle.endpoint_names.specs.Functions.{setting_of, faults_in_arms};
 
 use crate::bound::Bound;
 use crate::declared::Declared;
@@ -21,7 +21,7 @@ impl<'a> Declared<'a> {
     #[tactic(auto, using(chor_base::proofs::Faults::first_append, crate::proofs::Tables::labels_are))]
     pub fn first_in_body(&self, mut bound: Bound, id: LineId) -> Result<Option<Fault>, Memory>
         requires { id.0 < length self.now.written.now.lines.items }
-        ensures { IfOk result (λ o. o ≡ first_of_all (body_faults (setting_of self.now.written.now self.now.functions) bound (body_at self.now.written.now.lines.items id))) }
+        ensures { let s = setting_of self.now.written.now self.now.functions in IfOk result (λ o. o ≡ first_of_all (body_faults s bound (body_at s.written.lines.items id))) }
     {
         match line_at(self.written, id) {
             Line::Act(action, next) => {
@@ -57,7 +57,7 @@ impl<'a> Declared<'a> {
     ) -> Result<Option<Fault>, Memory>
         requires inside { id.0 < length self.now.written.now.lines.items }
         requires below { All (λ arm. arm.body.0 < id.0) arms.now }
-        ensures { let lines = self.now.written.now.lines.items in IfOk result (λ o. o ≡ first_of_all (arms_faults (setting_of self.now.written.now self.now.functions) bound.now (arms_in (bodies_of lines) arms.now))) }
+        ensures { let s = setting_of self.now.written.now self.now.functions in IfOk result (λ o. o ≡ first_of_all (faults_in_arms s bound.now arms.now)) }
     {
         let mut first = None;
         for arm in arms {

@@ -3,7 +3,8 @@
 ghost use Rattle.std.specs.Prelude.{◌≡◌, IfOk, option_copied, is_some};
 ghost use Rattle.chor_base.specs.Faults.{first_of_all};
 ghost use Rattle.endpoint_code.specs.Faults.{is_among};
-ghost use Rattle.endpoint_names.specs.Faults.{channel_of, procedure_of, has_service, names_in, unknown_channel, unlisted, inactive, unserved, unprovided, wrong_call, unknown_function};
+ghost use Rattle.endpoint_names.specs.Faults.{channel_of, procedure_of, names_in};
+ghost use Rattle.endpoint_names.specs.Faults.{unknown_channel, unlisted, inactive, unserved, unprovided, wrong_call, unknown_function};
 ghost use Rattle.endpoint_names.specs.Functions.{setting_of};
 
 use crate::functions::Functions;

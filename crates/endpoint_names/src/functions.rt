@@ -21,7 +21,7 @@ pub struct Functions {
 
 impl Functions {
     pub fn new(alloc: Global, names: &Names, hosts: &HostTable) -> Result<Self, Memory>
-        ensures { IfOk result (λ functions. (x : AnyName) → knows functions x ≡ list_any (bytes_eq (name_in names.now x)) (names_of (functions_of hosts.now))) }
+        ensures { IfOk result (λ f. (x : AnyName) → knows f x ≡ list_any (bytes_eq (name_in names.now x)) (names_of (functions_of hosts.now))) }
     {
         let mut known = Vec::new(alloc);
         for number in 0..names.len() {

@@ -2,7 +2,8 @@
 
 ghost use Rattle.std.specs.Prelude.{◌≡◌};
 ghost use Rattle.endpoint_names.specs.declared.key.Sign.{Sign as AnySign};
-ghost use Rattle.endpoint_names.specs.Keys.{alone, both, sign_of_name, sign_of_two, sign_of_channel, sign_of_procedure, sign_of_service, sign_of_process, sign_of_arm};
+ghost use Rattle.endpoint_names.specs.Keys.{alone, both};
+ghost use Rattle.endpoint_names.specs.Keys.{sign_of_name, sign_of_two, sign_of_channel, sign_of_procedure, sign_of_service, sign_of_process, sign_of_arm};
 
 use chor_base::{NameId, Place};
 use endpoint_reader::{Arm, Channel, Named, Procedure, Process, Service};

@@ -1,10 +1,10 @@
 //! The names of units.
 
-ghost use Rattle.std.specs.Prelude.{◌≡◌, ◌<◌, ◌++◌, [], IfOk, length, map};
+ghost use Rattle.std.specs.Prelude.{◌≡◌, ◌<◌, ◌++◌, IfOk, length};
 ghost use Rattle.std.specs.List.{flat_map};
 ghost use Rattle.chor_base.specs.Faults.{first_of_all};
-ghost use Rattle.endpoint_names.specs.Keys.{sign_of_channel, sign_of_procedure, sign_of_service, sign_of_process};
-ghost use Rattle.endpoint_names.specs.Faults.{unprovided, repeated, channel_faults, procedure_faults, service_faults, process_faults, name_faults};
+ghost use Rattle.endpoint_names.specs.Faults.{unprovided, channel_faults, procedure_faults, service_faults, process_faults};
+ghost use Rattle.endpoint_names.specs.Faults.{faults_of_channels, faults_of_procedures, faults_of_services, faults_of_processes, name_faults};
 ghost use Rattle.endpoint_names.specs.Functions.{setting_of};
 
 use crate::bound::Bound;
@@ -29,7 +29,7 @@ impl<'a> Declared<'a> {
 
     #[tactic(auto, using(chor_base::proofs::Faults::first_append))]
     fn first_in_channels(&self) -> Result<Option<Fault>, Memory>
-        ensures { let w = self.now.written.now in IfOk result (λ o. o ≡ first_of_all (repeated [] (map sign_of_channel w.channels) ++ flat_map (channel_faults w) w.channels)) }
+        ensures { IfOk result (λ o. o ≡ first_of_all (faults_of_channels self.now.written.now)) }
     {
         let channels = self.written.channels.as_slice();
         let mut first = twice_in(self.alloc, channels)?;
@@ -63,7 +63,7 @@ impl<'a> Declared<'a> {
 
     #[tactic(auto, using(chor_base::proofs::Faults::first_append))]
     fn first_in_procedures(&self) -> Result<Option<Fault>, Memory>
-        ensures { let s = setting_of self.now.written.now self.now.functions in IfOk result (λ o. o ≡ first_of_all (repeated [] (map sign_of_procedure s.written.procedures) ++ flat_map (procedure_faults s) s.written.procedures)) }
+        ensures { IfOk result (λ o. o ≡ first_of_all (faults_of_procedures (setting_of self.now.written.now self.now.functions))) }
     {
         let procedures = self.written.procedures.as_slice();
         let mut first = twice_in(self.alloc, procedures)?;
@@ -88,7 +88,7 @@ impl<'a> Declared<'a> {
 
     #[tactic(auto, using(chor_base::proofs::Faults::first_append))]
     fn first_in_services(&self) -> Result<Option<Fault>, Memory>
-        ensures { let s = setting_of self.now.written.now self.now.functions in IfOk result (λ o. o ≡ first_of_all (repeated [] (map sign_of_service s.written.services) ++ flat_map (service_faults s) s.written.services)) }
+        ensures { IfOk result (λ o. o ≡ first_of_all (faults_of_services (setting_of self.now.written.now self.now.functions))) }
     {
         let services = self.written.services.as_slice();
         let mut first = twice_in(self.alloc, services)?;
@@ -117,7 +117,7 @@ impl<'a> Declared<'a> {
 
     #[tactic(auto, using(chor_base::proofs::Faults::first_append))]
     fn first_in_processes(&self) -> Result<Option<Fault>, Memory>
-        ensures { let s = setting_of self.now.written.now self.now.functions in IfOk result (λ o. o ≡ first_of_all (repeated [] (map sign_of_process s.written.processes) ++ flat_map (process_faults s) s.written.processes)) }
+        ensures { IfOk result (λ o. o ≡ first_of_all (faults_of_processes (setting_of self.now.written.now self.now.functions))) }
     {
         let processes = self.written.processes.as_slice();
         let mut first = twice_in(self.alloc, processes)?;
