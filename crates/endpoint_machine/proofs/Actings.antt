@@ -78,7 +78,7 @@ node_made n p v vars m (Call f q ns) x new cap is h i = absurd cc
 node_made n p v vars m End x new cap is h i = absurd cc
 
 -- the event that it makes there
-made_event : (n : NetworkState) (p : ℕ) (v : ℤ) (vars : Variables) (m : Sessions) (node : CodeNode) (x : Event) (k : NetworkState) → acts_alone node ≡ true → node_makes None n p v vars m node ≡ Some (Makes x k) → node_event p v vars node ≡ Some x
+pub made_event : (n : NetworkState) (p : ℕ) (v : ℤ) (vars : Variables) (m : Sessions) (node : CodeNode) (x : Event) (k : NetworkState) → acts_alone node ≡ true → node_makes None n p v vars m node ≡ Some (Makes x k) → node_event p v vars node ≡ Some x
 made_event n p v vars m (Set y w next) x k is h = cc
 made_event n p v vars m (Show w next) x k is h = cc
 made_event n p v vars m (Host y f a b next) x k is h = cc

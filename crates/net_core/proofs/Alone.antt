@@ -103,7 +103,7 @@ sound_after e ms p r t sound lt h number bound = record {
   counted = λ i j k. sound.counted i j (sym (ap (λ (l : List ℕ). slice_get l i) (mapped_put number_of ms p r t lt h number)) ∙ k);
 }
 
-alone_chosen : (e : Endpoints) (n : NetworkState) (p : ℕ) (v : ℤ) (node : CodeNode) (m : Sessions) → is_join node ≡ false → chosen_at e None n p v (Some (record { node = node; sessions = m })) ≡ makes e None n p v
+pub alone_chosen : (e : Endpoints) (n : NetworkState) (p : ℕ) (v : ℤ) (node : CodeNode) (m : Sessions) → is_join node ≡ false → chosen_at e None n p v (Some (record { node = node; sessions = m })) ≡ makes e None n p v
 alone_chosen e n p v (Join c r k next) m h = absurd cc
 alone_chosen e n p v (Send k b x next) m h = refl
 alone_chosen e n p v (Recv k a x next) m h = refl

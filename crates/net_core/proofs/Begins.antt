@@ -57,7 +57,7 @@ scoped_join (ends h) c r k m f = absurd cc
 pub channel_distinct : (e : Endpoints) (c : NameId) (k : Channel) → IsFaultless e → channel_of e.channels c ≡ Some k → AreDistinct k.active
 channel_distinct e c k f h = distinct_front k.active k.serve (channel_has (λ (x : Channel). AreDistinct (x.active ++ x.serve)) e.channels c k f.names.roles h)
 
-joiners_alone : (e : Endpoints) (n : NetworkState) (c : NameId) (s : ℕ) (ps : List (NameId × ℕ)) → joiners e n c s ps ≡ joiners e (machines_alone n.machines) c s ps
+pub joiners_alone : (e : Endpoints) (n : NetworkState) (c : NameId) (s : ℕ) (ps : List (NameId × ℕ)) → joiners e n c s ps ≡ joiners e (machines_alone n.machines) c s ps
 joiners_alone e n c s [] = refl
 joiners_alone e n c s (q ∷ ps) = ap (one_joiner q.1 (net.joins e (slice_get n.machines q.1) c q.0 s)) (joiners_alone e n c s ps)
 

@@ -65,7 +65,7 @@ cast_joins {e} {ms} {c} {p} {own} (one_role {r} {q} {rs} {ps} a b) h =
 
 -- ---- no process twice
 
-same_role : (o : Option Place) (c r s : NameId) → joins_there o c r ≡ true → joins_there o c s ≡ true → (r.0 == s.0) ≡ true
+pub same_role : (o : Option Place) (c r s : NameId) → joins_there o c r ≡ true → joins_there o c s ≡ true → (r.0 == s.0) ≡ true
 same_role None c r s h k = absurd cc
 same_role (Some p) c r s h k = at_node p.node h k
   where

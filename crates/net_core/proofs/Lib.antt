@@ -7,6 +7,9 @@ pub mod Fields
 pub mod Rooms
 pub mod Moves
 pub mod Alone
+pub mod Makers
+pub mod Lone
+pub mod Castings
 pub mod Casts
 pub mod Begins
 pub mod Leaders

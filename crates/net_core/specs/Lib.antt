@@ -5,3 +5,4 @@ pub mod Heads
 pub mod Starts
 pub mod Steps
 pub mod Picks
+pub mod Follows

@@ -15,6 +15,17 @@ pub enum Step {
     Memory,
 }
 
+/// What became of an event that the network was to follow.
+#[derive(Clone, Copy, Debug, PartialEq, Eq)]
+pub enum Followed {
+    /// It was made, and is now the last of the history.
+    Did,
+    /// No process can make it here.
+    Unmatched,
+    /// It can be made here, and there was no memory for it.
+    Memory,
+}
+
 /// How a scheduled run closed.
 #[derive(Clone, Copy, Debug, PartialEq, Eq)]
 pub enum Picked {

@@ -3,10 +3,12 @@
 
 mod acts;
 mod answer;
+mod follow_starts;
+mod following;
 mod network;
 mod parts;
 mod queues;
 mod schedule;
 
-pub use answer::{Picked, Step};
+pub use answer::{Followed, Picked, Step};
 pub use network::Network;

@@ -31,11 +31,11 @@ use std::marker::Model;
 /// The processes of endpoint programs, the queues between them, and the events so far.
 #[derive(Drop)]
 pub struct Network<'a> {
-    alloc: Global,
-    endpoints: &'a Endpoints,
-    machines: Vec<Machine>,
-    queues: Queues,
-    sid: u32,
+    pub(crate) alloc: Global,
+    pub(crate) endpoints: &'a Endpoints,
+    pub(crate) machines: Vec<Machine>,
+    pub(crate) queues: Queues,
+    pub(crate) sid: u32,
     history: Vec<Entry>,
 }
 
@@ -84,7 +84,7 @@ impl<'a> Network<'a> {
     }
 
     // The next action of a process.
-    fn head(&self, pid: u32) -> Head
+    pub(crate) fn head(&self, pid: u32) -> Head
         requires { pid < length self.now.state.machines }
         ensures { Shows self.now.endpoints self.now.state pid result }
     {
@@ -121,7 +121,7 @@ impl<'a> Network<'a> {
     }
 
     // Whether a process stands where it joins a channel in a role.
-    fn joins(&self, pid: u32, channel: NameId, role: NameId) -> bool
+    pub(crate) fn joins(&self, pid: u32, channel: NameId, role: NameId) -> bool
         requires { pid < length self.now.state.machines }
         ensures { result ≡ joins_in self.now.endpoints self.now.state pid channel role }
     {
@@ -290,7 +290,7 @@ impl<'a> Network<'a> {
     }
 
     // The event of a process that can step.
-    fn go(&mut self, pid: u32, hosts: &HostTable) -> Result<(), Memory>
+    pub(crate) fn go(&mut self, pid: u32, hosts: &HostTable) -> Result<(), Memory>
         requires there { pid < length self.old.state.machines }
         requires hosts { AsksKnown (is_listed (names_of (functions_of hosts.now)) self.old.endpoints) self.old.endpoints }
         requires fits { FitsMore self.old 1 }
@@ -362,7 +362,11 @@ impl<'a> Network<'a> {
     }
 
     // Starts a session on a channel with these processes.
-    fn begin(&mut self, channel: &Channel, parts: List<(NameId, u32)>) -> Result<(), Memory>
+    pub(crate) fn begin(
+        &mut self,
+        channel: &Channel,
+        parts: List<(NameId, u32)>,
+    ) -> Result<(), Memory>
         requires channel { channel_of self.old.endpoints.channels channel.now.name ≡ Some channel.now }
         requires joins { AllJoin self.old.endpoints self.old.state.machines channel.now.name parts }
         requires apart { AreApart parts }
