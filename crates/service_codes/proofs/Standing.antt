@@ -1,7 +1,7 @@
 -- The starts of a channel, node by node.
-use Rattle.std.proofs.Common.{◌≡◌, ℕ, ◌+◌, ◌<◌, ◌≤◌, Bool, true, false, List, [], ◌∷◌, ◌++◌, length, take, get_or, map, refl, sym, ap, ◌∙◌, subst, Some, append_assoc}
+use Rattle.std.proofs.Common.{◌≡◌, ℕ, ◌+◌, ◌<◌, ◌≤◌, Bool, true, false, ◌==◌, List, [], ◌∷◌, ◌++◌, length, take, get_or, map, refl, sym, ap, ◌∙◌, subst, Some, append_assoc}
 use Rattle.std.specs.Prelude.{Contains, slice_get, if◌then◌else◌}
-use Rattle.std.specs.List.{flat_map}
+use Rattle.std.specs.List.{flat_map, filter}
 use Rattle.std.proofs.lemmas.List.{take_more, take_all, map-append}
 use Rattle.std.proofs.lemmas.List.Elements.{All-nil, All-cons, All-append, All-same, Contains-get_or}
 use Rattle.chor_base.specs.declared.names.NameId.{NameId}
@@ -19,7 +19,8 @@ use Rattle.chor_semantics.specs.Sources.{tree_in, form_tree, trees_of}
 use Rattle.projection.specs.Projects.{Started, starts_in, starts_in_procs, body_at}
 use Rattle.projection.proofs.TreeTables.{tree_at-node}
 use Rattle.service_codes.proofs.Names.{child_below}
-use Rattle.service_codes.specs.Starts.{IsStanding, main_begins, procedure_begins, follows, starts_channel, IsStartOf, first_start, start_in, AddsStarts, AreStartsOf}
+use Rattle.service_codes.specs.declared.starts.StartNode.{StartNode}
+use Rattle.service_codes.specs.Starts.{start_at, nodes_of, IsStanding, main_begins, procedure_begins, follows, starts_channel, IsStartOf, first_start, start_in, AddsStarts, AreStartsOf}
 
 pub end_nil : {X : Type 0} (xs : List X) → xs ++ [] ≡ xs
 end_nil [] = refl
@@ -55,6 +56,41 @@ pub second_of : (c d : NodeId) → Contains (c ∷ d ∷ []) d
 second_of c d = at_tail c (d ∷ []) d (only d)
 
 -- ---- starts at the end of a list
+
+abbrev starts_it : NameId → StartNode → Bool
+starts_it a x = x.channel.0 == a.0
+
+abbrev nodes : List StartNode → List NodeId
+nodes xs = map (λ x. x.node) xs
+
+nodes_pushed : (a : NameId) (xs : List StartNode) (x : StartNode) → nodes_of a (xs ++ x ∷ []) ≡ nodes_of a xs ++ nodes_of a (x ∷ [])
+nodes_pushed a [] x = refl
+nodes_pushed a (y ∷ ys) x = go (starts_it a y) (nodes_pushed a ys x)
+  where
+    go : (b : Bool) → nodes_of a (ys ++ x ∷ []) ≡ nodes_of a ys ++ nodes_of a (x ∷ [])
+        → nodes (if b then y ∷ filter (starts_it a) (ys ++ x ∷ []) else filter (starts_it a) (ys ++ x ∷ [])) ≡ nodes (if b then y ∷ filter (starts_it a) ys else filter (starts_it a) ys) ++ nodes_of a (x ∷ [])
+    go true e = ap (λ l. y.node ∷ l) e
+    go false e = e
+
+one_node : (b : Bool) (x : StartNode) → nodes (if b then x ∷ [] else []) ≡ (if b then x.node ∷ [] else [])
+one_node true x = refl
+one_node false x = refl
+
+same : (a : NameId) (old mid : List StartNode) → mid ≡ old ++ [] → nodes_of a mid ≡ nodes_of a old ++ []
+same a old mid e = ap (nodes_of a) (e ∙ end_nil old) ∙ sym (end_nil (nodes_of a old))
+
+-- those of one channel, where the node at hand is added, if it is a start
+pub nodes_placed : (a : NameId) (id : NodeId) (g : Form) (old mid : List StartNode) → mid ≡ old ++ start_at id g → nodes_of a mid ≡ nodes_of a old ++ (if starts_channel a g then id ∷ [] else [])
+nodes_placed a id (Start c k active serve next) old mid e = ap (nodes_of a) e ∙ nodes_pushed a old (record { channel = c.name; node = id }) ∙ ap (λ l. nodes_of a old ++ l) (one_node (c.name.0 == a.0) (record { channel = c.name; node = id }))
+nodes_placed a id (Value from v to x k next) old mid e = same a old mid e
+nodes_placed a id (Label from to k l next) old mid e = same a old mid e
+nodes_placed a id (Give from to k given next) old mid e = same a old mid e
+nodes_placed a id (Set p x v next) old mid e = same a old mid e
+nodes_placed a id (Host p x g left right next) old mid e = same a old mid e
+nodes_placed a id (Show p v next) old mid e = same a old mid e
+nodes_placed a id (If p v first second) old mid e = same a old mid e
+nodes_placed a id (Call g ps ks) old mid e = same a old mid e
+nodes_placed a id End old mid e = same a old mid e
 
 module _ (f : File) (a : NameId) where
   pub adds_none : (ids : List NodeId) → AddsStarts f a [] ids ids

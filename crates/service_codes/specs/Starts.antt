@@ -1,5 +1,6 @@
 -- The starts of a channel, as nodes of a file.
 use Rattle.std.specs.Prelude.{ℕ, ◌≡◌, ◌==◌, Bool, true, false, List, [], ◌∷◌, ◌++◌, map, All, Some, slice_get, Contains}
+use Rattle.std.specs.List.{filter}
 use Rattle.chor_base.specs.declared.names.NameId.{NameId}
 use Rattle.chor_base.specs.declared.fault.Fault.{Fault}
 use Rattle.chor_tree.specs.declared.file.File.{File}
@@ -11,7 +12,8 @@ use Rattle.chor_tree.specs.declared.tree.NodeId.{NodeId}
 use Rattle.chor_tree.specs.Children.{children_of}
 use Rattle.chor_tree.specs.Names.{Scope, scope_of_main, scope_of_procedure, scope_after, IsNameFault}
 use Rattle.chor_semantics.specs.Choreography.{Starts, Choreography, Then, Ends}
-use Rattle.projection.specs.Projects.{Started, starts_of, body_at}
+use Rattle.projection.specs.Projects.{Started, starts_in, starts_of, body_at}
+use Rattle.service_codes.specs.declared.starts.StartNode.{StartNode}
 use Rattle.service_codes.specs.declared.starts.Followers.{Followers}
 use Rattle.service_codes.specs.declared.starts.Followers.TheVariants.{Nothing, Next, Branches}
 
@@ -64,6 +66,15 @@ first_start _ = record { session = 0; serve = []; rest = Ends }
 abbrev pub start_in : File → NodeId → Started
 start_in f id = first_start (body_at f id)
 
+-- the node, if it is a start
+abbrev pub start_at : NodeId → Form → List StartNode
+start_at id (Start c k active serve next) = record { channel = c.name; node = id } ∷ []
+start_at id _ = []
+
+-- the nodes that start channel a
+abbrev pub nodes_of : NameId → List StartNode → List NodeId
+nodes_of a xs = map (λ x. x.node) (filter (λ x. x.channel.0 == a.0) xs)
+
 -- nodes at these starts of channel a come at the end of a list
 pub record AddsStarts (f : File) (a : NameId) (starts : List Started) (old new : List NodeId) : Type 0 where
   pub more : List NodeId
@@ -75,3 +86,11 @@ pub record AddsStarts (f : File) (a : NameId) (starts : List Started) (old new :
 pub record AreStartsOf (f : File) (a : NameId) (ids : List NodeId) : Type 0 where
   pub same : map (start_in f) ids ≡ starts_of f a
   pub each : All (IsStartOf f a) ids
+
+-- the starts from a node on come at the end of a list, in the order of the source
+pub record AddsAllStarts (f : File) (id : NodeId) (old new : List StartNode) : Type 0 where
+  pub of : (a : NameId) → AddsStarts f a (starts_in a (body_at f id)) (nodes_of a old) (nodes_of a new)
+
+-- those of each channel are all its starts, in the order of the source
+pub record AreAllStarts (f : File) (starts : List StartNode) : Type 0 where
+  pub of : (a : NameId) → AreStartsOf f a (nodes_of a starts)

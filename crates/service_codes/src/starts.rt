@@ -1,63 +1,84 @@
-//! The starts of a channel.
+//! The starts of a file.
 
-ghost use Rattle.std.specs.Prelude.{◌≡◌, ◌++◌, ◌∷◌, [], IfOk, OnOk, if◌then◌else◌};
+ghost use Rattle.std.specs.Prelude.{◌≡◌, ◌++◌, IfOk, OnOk};
 ghost use Rattle.chor_tree.specs.Children.{children_of};
-ghost use Rattle.projection.specs.Projects.{starts_in, body_at};
-ghost use Rattle.service_codes.specs.Starts.{nodes_in, IsStanding, starts_channel, AddsStarts, AreStartsOf};
+ghost use Rattle.service_codes.specs.Starts.{nodes_in, IsStanding, start_at, AddsAllStarts, AreAllStarts, AreStartsOf};
 
 use chor_base::{List, Memory, NameId};
 use chor_tree::{File, Form, NodeId};
 use std::alloc::Global;
 
-/// The nodes of a file that start a channel: those in procedures, called or not, and then those in
-/// main, in the order of the source.
-pub fn starts_of(alloc: Global, file: &File, channel: NameId) -> Result<List<NodeId>, Memory>
-    ensures { IfOk result (AreStartsOf file.now channel) }
+/// A start: its channel, and the node where it stands.
+#[derive(Clone, Copy, Debug, PartialEq, Eq)]
+pub struct StartNode {
+    pub channel: NameId,
+    pub node: NodeId,
+}
+
+/// A file with its starts.
+#[derive(Clone, Copy)]
+pub struct Started<'a> {
+    pub file: &'a File,
+    pub starts: &'a [StartNode],
+}
+
+/// All starts of a file: those in procedures, called or not, and then those in main, in the order
+/// of the source.
+pub fn all_starts(alloc: Global, file: &File) -> Result<List<StartNode>, Memory>
+    ensures { IfOk result (AreAllStarts file.now) }
 {
     let mut starts = List::new(alloc);
     for proc in file.procs.as_slice() {
-        put_starts(file, proc.body, channel, &mut starts)?;
+        put_starts(file, proc.body, &mut starts)?;
     }
-    put_starts(file, file.body, channel, &mut starts)?;
+    put_starts(file, file.body, &mut starts)?;
     Ok(starts)
 }
 
-// Adds the starts of the channel from a node on.
-fn put_starts(
-    file: &File,
-    id: NodeId,
+/// The nodes that start a channel.
+pub fn starts_of(
+    alloc: Global,
+    started: &Started<'_>,
     channel: NameId,
-    starts: &mut List<NodeId>,
-) -> Result<(), Memory>
+) -> Result<List<NodeId>, Memory>
+    requires { AreAllStarts started.now.file.now started.now.starts.now }
+    ensures { IfOk result (AreStartsOf started.now.file.now channel) }
+{
+    let mut nodes = List::new(alloc);
+    for start in started.starts {
+        if start.channel == channel {
+            nodes.push(start.node)?;
+        }
+    }
+    Ok(nodes)
+}
+
+// Adds the starts from a node on.
+fn put_starts(file: &File, id: NodeId, starts: &mut List<StartNode>) -> Result<(), Memory>
     requires { IsStanding file.now id }
-    ensures { OnOk result (AddsStarts file.now channel (starts_in channel (body_at file.now id)) starts.old starts.new) }
+    ensures { OnOk result (AddsAllStarts file.now id starts.old starts.new) }
 {
     let node = file.tree.nodes.at(id.0 as usize);
-    put_start(&node.form, id, channel, starts)?;
+    put_start(&node.form, id, starts)?;
     match followers_of(&node.form) {
         Followers::Nothing => Ok(()),
-        Followers::Next(next) => put_starts(file, next, channel, starts),
+        Followers::Next(next) => put_starts(file, next, starts),
         Followers::Branches(first, second) => {
-            put_starts(file, first, channel, starts)?;
-            put_starts(file, second, channel, starts)
+            put_starts(file, first, starts)?;
+            put_starts(file, second, starts)
         }
     }
 }
 
-// Adds a node of this form where it is a start of the channel.
-fn put_start(
-    form: &Form,
-    id: NodeId,
-    channel: NameId,
-    starts: &mut List<NodeId>,
-) -> Result<(), Memory>
-    ensures { OnOk result (starts.new ≡ starts.old ++ (if starts_channel channel form.now then id ∷ [] else [])) }
+// Adds a node of this form where it is a start.
+fn put_start(form: &Form, id: NodeId, starts: &mut List<StartNode>) -> Result<(), Memory>
+    ensures { OnOk result (starts.new ≡ starts.old ++ start_at id form.now) }
 {
     match form {
-        Form::Start {
-            channel: started,
-            ..
-        } if started.name == channel => starts.push(id),
+        Form::Start { channel, .. } => starts.push(StartNode {
+            channel: channel.name,
+            node: id,
+        }),
         _ => Ok(()),
     }
 }

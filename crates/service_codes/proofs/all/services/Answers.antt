@@ -11,7 +11,7 @@ put_services-requires-clause-declared c =
 pub returns-in_err-put_services-clause-stopped : goal.returns-in_err-put_services-clause-stopped
 returns-in_err-put_services-clause-stopped c =
     let f = c.args.file.now in
-    stops_by (StopsAt f (services_of f)) c.from_residual.result c.in_err-put_services.field-0.0 c.from_residual.ensures.1
+    stops_by (StopsAt f (services_of f)) c.from_residual-in_err-put_services.result c.in_err-put_services.field-0.0 c.from_residual-in_err-put_services.ensures.1
     (service_stops f c.as_slice-service-items.result.now c.loop-service.service-index c.service-item.result c.loop-service-test.true c.service-item.is c.as_slice-service-items.ensures c.loop-service.invariant
     c.in_err-put_services.field-0.0 c.in_err-put_services.ensures.stopped)
 
