@@ -1,5 +1,5 @@
 -- What readers of bodies answer.
-use Rattle.std.specs.Prelude.{◌≡◌, ◌-◌, ◌<◌, ℕ, List, [], ◌∷◌, ◌++◌, Some, None, length, codes}
+use Rattle.std.specs.Prelude.{◌≡◌, ◌-◌, ◌<◌, ℕ, List, [], ◌∷◌, ◌++◌, Some, None, length, map, codes}
 use Rattle.chor_base.specs.declared.rule.Place.{Place}
 use Rattle.chor_base.specs.declared.rule.Rule.TheVariants.{E4}
 use Rattle.chor_lexer.specs.Lexeme.{Lexeme}
@@ -11,11 +11,13 @@ use Rattle.endpoint_grammar.specs.Grammar.{Part, mark, node, two_names, arm, bod
 use Rattle.endpoint_grammar.specs.Values.{rules, Derived, phrase, arms_of, session_list, last_node}
 use Rattle.endpoint_reader.specs.declared.input.Input.{Input}
 use Rattle.endpoint_reader.specs.declared.node.Action.{Action}
+use Rattle.endpoint_reader.specs.declared.lists.Two.{Two}
 use Rattle.endpoint_reader.specs.declared.lines.LineId.{LineId}
 use Rattle.endpoint_reader.specs.declared.lines.Arm.{Arm}
 use Rattle.endpoint_reader.specs.declared.lines.Line.{Line}
 use Rattle.endpoint_reader.specs.Tokens.{from, named}
-use Rattle.endpoint_reader.specs.Lines.{body_in, body_at, Going}
+use Rattle.endpoint_reader.specs.Nodes.{deed_of}
+use Rattle.endpoint_reader.specs.Lines.{body_in, arms_in, bodies_of, body_at, does_all, Going}
 use Rattle.endpoint_reader.specs.Tails.{kept_word}
 
 -- lines were added after those that were there
@@ -38,6 +40,10 @@ pub record BodyOpens (i : Input) (room : ℕ) (ts : List Lexeme) (xs : List Acti
   pub going : Going i room start xs left us
   pub all : Misses rules node us
   pub shorter : length us < length ts
+
+-- actions, and then the body that begins with a line
+abbrev pub body_before : Input → List Action → List Line → LineId → Body
+body_before i xs ls last = does_all (map (deed_of i) xs) (body_at i ls last)
 
 -- a brace was read, and the line is that of this body
 pub record BodyCloses (i : Input) (at : ℕ) (b : Input → Body) (ls : List Line) (x : LineId × ℕ) : Type 0 where
@@ -70,6 +76,10 @@ arm_list p (x, (xs, c)) = x ∷ xs
 -- an arm, as it is written
 abbrev pub arm_of : Input → List Body → Arm → OneArm
 arm_of i bs a = (named i a.label, (body_in bs a.body, tt))
+
+-- a branch with these names and arms
+abbrev pub offered : Input → Two → List Arm → List Line → Body
+offered i x arms ls = Offers (named i x.first) (named i x.second) (arms_in i (bodies_of i ls) arms)
 
 abbrev pub branch_body : (p : ℕ) → Derived (branch p) → Body
 branch_body p ((k, a), (o, (x, (xs, c)))) = Offers k a (arms_of (x ∷ xs))

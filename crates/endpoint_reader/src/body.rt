@@ -1,20 +1,18 @@
 //! Bodies.
 
-ghost use Rattle.std.specs.Prelude.{◌≡◌, ◌-◌, ◌<◌, ◌≤◌, ◌++◌, ◌∷◌, [], All, Some, false, length, map, IfOk, IfErr, OnOk};
+ghost use Rattle.std.specs.Prelude.{◌≡◌, ◌-◌, ◌<◌, ◌≤◌, ◌++◌, ◌∷◌, [], All, Some, false, length, IfOk, IfErr, OnOk};
 ghost use Rattle.chor_base.specs.declared.rule.Rule.TheVariants.{E4};
 ghost use Rattle.chor_lexer.specs.declared.mark.Mark.TheVariants.{CloseBrace};
 ghost use Rattle.grammar_laws.specs.Grammars.{within, is_full};
 ghost use Rattle.grammar_laws.specs.Readers.{Halts, Misses};
-ghost use Rattle.endpoint_grammar.specs.Written.{Offers};
 ghost use Rattle.endpoint_grammar.specs.Grammar.{mark, node, lines_of, body as a_body, tail, branch, conditional, signature};
 ghost use Rattle.endpoint_grammar.specs.Values.{rules};
 ghost use Rattle.endpoint_reader.specs.declared.input.Input.{Input as AnyInput};
-ghost use Rattle.endpoint_reader.specs.Nodes.{deed_of};
-ghost use Rattle.endpoint_reader.specs.Tokens.{from, named};
+ghost use Rattle.endpoint_reader.specs.Tokens.{from};
 ghost use Rattle.endpoint_reader.specs.Signatures.{two_of};
-ghost use Rattle.endpoint_reader.specs.Lines.{arms_in, bodies_of, body_at, does_all, Going};
+ghost use Rattle.endpoint_reader.specs.Lines.{body_at, Going};
 ghost use Rattle.endpoint_reader.specs.Tails.{TailStands};
-ghost use Rattle.endpoint_reader.specs.Bodies.{Grows, IsBody, IsTail, IsBranch, IsConditional, IsCall, BodyOpens, BodyCloses, IsEndLine, BranchOpens};
+ghost use Rattle.endpoint_reader.specs.Bodies.{Grows, IsBody, IsTail, IsBranch, IsConditional, IsCall, BodyOpens, BodyCloses, IsEndLine, BranchOpens, body_before, offered};
 
 use crate::expression::read_expression;
 use crate::input::Input;
@@ -75,7 +73,7 @@ fn close_body(
     lines: &mut Lines,
 ) -> Result<(LineId, usize), Denied>
     requires { last.0 < length lines.old.items }
-    ensures closes { IfOk result (λ x. BodyCloses input.now at (λ i. does_all (map (deed_of i) actions.items) (body_at i lines.old.items last)) lines.new.items x) }
+    ensures closes { IfOk result (λ x. BodyCloses input.now at (λ i. body_before i actions.items lines.old.items last) lines.new.items x) }
     ensures there { IfOk result (λ x. x.0.0 < length lines.new.items) }
     ensures grows { OnOk result (Grows lines.old.items lines.new.items) }
     ensures halts { IfErr result (Halts rules (mark CloseBrace) (from input.now at)) }
@@ -121,7 +119,7 @@ fn add_action(actions: &mut Vec<Action>, action: Action) -> Result<(), Memory>
 // Adds actions before a line, the last one first, and answers the first one's number.
 fn push_actions(lines: &mut Lines, mut actions: Vec<Action>, last: LineId) -> Result<LineId, Memory>
     requires { last.0 < length lines.old.items }
-    ensures body { IfOk result (λ id. (i : AnyInput) → body_at i lines.new.items id ≡ does_all (map (deed_of i) actions.items) (body_at i lines.old.items last)) }
+    ensures body { IfOk result (λ id. (i : AnyInput) → body_at i lines.new.items id ≡ body_before i actions.items lines.old.items last) }
     ensures there { IfOk result (λ id. id.0 < length lines.new.items) }
     ensures grows { OnOk result (Grows lines.old.items lines.new.items) }
 {
@@ -225,7 +223,7 @@ fn close_branch(
     lines: &mut Lines,
 ) -> Result<(LineId, usize), Denied>
     requires { All (λ a. a.body.0 < length lines.old.items) arms }
-    ensures closes { IfOk result (λ x. BodyCloses input.now at (λ i. Offers (named i names.first) (named i names.second) (arms_in i (bodies_of i lines.old.items) arms)) lines.new.items x) }
+    ensures closes { IfOk result (λ x. BodyCloses input.now at (λ i. offered i names arms lines.old.items) lines.new.items x) }
     ensures there { IfOk result (λ x. x.0.0 < length lines.new.items) }
     ensures grows { OnOk result (Grows lines.old.items lines.new.items) }
     ensures halts { IfErr result (Halts rules (mark CloseBrace) (from input.now at)) }

@@ -47,7 +47,7 @@ impl Input<'_> {
         *self.tokens.items.at(count - 1)
     }
 
-    // The token that stands here, unless the file ends here.
+    /// The token that stands here, unless the file ends here.
     pub fn token_at(&self, at: usize) -> Option<Token>
         ensures found { IfSome result (λ t. IsAt self.now at t) }
         ensures inside { IfSome result (λ t. at + 1 < length self.now.tokens.now.items) }
@@ -73,7 +73,7 @@ impl Input<'_> {
         }
     }
 
-    // Whether it is this word.
+    /// Whether it is this word.
     pub fn is_word(&self, kind: Kind, word: &[u8]) -> bool
         ensures { result ≡ is_of (a_word word.now) (symbol_of self.now kind) }
     {
@@ -93,7 +93,7 @@ impl Input<'_> {
         }
     }
 
-    // Whether it is this mark.
+    /// Whether it is this mark.
     pub fn is_mark(&self, kind: Kind, mark: Mark) -> bool
         ensures { result ≡ is_of (a_mark mark) (symbol_of self.now kind) }
     {
@@ -103,7 +103,7 @@ impl Input<'_> {
         }
     }
 
-    // Whether it is a name.
+    /// Whether it is a name.
     pub fn is_name(&self, kind: Kind) -> bool
         ensures { result ≡ is_of a_name (symbol_of self.now kind) }
     {
@@ -113,7 +113,7 @@ impl Input<'_> {
         }
     }
 
-    // The name that stands here, and the place after it.
+    /// The name that stands here, and the place after it.
     pub fn name_at(&self, at: usize) -> Option<(Named, usize)>
         ensures found { IfSome result (λ x. Stands a_name (named self.now x.0) (from self.now at) (from self.now x.1)) }
         ensures none { IfNone result (Lacks a_name (from self.now at)) }
@@ -129,7 +129,7 @@ impl Input<'_> {
         Some((Named { name, place }, at + 1))
     }
 
-    // The place after this word, if it stands here.
+    /// The place after this word, if it stands here.
     pub fn after_word(&self, at: usize, word: &[u8]) -> Option<usize>
         ensures found { IfSome result (λ after. HasOne (a_word word.now) (from self.now at) (from self.now after)) }
         ensures none { IfNone result (Lacks (a_word word.now) (from self.now at)) }
@@ -142,7 +142,7 @@ impl Input<'_> {
         }
     }
 
-    // The place after this mark, if it stands here.
+    /// The place after this mark, if it stands here.
     pub fn after_mark(&self, at: usize, mark: Mark) -> Option<usize>
         ensures found { IfSome result (λ after. HasOne (a_mark mark) (from self.now at) (from self.now after)) }
         ensures none { IfNone result (Lacks (a_mark mark) (from self.now at)) }
@@ -155,7 +155,7 @@ impl Input<'_> {
         }
     }
 
-    // The refusal of the token that stands here.
+    /// The refusal of the token that stands here.
     pub fn refused(&self, rule: Rule, at: usize) -> Denied
         ensures refuses { Refuses rule (from self.now at) result }
         ensures told { IsTold result }
@@ -181,7 +181,7 @@ impl Input<'_> {
         }
     }
 
-    // The place after this number, which has to stand here.
+    /// The place after this number, which has to stand here.
     pub fn take_number(&self, at: usize, number: u64) -> Result<usize, Denied>
         ensures reads { IfOk result (λ after. Reads rules (one (exactly number)) (from self.now at) tt (from self.now after)) }
         ensures halts { IfErr result (Halts rules (one (exactly number)) (from self.now at)) }
@@ -192,7 +192,7 @@ impl Input<'_> {
         }
     }
 
-    // The file has to end here.
+    /// The file has to end here.
     pub fn take_end(&self, at: usize) -> Result<(), Denied>
         ensures reads { OnOk result (Reads rules (one the_end) (from self.now at) tt []) }
         ensures halts { IfErr result (Halts rules (one the_end) (from self.now at)) }
@@ -203,7 +203,7 @@ impl Input<'_> {
         }
     }
 
-    // The name that has to stand here, and the place after it.
+    /// The name that has to stand here, and the place after it.
     pub fn take_name(&self, at: usize) -> Result<(Named, usize), Denied>
         ensures reads { IfOk result (λ x. Reads rules NAME (from self.now at) (named self.now x.0) (from self.now x.1)) }
         ensures halts { IfErr result (Halts rules NAME (from self.now at)) }
@@ -214,7 +214,7 @@ impl Input<'_> {
         }
     }
 
-    // The name that has to stand here where there is room for it, and the place after it.
+    /// The name that has to stand here where there is room for it, and the place after it.
     pub fn take_item(&self, at: usize, room: usize) -> Result<(Named, usize), Denied>
         ensures reads { IfOk result (λ x. Reads rules (within E4 (Some room) NAME) (from self.now at) (named self.now x.0) (from self.now x.1)) }
         ensures halts { IfErr result (Halts rules (within E4 (Some room) NAME) (from self.now at)) }
@@ -226,7 +226,7 @@ impl Input<'_> {
         }
     }
 
-    // The place after this word, which has to stand here.
+    /// The place after this word, which has to stand here.
     pub fn take_word(&self, at: usize, word: &[u8]) -> Result<usize, Denied>
         ensures reads { IfOk result (λ after. Reads rules (word_of word.now) (from self.now at) tt (from self.now after)) }
         ensures halts { IfErr result (Halts rules (word_of word.now) (from self.now at)) }
@@ -237,7 +237,7 @@ impl Input<'_> {
         }
     }
 
-    // The place after this mark, which has to stand here.
+    /// The place after this mark, which has to stand here.
     pub fn take_mark(&self, at: usize, mark: Mark) -> Result<usize, Denied>
         ensures reads { IfOk result (λ after. Reads rules (mark_of mark) (from self.now at) tt (from self.now after)) }
         ensures halts { IfErr result (Halts rules (mark_of mark) (from self.now at)) }
@@ -249,7 +249,7 @@ impl Input<'_> {
         }
     }
 
-    // The place after this mark, which has to stand here, within an expression that may have so many more tokens.
+    /// The place after this mark, which has to stand here, within an expression that may have so many more tokens.
     pub fn take_mark_in(&self, at: usize, room: usize, mark: Mark) -> Result<usize, Denied>
         ensures reads { IfOk result (λ after. ReadsIn rules E4 (Some room) (mark_of mark) (from self.now at) tt (Some (room - 1)) (from self.now after)) }
         ensures halts { IfErr result (HaltsIn rules E4 (Some room) (mark_of mark) (from self.now at)) }
@@ -261,7 +261,7 @@ impl Input<'_> {
         }
     }
 
-    // What begins here may come where there is room for more of it.
+    /// What begins here may come where there is room for more of it.
     pub fn check_room(&self, at: usize, room: usize) -> Result<(), Denied>
         ensures room { OnOk result (is_full (Some room) ≡ false) }
         ensures some { OnOk result (0 < room) }

@@ -38,7 +38,7 @@ pub struct Signature {
     pub sessions: List<Named>,
 }
 
-// NAME NAME
+/// NAME NAME
 pub fn read_two_names(input: &Input, at: usize) -> Result<(Two, usize), Denied>
     ensures reads { IfOk result (λ x. Reads rules two_names (from input.now at) (two_of input.now x.0) (from input.now x.1)) }
     ensures halts { IfErr result (Halts rules two_names (from input.now at)) }
@@ -48,7 +48,7 @@ pub fn read_two_names(input: &Input, at: usize) -> Result<(Two, usize), Denied>
     Ok((Two { first, second }, at))
 }
 
-// NAME NAME NAME
+/// NAME NAME NAME
 pub fn read_three_names(input: &Input, at: usize) -> Result<(Three, usize), Denied>
     ensures reads { IfOk result (λ x. Reads rules three_names (from input.now at) (three_of input.now x.0) (from input.now x.1)) }
     ensures halts { IfErr result (Halts rules three_names (from input.now at)) }
@@ -66,7 +66,7 @@ pub fn read_three_names(input: &Input, at: usize) -> Result<(Three, usize), Deni
     ))
 }
 
-// NAME "[" NAME "]"
+/// NAME "[" NAME "]"
 pub fn read_role_of_channel(input: &Input, at: usize) -> Result<(Two, usize), Denied>
     ensures reads { IfOk result (λ x. Reads rules role_of_channel (from input.now at) (role_of input.now x.0) (from input.now x.1)) }
     ensures halts { IfErr result (Halts rules role_of_channel (from input.now at)) }
@@ -78,7 +78,7 @@ pub fn read_role_of_channel(input: &Input, at: usize) -> Result<(Two, usize), De
     Ok((Two { first, second }, at))
 }
 
-// [ names ], for sessions
+/// [ names ], for sessions
 pub fn read_sessions(
     alloc: Global,
     input: &Input,
@@ -115,7 +115,7 @@ fn read_names(
     Ok((names, at))
 }
 
-// NAME NAME "(" [ names ] ")"
+/// NAME NAME "(" [ names ] ")"
 pub fn read_signature(alloc: Global, input: &Input, at: usize) -> Result<(Signature, usize), Denied>
     ensures reads { IfOk result (λ x. Tells rules signature signed (from input.now at) (signature_of input.now x.0) (from input.now x.1)) }
     ensures halts { IfErr result (Halts rules signature (from input.now at)) }

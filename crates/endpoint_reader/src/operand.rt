@@ -22,7 +22,7 @@ pub enum Opening {
 }
 
 impl Input<'_> {
-    // The beginning of an operand that stands here, and the place after its first token.
+    /// The beginning of an operand that stands here, and the place after its first token.
     pub fn operand_at(&self, at: usize) -> Option<(Opening, usize)>
         ensures found { IfSome result (λ x. Opens self.now x.0 (from self.now at) (from self.now x.1)) }
         ensures none { IfNone result (Misses rules un (from self.now at)) }

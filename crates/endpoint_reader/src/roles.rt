@@ -19,7 +19,7 @@ pub struct Roles {
     pub serve: List<Named>,
 }
 
-// names [ "|" names ] ")", where so many may come in both lists together
+/// names [ "|" names ] ")", where so many may come in both lists together
 pub fn read_roles(
     alloc: Global,
     input: &Input,

@@ -160,24 +160,26 @@ fn what_is_too_many(rt: HostRuntime) -> Result<(), Fail> {
     Ok(())
 }
 
-// So many branches in one another, and the end.
-fn nested(alloc: Global, count: u16) -> Result<Vec<u8>, Fail> {
-    let front = repeated(
-        alloc,
-        b"endpoints 1; process p {",
-        b" branch k A { l {",
-        count,
-        b" end",
-    )?;
-    repeated(alloc, front.as_slice(), b" } }", count, b" }")
+// So many pieces in one another, with the end within.
+fn nested(alloc: Global, open: &[u8], close: &[u8], count: u16) -> Result<Vec<u8>, Fail> {
+    let front = repeated(alloc, b"endpoints 1; process p {", open, count, b" end")?;
+    repeated(alloc, front.as_slice(), close, count, b" }")
+}
+
+// Whether 1,023 such pieces in one another are taken, and the end within one more is refused in
+// this column.
+fn nests(alloc: Global, open: &[u8], close: &[u8], col: u32) -> Result<bool, Fail> {
+    let deepest = nested(alloc, open, close, 1023)?;
+    let deeper = nested(alloc, open, close, 1024)?;
+    Ok(is_taken(alloc, deepest.as_slice()) && is_refused(alloc, deeper.as_slice(), Rule::E4, col))
 }
 
 #[test]
-fn branches_nest_as_deep_as_a_path_goes(rt: HostRuntime) -> Result<(), Fail> {
+fn tails_nest_as_deep_as_a_path_goes(rt: HostRuntime) -> Result<(), Fail> {
     let alloc = rt.alloc();
-    let deepest = nested(alloc, 1023)?;
-    assert!(rt; is_taken(alloc, deepest.as_slice()));
-    let deeper = nested(alloc, 1024)?;
-    assert!(rt; is_refused(alloc, deeper.as_slice(), Rule::E4, 17434));
+    assert!(rt; nests(alloc, b" branch k A { l {", b" } }", 17434)?);
+    assert!(rt; nests(alloc, b" branch k A { m { end } l {", b" } }", 27664)?);
+    assert!(rt; nests(alloc, b" if true {", b" } else { end }", 10266)?);
+    assert!(rt; nests(alloc, b" if true { end } else {", b" }", 23565)?);
     Ok(())
 }
