@@ -15,6 +15,7 @@ use Rattle.chor_base.specs.declared.rule.Refusal.{Refusal}
 use Rattle.chor_base.specs.declared.rule.Denied.TheVariants.{Refused}
 use Rattle.endpoint_grammar.specs.Values.{rules}
 use Rattle.endpoint_reader.specs.declared.input.Input.{Input}
+use Rattle.endpoint_reader.specs.There.{kind_there, all_there}
 use Rattle.endpoint_reader.specs.Tokens.{onwards, from, symbol_of, lexeme_of, ending, IsFirst, IsAt, EndsThere}
 
 right : (a b : Bool) → (a && b) ≡ true → b ≡ true
@@ -79,6 +80,15 @@ token_is i at t e g l = ap (map (lexeme_of i)) (next_token i.tokens.now.items at
 
 pub token_inside : (i : Input) (at : ℕ) (t : Token) → IsTrue (is_ended i.tokens.now.items) → IsFirst i at t → is_last t.kind ≡ false → at + 1 < length i.tokens.now.items
 token_inside i at t e g l = let h = next_inside i.tokens.now.items at t g.rest e g.is l in omega (arith, h)
+
+first_known : (names texts : List (List ℕ)) (ts : List Token) (n : ℕ) (t : Token) (rest : List Token) → all_there names texts ts ≡ true → onwards n ts ≡ t ∷ rest → kind_there names texts t.kind ≡ true
+first_known names texts [] n t rest a o = absurd cc
+first_known names texts (u ∷ []) n t rest a o = let s : u ≡ t = cc in ap (λ (x : Token). kind_there names texts x.kind) (sym s) ∙ left (kind_there names texts u.kind) true a
+first_known names texts (u ∷ v ∷ ts) zero t rest a o = let s : u ≡ t = cc in ap (λ (x : Token). kind_there names texts x.kind) (sym s) ∙ left (kind_there names texts u.kind) (all_there names texts (v ∷ ts)) a
+first_known names texts (u ∷ v ∷ ts) (suc n) t rest a o = first_known names texts (v ∷ ts) n t rest (right (kind_there names texts u.kind) (all_there names texts (v ∷ ts)) a) o
+
+pub token_known : (i : Input) (at : ℕ) (t : Token) → IsFirst i at t → kind_there i.names.now i.texts.now t.kind ≡ true
+token_known i at t f = first_known i.names.now i.texts.now i.tokens.now.items at t f.rest i.known f.is
 
 -- ---- the last one
 

@@ -11,3 +11,4 @@ pub mod Bodies
 pub mod Tails
 pub mod Arms
 pub mod Spelled
+pub mod Known

@@ -1,3 +1,4 @@
+pub mod There
 pub mod Tokens
 pub mod Phrases
 pub mod Nodes
@@ -7,3 +8,4 @@ pub mod Tails
 pub mod Bodies
 pub mod Units
 pub mod Files
+pub mod Known

@@ -12,6 +12,7 @@ ghost use Rattle.endpoint_reader.specs.Tokens.{from};
 ghost use Rattle.endpoint_reader.specs.Signatures.{two_of};
 ghost use Rattle.endpoint_reader.specs.Lines.{body_at, Going};
 ghost use Rattle.endpoint_reader.specs.Tails.{TailStands};
+ghost use Rattle.endpoint_reader.specs.Known.{AreTwoThere, AreActionsThere, AreLabelsThere, AreLinesThere};
 ghost use Rattle.endpoint_reader.specs.Bodies.{Grows, IsBody, IsTail, IsBranch, IsConditional, IsCall, BodyOpens, BodyCloses, IsEndLine, BranchOpens, body_before, offered};
 
 use crate::expression::read_expression;
@@ -44,9 +45,11 @@ pub fn read_body(
     room: usize,
     lines: &mut Lines,
 ) -> Result<(LineId, usize), Denied>
+    requires { AreLinesThere input.now lines.old.items }
     ensures reads { IfOk result (IsBody input.now room at lines.new.items) }
     ensures there { IfOk result (λ x. x.0.0 < length lines.new.items) }
     ensures grows { OnOk result (Grows lines.old.items lines.new.items) }
+    ensures known { OnOk result (AreLinesThere input.now lines.new.items) }
     ensures halts { IfErr result (Halts rules (a_body room) (from input.now at)) }
 {
     let begun = open_body(alloc, input, at, room)?;
@@ -57,6 +60,7 @@ pub fn read_body(
 // "{" { node ";" }, on a path with room for so many nodes
 fn open_body(alloc: Global, input: &Input, at: usize, room: usize) -> Result<Begun, Denied>
     ensures opens { IfOk result (λ x. BodyOpens input.now room (from input.now at) x.actions.items x.room (from input.now x.at)) }
+    ensures known { IfOk result (λ x. AreActionsThere input.now x.actions.items) }
     ensures halts { IfErr result (Halts rules (a_body room) (from input.now at)) }
 {
     let at = input.take_mark(at, Mark::OpenBrace)?;
@@ -72,10 +76,13 @@ fn close_body(
     last: LineId,
     lines: &mut Lines,
 ) -> Result<(LineId, usize), Denied>
-    requires { last.0 < length lines.old.items }
+    requires last { last.0 < length lines.old.items }
+    requires lines { AreLinesThere input.now lines.old.items }
+    requires actions { AreActionsThere input.now actions.items }
     ensures closes { IfOk result (λ x. BodyCloses input.now at (λ i. body_before i actions.items lines.old.items last) lines.new.items x) }
     ensures there { IfOk result (λ x. x.0.0 < length lines.new.items) }
     ensures grows { OnOk result (Grows lines.old.items lines.new.items) }
+    ensures known { OnOk result (AreLinesThere input.now lines.new.items) }
     ensures halts { IfErr result (Halts rules (mark CloseBrace) (from input.now at)) }
 {
     let at = input.take_mark(at, Mark::CloseBrace)?;
@@ -88,6 +95,7 @@ fn read_actions(alloc: Global, input: &Input, at: usize, room: usize) -> Result<
     ensures leads { IfOk result (λ x. Going input.now room (from input.now at) x.actions.items x.room (from input.now x.at)) }
     ensures all { IfOk result (λ x. Misses rules node (from input.now x.at)) }
     ensures further { IfOk result (λ x. length (from input.now x.at) ≤ length (from input.now at)) }
+    ensures known { IfOk result (λ x. AreActionsThere input.now x.actions.items) }
     ensures halts { IfErr result (Halts rules (lines_of room) (from input.now at)) }
 {
     let mut actions = Vec::new(alloc);
@@ -122,6 +130,7 @@ fn push_actions(lines: &mut Lines, mut actions: Vec<Action>, last: LineId) -> Re
     ensures body { IfOk result (λ id. (i : AnyInput) → body_at i lines.new.items id ≡ body_before i actions.items lines.old.items last) }
     ensures there { IfOk result (λ id. id.0 < length lines.new.items) }
     ensures grows { OnOk result (Grows lines.old.items lines.new.items) }
+    ensures known { OnOk result ((i : AnyInput) → AreLinesThere i lines.old.items → AreActionsThere i actions.items → AreLinesThere i lines.new.items) }
 {
     let mut next = last;
     while let Some(action) = actions.pop() {
@@ -139,9 +148,11 @@ fn read_tail(
     room: usize,
     lines: &mut Lines,
 ) -> Result<(LineId, usize), Denied>
+    requires { AreLinesThere input.now lines.old.items }
     ensures reads { IfOk result (IsTail input.now room at lines.new.items) }
     ensures there { IfOk result (λ x. x.0.0 < length lines.new.items) }
     ensures grows { OnOk result (Grows lines.old.items lines.new.items) }
+    ensures known { OnOk result (AreLinesThere input.now lines.new.items) }
     ensures halts { IfErr result (Halts rules (within E4 (Some room) (tail (room - 1))) (from input.now at)) }
 {
     let (word, after) = begin_tail(input, at, room)?;
@@ -171,6 +182,7 @@ fn push_end(lines: &mut Lines, at: usize) -> Result<(LineId, usize), Denied>
     ensures ends { IfOk result (IsEndLine at lines.new.items) }
     ensures there { IfOk result (λ x. x.0.0 < length lines.new.items) }
     ensures grows { OnOk result (Grows lines.old.items lines.new.items) }
+    ensures known { OnOk result ((i : AnyInput) → AreLinesThere i lines.old.items → AreLinesThere i lines.new.items) }
     ensures memory { IfErr result (λ d. d ≡ Denied.Memory) }
 {
     let end = lines.push(Line::End)?;
@@ -186,9 +198,11 @@ fn read_branch(
     room: usize,
     lines: &mut Lines,
 ) -> Result<(LineId, usize), Denied>
+    requires { AreLinesThere input.now lines.old.items }
     ensures reads { IfOk result (IsBranch input.now room at lines.new.items) }
     ensures there { IfOk result (λ x. x.0.0 < length lines.new.items) }
     ensures grows { OnOk result (Grows lines.old.items lines.new.items) }
+    ensures known { OnOk result (AreLinesThere input.now lines.new.items) }
     ensures halts { IfErr result (Halts rules (branch room) (from input.now at)) }
 {
     let (names, mut at) = open_branch(input, at, room)?;
@@ -207,6 +221,7 @@ fn read_branch(
 // NAME NAME "{"
 fn open_branch(input: &Input, at: usize, room: usize) -> Result<(Two, usize), Denied>
     ensures opens { IfOk result (λ x. BranchOpens (from input.now at) (two_of input.now x.0) (from input.now x.1)) }
+    ensures known { IfOk result (λ x. AreTwoThere input.now x.0) }
     ensures halts { IfErr result (Halts rules (branch room) (from input.now at)) }
 {
     let (names, at) = read_two_names(input, at)?;
@@ -222,10 +237,14 @@ fn close_branch(
     arms: List<Arm>,
     lines: &mut Lines,
 ) -> Result<(LineId, usize), Denied>
-    requires { All (λ a. a.body.0 < length lines.old.items) arms }
+    requires arms { All (λ a. a.body.0 < length lines.old.items) arms }
+    requires lines { AreLinesThere input.now lines.old.items }
+    requires names { AreTwoThere input.now names }
+    requires labels { AreLabelsThere input.now arms }
     ensures closes { IfOk result (λ x. BodyCloses input.now at (λ i. offered i names arms lines.old.items) lines.new.items x) }
     ensures there { IfOk result (λ x. x.0.0 < length lines.new.items) }
     ensures grows { OnOk result (Grows lines.old.items lines.new.items) }
+    ensures known { OnOk result (AreLinesThere input.now lines.new.items) }
     ensures halts { IfErr result (Halts rules (mark CloseBrace) (from input.now at)) }
 {
     let at = input.take_mark(at, Mark::CloseBrace)?;
@@ -242,9 +261,11 @@ fn read_conditional(
     room: usize,
     lines: &mut Lines,
 ) -> Result<(LineId, usize), Denied>
+    requires { AreLinesThere input.now lines.old.items }
     ensures reads { IfOk result (IsConditional input.now room at lines.new.items) }
     ensures there { IfOk result (λ x. x.0.0 < length lines.new.items) }
     ensures grows { OnOk result (Grows lines.old.items lines.new.items) }
+    ensures known { OnOk result (AreLinesThere input.now lines.new.items) }
     ensures halts { IfErr result (Halts rules (conditional room) (from input.now at)) }
 {
     let (expr, at) = read_expression(alloc, input, at)?;
@@ -263,9 +284,11 @@ fn read_call(
     place: Place,
     lines: &mut Lines,
 ) -> Result<(LineId, usize), Denied>
+    requires { AreLinesThere input.now lines.old.items }
     ensures reads { IfOk result (IsCall input.now place at lines.new.items) }
     ensures there { IfOk result (λ x. x.0.0 < length lines.new.items) }
     ensures grows { OnOk result (Grows lines.old.items lines.new.items) }
+    ensures known { OnOk result (AreLinesThere input.now lines.new.items) }
     ensures halts { IfErr result (Halts rules signature (from input.now at)) }
 {
     let (signature, at) = read_signature(alloc, input, at)?;

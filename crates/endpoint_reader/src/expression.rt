@@ -7,6 +7,7 @@ ghost use Rattle.grammar_laws.specs.Readers.{Halts, Misses, Tells, HaltsIn};
 ghost use Rattle.endpoint_grammar.specs.Grammar.{un, comparison, comparisons, operators, expr as an_expr};
 ghost use Rattle.endpoint_grammar.specs.Values.{rules, leaf_of, phrase, comparison_op, comparison_phrase};
 ghost use Rattle.endpoint_reader.specs.Tokens.{from, written};
+ghost use Rattle.endpoint_reader.specs.Known.{IsExprThere};
 ghost use Rattle.endpoint_reader.specs.Phrases.{HasRead, IsOperator, marks_of, operand_of, level_of, operand_phrase, op_of, level_phrase};
 
 use crate::input::Input;
@@ -42,6 +43,7 @@ pub struct Reading {
 /// The expression that begins here, and where the tokens after it begin.
 pub fn read_expression(alloc: Global, input: &Input, at: usize) -> Result<(Expr, usize), Denied>
     ensures reads { IfOk result (λ x. Tells rules an_expr phrase (from input.now at) (written input.now (term_of x.0)) (from input.now x.1)) }
+    ensures known { IfOk result (λ x. IsExprThere input.now x.0) }
     ensures halts { IfErr result (Halts rules an_expr (from input.now at)) }
 {
     let reading = read_level(alloc, input, at, LONGEST, Level::Or)?;
@@ -58,6 +60,7 @@ fn read_level(
     level: Level,
 ) -> Result<Reading, Denied>
     ensures reads { IfOk result (HasRead input.now (level_of level) (level_phrase level) room at) }
+    ensures known { IfOk result (λ x. IsExprThere input.now x.expr) }
     ensures halts { IfErr result (HaltsIn rules E4 (Some room) (level_of level) (from input.now at)) }
 {
     let mut left = read_operand(alloc, input, at, room, level)?;
@@ -110,6 +113,7 @@ fn read_operand(
     level: Level,
 ) -> Result<Reading, Denied>
     ensures reads { IfOk result (HasRead input.now (operand_of level) (operand_phrase level) room at) }
+    ensures known { IfOk result (λ x. IsExprThere input.now x.expr) }
     ensures halts { IfErr result (HaltsIn rules E4 (Some room) (operand_of level) (from input.now at)) }
 {
     match level {
@@ -124,6 +128,7 @@ fn read_operand(
 #[cycle(reading)]
 fn read_comparison(alloc: Global, input: &Input, at: usize, room: usize) -> Result<Reading, Denied>
     ensures reads { IfOk result (HasRead input.now comparison comparison_phrase room at) }
+    ensures known { IfOk result (λ x. IsExprThere input.now x.expr) }
     ensures halts { IfErr result (HaltsIn rules E4 (Some room) comparison (from input.now at)) }
 {
     let left = read_level(alloc, input, at, room, Level::Sum)?;
@@ -141,6 +146,7 @@ fn read_comparison(alloc: Global, input: &Input, at: usize, room: usize) -> Resu
 #[cycle(reading)]
 fn read_unary(alloc: Global, input: &Input, at: usize, room: usize) -> Result<Reading, Denied>
     ensures reads { IfOk result (HasRead input.now un leaf_of room at) }
+    ensures known { IfOk result (λ x. IsExprThere input.now x.expr) }
     ensures halts { IfErr result (HaltsIn rules E4 (Some room) un (from input.now at)) }
 {
     let Some(begun) = input.operand_at(at) else {

@@ -5,6 +5,7 @@ ghost use Rattle.grammar_laws.specs.Readers.{Reads, Halts, Tells, split_of};
 ghost use Rattle.endpoint_grammar.specs.Grammar.{two_names, three_names, role_of_channel, names, sessions, signature};
 ghost use Rattle.endpoint_grammar.specs.Values.{rules, session_list};
 ghost use Rattle.endpoint_reader.specs.Tokens.{from, all_named};
+ghost use Rattle.endpoint_reader.specs.Known.{AreThere, AreTwoThere, AreThreeThere, IsSignatureThere};
 ghost use Rattle.endpoint_reader.specs.Signatures.{two_of, three_of, role_of, signed, signature_of};
 
 use crate::input::{Input, Named};
@@ -41,6 +42,7 @@ pub struct Signature {
 /// NAME NAME
 pub fn read_two_names(input: &Input, at: usize) -> Result<(Two, usize), Denied>
     ensures reads { IfOk result (λ x. Reads rules two_names (from input.now at) (two_of input.now x.0) (from input.now x.1)) }
+    ensures known { IfOk result (λ x. AreTwoThere input.now x.0) }
     ensures halts { IfErr result (Halts rules two_names (from input.now at)) }
 {
     let (first, at) = input.take_name(at)?;
@@ -51,6 +53,7 @@ pub fn read_two_names(input: &Input, at: usize) -> Result<(Two, usize), Denied>
 /// NAME NAME NAME
 pub fn read_three_names(input: &Input, at: usize) -> Result<(Three, usize), Denied>
     ensures reads { IfOk result (λ x. Reads rules three_names (from input.now at) (three_of input.now x.0) (from input.now x.1)) }
+    ensures known { IfOk result (λ x. AreThreeThere input.now x.0) }
     ensures halts { IfErr result (Halts rules three_names (from input.now at)) }
 {
     let (first, at) = input.take_name(at)?;
@@ -69,6 +72,7 @@ pub fn read_three_names(input: &Input, at: usize) -> Result<(Three, usize), Deni
 /// NAME "[" NAME "]"
 pub fn read_role_of_channel(input: &Input, at: usize) -> Result<(Two, usize), Denied>
     ensures reads { IfOk result (λ x. Reads rules role_of_channel (from input.now at) (role_of input.now x.0) (from input.now x.1)) }
+    ensures known { IfOk result (λ x. AreTwoThere input.now x.0) }
     ensures halts { IfErr result (Halts rules role_of_channel (from input.now at)) }
 {
     let (first, at) = input.take_name(at)?;
@@ -85,6 +89,7 @@ pub fn read_sessions(
     at: usize,
 ) -> Result<(List<Named>, usize), Denied>
     ensures reads { IfOk result (λ x. Tells rules sessions session_list (from input.now at) (all_named input.now x.0) (from input.now x.1)) }
+    ensures known { IfOk result (λ x. AreThere input.now x.0) }
     ensures halts { IfErr result (Halts rules sessions (from input.now at)) }
 {
     let Some(_) = input.name_at(at) else {
@@ -102,6 +107,7 @@ fn read_names(
     limit: usize,
 ) -> Result<(List<Named>, usize), Denied>
     ensures reads { IfOk result (λ x. Reads rules (names limit) (from input.now at) (split_of (all_named input.now x.0)) (from input.now x.1)) }
+    ensures known { IfOk result (λ x. AreThere input.now x.0) }
     ensures halts { IfErr result (Halts rules (names limit) (from input.now at)) }
 {
     let (first, mut at) = input.take_item(at, limit)?;
@@ -118,6 +124,7 @@ fn read_names(
 /// NAME NAME "(" [ names ] ")"
 pub fn read_signature(alloc: Global, input: &Input, at: usize) -> Result<(Signature, usize), Denied>
     ensures reads { IfOk result (λ x. Tells rules signature signed (from input.now at) (signature_of input.now x.0) (from input.now x.1)) }
+    ensures known { IfOk result (λ x. IsSignatureThere input.now x.0) }
     ensures halts { IfErr result (Halts rules signature (from input.now at)) }
 {
     let (names, at) = read_two_names(input, at)?;

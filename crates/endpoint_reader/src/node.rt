@@ -8,6 +8,7 @@ ghost use Rattle.grammar_laws.specs.Readers.{Halts, Tells, Begins, Misses, HasOn
 ghost use Rattle.endpoint_grammar.specs.Grammar.{node, join as join_part, send, set, host, expr as an_expr};
 ghost use Rattle.endpoint_grammar.specs.Values.{rules, deed};
 ghost use Rattle.endpoint_reader.specs.Tokens.{from};
+ghost use Rattle.endpoint_reader.specs.Known.{IsActionThere};
 ghost use Rattle.endpoint_reader.specs.Nodes.{IsNode, deed_of, first_word, rest_of, deed_by};
 
 use crate::expression::read_expression;
@@ -56,6 +57,7 @@ pub fn read_node(
     ensures begins { IfOk result (λ found. IfSome found (λ x. Begins rules node (from input.now at))) }
     ensures none { IfOk result (λ found. IfNone found (Misses rules node (from input.now at))) }
     ensures begun { OnErr result (Begins rules node (from input.now at)) }
+    ensures known { IfOk result (λ found. IfSome found (λ x. IsActionThere input.now x.0)) }
     ensures halts { IfErr result (Halts rules (within E4 (Some room) node) (from input.now at)) }
 {
     let Some(begun) = node_word(input, at) else {
@@ -110,6 +112,7 @@ fn read_action(
     at: usize,
 ) -> Result<(Action, usize), Denied>
     ensures reads { IfOk result (λ x. Tells rules (rest_of word) (deed_by word) (from input.now at) (deed_of input.now x.0) (from input.now x.1)) }
+    ensures known { IfOk result (λ x. IsActionThere input.now x.0) }
     ensures halts { IfErr result (Halts rules (rest_of word) (from input.now at)) }
 {
     match word {
@@ -140,6 +143,7 @@ fn read_action(
 // NAME "[" NAME "]" "(" NAME ")"
 fn read_join(input: &Input, at: usize) -> Result<(Action, usize), Denied>
     ensures reads { IfOk result (λ x. Tells rules join_part (deed_by NodeWord.Join) (from input.now at) (deed_of input.now x.0) (from input.now x.1)) }
+    ensures known { IfOk result (λ x. IsActionThere input.now x.0) }
     ensures halts { IfErr result (Halts rules join_part (from input.now at)) }
 {
     let (place, at) = read_role_of_channel(input, at)?;
@@ -152,6 +156,7 @@ fn read_join(input: &Input, at: usize) -> Result<(Action, usize), Denied>
 // NAME NAME expr
 fn read_send(alloc: Global, input: &Input, at: usize) -> Result<(Action, usize), Denied>
     ensures reads { IfOk result (λ x. Tells rules send (deed_by NodeWord.Send) (from input.now at) (deed_of input.now x.0) (from input.now x.1)) }
+    ensures known { IfOk result (λ x. IsActionThere input.now x.0) }
     ensures halts { IfErr result (Halts rules send (from input.now at)) }
 {
     let (names, at) = read_two_names(input, at)?;
@@ -162,6 +167,7 @@ fn read_send(alloc: Global, input: &Input, at: usize) -> Result<(Action, usize),
 // NAME expr
 fn read_set(alloc: Global, input: &Input, at: usize) -> Result<(Action, usize), Denied>
     ensures reads { IfOk result (λ x. Tells rules set (deed_by NodeWord.Set) (from input.now at) (deed_of input.now x.0) (from input.now x.1)) }
+    ensures known { IfOk result (λ x. IsActionThere input.now x.0) }
     ensures halts { IfErr result (Halts rules set (from input.now at)) }
 {
     let (variable, at) = input.take_name(at)?;
@@ -172,6 +178,7 @@ fn read_set(alloc: Global, input: &Input, at: usize) -> Result<(Action, usize), 
 // expr
 fn read_show(alloc: Global, input: &Input, at: usize) -> Result<(Action, usize), Denied>
     ensures reads { IfOk result (λ x. Tells rules an_expr (deed_by NodeWord.Show) (from input.now at) (deed_of input.now x.0) (from input.now x.1)) }
+    ensures known { IfOk result (λ x. IsActionThere input.now x.0) }
     ensures halts { IfErr result (Halts rules an_expr (from input.now at)) }
 {
     let (expr, at) = read_expression(alloc, input, at)?;
@@ -181,6 +188,7 @@ fn read_show(alloc: Global, input: &Input, at: usize) -> Result<(Action, usize),
 // NAME NAME "(" expr "," expr ")"
 fn read_host(alloc: Global, input: &Input, at: usize) -> Result<(Action, usize), Denied>
     ensures reads { IfOk result (λ x. Tells rules host (deed_by NodeWord.Host) (from input.now at) (deed_of input.now x.0) (from input.now x.1)) }
+    ensures known { IfOk result (λ x. IsActionThere input.now x.0) }
     ensures halts { IfErr result (Halts rules host (from input.now at)) }
 {
     let (names, at) = read_two_names(input, at)?;

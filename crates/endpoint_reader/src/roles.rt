@@ -5,6 +5,7 @@ ghost use Rattle.grammar_laws.specs.Readers.{Halts, Tells};
 ghost use Rattle.endpoint_grammar.specs.Grammar.{roles_of, served_of};
 ghost use Rattle.endpoint_grammar.specs.Values.{rules, role_list, role_lists};
 ghost use Rattle.endpoint_reader.specs.Tokens.{from, all_named};
+ghost use Rattle.endpoint_reader.specs.Known.{AreThere, AreRolesThere};
 ghost use Rattle.endpoint_reader.specs.Signatures.{roles_written, serving, serve_list};
 
 use crate::input::{Input, Named};
@@ -27,6 +28,7 @@ pub fn read_roles(
     room: usize,
 ) -> Result<(Roles, usize), Denied>
     ensures reads { IfOk result (λ x. Tells rules (roles_of room) (role_lists room) (from input.now at) (roles_written input.now x.0) (from input.now x.1)) }
+    ensures known { IfOk result (λ x. AreRolesThere input.now x.0) }
     ensures halts { IfErr result (Halts rules (roles_of room) (from input.now at)) }
 {
     let mut active = List::new(alloc);
@@ -52,6 +54,7 @@ fn read_serving(
     room: usize,
 ) -> Result<(List<Named>, usize), Denied>
     ensures reads { IfOk result (λ x. Tells rules (serving room) (serve_list room) (from input.now at) (all_named input.now x.0) (from input.now x.1)) }
+    ensures known { IfOk result (λ x. AreThere input.now x.0) }
     ensures halts { IfErr result (Halts rules (serving room) (from input.now at)) }
 {
     let Some(after) = input.after_mark(at, Mark::Bar) else {
@@ -70,6 +73,7 @@ fn read_served(
     room: usize,
 ) -> Result<(List<Named>, usize), Denied>
     ensures reads { IfOk result (λ x. Tells rules (served_of room) (role_list room) (from input.now at) (all_named input.now x.0) (from input.now x.1)) }
+    ensures known { IfOk result (λ x. AreThere input.now x.0) }
     ensures halts { IfErr result (Halts rules (served_of room) (from input.now at)) }
 {
     let mut serve = List::new(alloc);

@@ -6,6 +6,7 @@ use Rattle.endpoint_reader.proofs.Bodies.{tail_halts, body_open, body_told, ok_t
 use Rattle.endpoint_reader.proofs.Tables.{grows_by, grows_on, last_there, no_fewer}
 use Rattle.endpoint_reader.proofs.Tails.{stands_as, stands_shorter, branch_told, conditional_told, call_told, branch_halts, conditional_halts, call_halts, memory_tail, end_line}
 use Rattle.endpoint_reader.proofs.Arms.{arms_begin, label_halts, arm_halts, arms_there, arms_go, arms_end, arms_open, branch_is, branch_shorter, branch_halts_in, test_is, tests_pushed, both_inside}
+use Rattle.endpoint_reader.proofs.Known.{no_labels, one_more_label, one_more_line, still_there}
 use Rattle.endpoint_reader.proofs.body.+bodies.Goals as goal
 
 pub read_body-returns-in_err-begun-clause-halts : goal.read_body-returns-in_err-begun-clause-halts
@@ -63,34 +64,38 @@ pub read_branch-returns-in_err-names-clause-halts : goal.read_branch-returns-in_
 read_branch-returns-in_err-names-clause-halts t c = passes _ _ c.from_residual.ensures.1 c.in_err-names.ensures.halts
 
 pub read_branch-arms-init : goal.read_branch-arms-init
-read_branch-arms-init t c = record { start = _; opens = c.in_ok-names.ensures.opens; arms = arms_begin c.new-arms.ensures }
+read_branch-arms-init t c = record { so_far = record { start = _; opens = c.in_ok-names.ensures.opens; arms = arms_begin c.new-arms.ensures }; lines = c.requires; labels = no_labels c.args.input.now _ c.new-arms.ensures }
 
 pub read_branch-returns-in_err-label-clause-halts : goal.read_branch-returns-in_err-label-clause-halts
-read_branch-returns-in_err-label-clause-halts t c = let a = c.arms.invariant in passes _ _ c.from_residual-in_err-label.ensures.1 (branch_halts_in a.opens (label_halts a.arms c.in_err-label.ensures.halts))
+read_branch-returns-in_err-label-clause-halts t c = let a = c.arms.invariant.so_far in passes _ _ c.from_residual-in_err-label.ensures.1 (branch_halts_in a.opens (label_halts a.arms c.in_err-label.ensures.halts))
 
 pub read_branch-read_body-requires : goal.read_branch-read_body-requires
-read_branch-read_body-requires t c = omega (arith, c.decreases, branch_shorter c.arms.invariant.opens, c.arms.invariant.arms.further, read_shorter refl c.in_ok-label.ensures.reads)
+read_branch-read_body-requires t c = omega (arith, c.decreases, branch_shorter c.arms.invariant.so_far.opens, c.arms.invariant.so_far.arms.further, read_shorter refl c.in_ok-label.ensures.reads)
 
 pub read_branch-returns-in_err-body-clause-halts : goal.read_branch-returns-in_err-body-clause-halts
-read_branch-returns-in_err-body-clause-halts t c = let a = c.arms.invariant in passes _ _ c.from_residual-in_err-body.ensures.1 (branch_halts_in a.opens (arm_halts a.arms _ c.in_ok-label.ensures.reads c.in_err-body.ensures.halts))
+read_branch-returns-in_err-body-clause-halts t c = let a = c.arms.invariant.so_far in passes _ _ c.from_residual-in_err-body.ensures.1 (branch_halts_in a.opens (arm_halts a.arms _ c.in_ok-label.ensures.reads c.in_err-body.ensures.halts))
 
 pub read_branch-arms-preserved : goal.read_branch-arms-preserved
-read_branch-arms-preserved t c = let a = c.arms.invariant in record { start = _; opens = a.opens; arms = arms_go a.arms _ c.in_ok-label.ensures.reads c.in_ok-body.ensures.reads c.in_ok-body.ensures.there c.in_ok-body.ensures.grows c.in_ok-push.ensures.ok c.in-Some.ensures.found }
+read_branch-arms-preserved t c = let a = c.arms.invariant.so_far in record {
+  so_far = record { start = _; opens = a.opens; arms = arms_go a.arms _ c.in_ok-label.ensures.reads c.in_ok-body.ensures.reads c.in_ok-body.ensures.there c.in_ok-body.ensures.grows c.in_ok-push.ensures.ok c.in-Some.ensures.found };
+  lines = c.in_ok-body.ensures.known;
+  labels = one_more_label c.args.input.now _ _ _ c.arms.invariant.labels c.in_ok-label.ensures.known c.in_ok-push.ensures.ok;
+}
 
 pub read_branch-arms-smaller : goal.read_branch-arms-smaller
 read_branch-arms-smaller t c = omega (arith, read_shorter refl c.in_ok-label.ensures.reads, read_no_longer c.in_ok-body.ensures.reads)
 
-pub read_branch-close_branch-requires : goal.read_branch-close_branch-requires
-read_branch-close_branch-requires t c = arms_there c.arms.invariant.arms _ c.in_ok-label.ensures.reads c.in_ok-body.ensures.reads c.in_ok-body.ensures.there c.in_ok-body.ensures.grows c.in_ok-push.ensures.ok
+pub read_branch-close_branch-requires-clause-arms : goal.read_branch-close_branch-requires-clause-arms
+read_branch-close_branch-requires-clause-arms t c = arms_there c.arms.invariant.so_far.arms _ c.in_ok-label.ensures.reads c.in_ok-body.ensures.reads c.in_ok-body.ensures.there c.in_ok-body.ensures.grows c.in_ok-push.ensures.ok
 
 pub read_branch-returns-in_default-clause-reads : goal.read_branch-returns-in_default-clause-reads
-read_branch-returns-in_default-clause-reads t c = let a = c.arms.invariant in ok_map _ (λ x b. branch_is c.args.input.now _ _ a.opens (arms_end a.arms _ c.in_ok-label.ensures.reads c.in_ok-body.ensures.reads c.in_ok-body.ensures.there c.in_ok-body.ensures.grows c.in_ok-push.ensures.ok c.in_default.ensures.none b.closes) (b.body c.args.input.now)) c.close_branch.ensures.closes
+read_branch-returns-in_default-clause-reads t c = let a = c.arms.invariant.so_far in ok_map _ (λ x b. branch_is c.args.input.now _ _ a.opens (arms_end a.arms _ c.in_ok-label.ensures.reads c.in_ok-body.ensures.reads c.in_ok-body.ensures.there c.in_ok-body.ensures.grows c.in_ok-push.ensures.ok c.in_default.ensures.none b.closes) (b.body c.args.input.now)) c.close_branch.ensures.closes
 
 pub read_branch-returns-in_default-clause-grows : goal.read_branch-returns-in_default-clause-grows
-read_branch-returns-in_default-clause-grows t c = ok_then _ c.close_branch.ensures.grows (λ g. grows_on (grows_on c.arms.invariant.arms.grows c.in_ok-body.ensures.grows) g)
+read_branch-returns-in_default-clause-grows t c = ok_then _ c.close_branch.ensures.grows (λ g. grows_on (grows_on c.arms.invariant.so_far.arms.grows c.in_ok-body.ensures.grows) g)
 
 pub read_branch-returns-in_default-clause-halts : goal.read_branch-returns-in_default-clause-halts
-read_branch-returns-in_default-clause-halts t c = let a = c.arms.invariant in err_map _ (λ d h. branch_halts_in a.opens (arms_open a.arms _ c.in_ok-label.ensures.reads c.in_ok-body.ensures.reads c.in_ok-body.ensures.there c.in_ok-body.ensures.grows c.in_ok-push.ensures.ok c.in_default.ensures.none h)) c.close_branch.ensures.halts
+read_branch-returns-in_default-clause-halts t c = let a = c.arms.invariant.so_far in err_map _ (λ d h. branch_halts_in a.opens (arms_open a.arms _ c.in_ok-label.ensures.reads c.in_ok-body.ensures.reads c.in_ok-body.ensures.there c.in_ok-body.ensures.grows c.in_ok-push.ensures.ok c.in_default.ensures.none h)) c.close_branch.ensures.halts
 
 pub read_conditional-returns-in_err-expr-clause-halts : goal.read_conditional-returns-in_err-expr-clause-halts
 read_conditional-returns-in_err-expr-clause-halts t c = passes _ _ c.from_residual.ensures.1 (now_halts c.in_err-expr.ensures.halts)
@@ -105,7 +110,7 @@ pub read_conditional-returns-in_err-at-clause-halts : goal.read_conditional-retu
 read_conditional-returns-in_err-at-clause-halts t c = passes _ _ c.from_residual-in_err-at.ensures.1 (then_halts c.in_ok-expr.ensures.reads.reads (then_halts c.in_ok-first.ensures.reads (now_halts c.in_err-at.ensures.halts)))
 
 pub read_conditional-read_body-requires-2 : goal.read_conditional-read_body-requires-2
-read_conditional-read_body-requires-2 t c = omega (arith, c.decreases, read_shorter refl c.in_ok-expr.ensures.reads.reads, read_shorter refl c.in_ok-first.ensures.reads, read_shorter refl c.in_ok-at.ensures.reads)
+read_conditional-read_body-requires-2 t c = (omega (arith, c.decreases, read_shorter refl c.in_ok-expr.ensures.reads.reads, read_shorter refl c.in_ok-first.ensures.reads, read_shorter refl c.in_ok-at.ensures.reads), c.in_ok-first.ensures.known)
 
 pub read_conditional-returns-in_err-second-clause-halts : goal.read_conditional-returns-in_err-second-clause-halts
 read_conditional-returns-in_err-second-clause-halts t c = passes _ _ c.from_residual-in_err-second.ensures.1 (then_halts c.in_ok-expr.ensures.reads.reads (then_halts c.in_ok-first.ensures.reads (then_halts c.in_ok-at.ensures.reads c.in_err-second.ensures.halts)))
@@ -121,3 +126,12 @@ read_conditional-returns-clause-there t c = last_there _ _ c.in_ok-test.ensures.
 
 pub read_conditional-returns-clause-grows : goal.read_conditional-returns-clause-grows
 read_conditional-returns-clause-grows t c = grows_on c.in_ok-first.ensures.grows (grows_on c.in_ok-second.ensures.grows (grows_by _ c.in_ok-test.ensures.grows))
+
+pub read_tail-returns-in-End-clause-known : goal.read_tail-returns-in-End-clause-known
+read_tail-returns-in-End-clause-known t c = still_there c.args.input.now _ _ _ c.push_end.ensures.known c.requires
+
+pub read_branch-close_branch-requires-clause-labels : goal.read_branch-close_branch-requires-clause-labels
+read_branch-close_branch-requires-clause-labels t c = one_more_label c.args.input.now _ _ _ c.arms.invariant.labels c.in_ok-label.ensures.known c.in_ok-push.ensures.ok
+
+pub read_conditional-returns-clause-known : goal.read_conditional-returns-clause-known
+read_conditional-returns-clause-known t c = one_more_line c.args.input.now _ _ _ c.in_ok-second.ensures.known c.in_ok-expr.ensures.known c.in_ok-test.ensures.grows

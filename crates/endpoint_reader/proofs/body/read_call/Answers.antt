@@ -1,6 +1,7 @@
 use Rattle.grammar_laws.proofs.Passing.{passes}
 use Rattle.endpoint_reader.proofs.Arms.{call_is}
 use Rattle.endpoint_reader.proofs.Tables.{grows_by, last_there, body_pushed}
+use Rattle.endpoint_reader.proofs.Known.{one_more_line}
 use Rattle.endpoint_reader.proofs.body.read_call.Goals as goal
 
 pub returns-in_err-signature-clause-halts : goal.returns-in_err-signature-clause-halts
@@ -14,3 +15,6 @@ returns-clause-there c = last_there _ _ c.in_ok-call.ensures.grows c.in_ok-call.
 
 pub returns-clause-grows : goal.returns-clause-grows
 returns-clause-grows c = grows_by _ c.in_ok-call.ensures.grows
+
+pub returns-clause-known : goal.returns-clause-known
+returns-clause-known c = one_more_line c.args.input.now _ _ _ c.requires c.in_ok-signature.ensures.known c.in_ok-call.ensures.grows

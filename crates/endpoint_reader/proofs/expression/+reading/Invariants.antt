@@ -1,5 +1,6 @@
 use Rattle.std.proofs.Common.{◌+◌, ◌*◌, length}
 use Rattle.endpoint_reader.specs.Tokens.{from}
+use Rattle.endpoint_reader.specs.Known.{IsExprThere}
 use Rattle.endpoint_reader.specs.Phrases.{marks_of, operand_of, op_of, operand_phrase}
 use Rattle.endpoint_reader.specs.Tokens.{written}
 use Rattle.chor_base.specs.Expr.{term_of}
@@ -20,7 +21,7 @@ abbrev pub decreases-read_unary : goal.decreases-read_unary
 decreases-read_unary l = 10 * length (from l.input.now l.at)
 
 abbrev pub invariant-read_level-loop-operator : goal.invariant-read_level-loop-operator
-invariant-read_level-loop-operator l = Grouping (marks_of l.level) (operand_of l.level) (op_of l.level) (operand_phrase l.level) l.fn.room (from l.input l.fn.at) (written l.input (term_of l.left.expr)) l.left.room (from l.input l.left.at)
+invariant-read_level-loop-operator l = record { grouping : Grouping (marks_of l.level) (operand_of l.level) (op_of l.level) (operand_phrase l.level) l.fn.room (from l.input l.fn.at) (written l.input (term_of l.left.expr)) l.left.room (from l.input l.left.at); known : IsExprThere l.input l.left.expr }
 
 abbrev pub decreases-read_level-loop-operator : goal.decreases-read_level-loop-operator
 decreases-read_level-loop-operator l = length (from l.input l.left.at)

@@ -2,22 +2,32 @@ use Rattle.std.proofs.Common.{refl, arith}
 use Rattle.grammar_laws.proofs.Passing.{passes}
 use Rattle.grammar_laws.proofs.Progress.{token_shorter, read_shorter}
 use Rattle.endpoint_reader.proofs.RoleLists.{active_begins, active_goes, active_ends, active_close, active_halts}
+use Rattle.endpoint_reader.proofs.Known.{none_there, pushed_there}
 use Rattle.endpoint_reader.proofs.roles.read_roles.Goals as goal
 
 pub roles-init : goal.roles-init
-roles-init c = active_begins c.new-active.ensures
+roles-init c = record {
+  so_far = active_begins c.new-active.ensures;
+  known = none_there c.args.input.now _ c.new-active.ensures;
+}
 
 pub returns-in_err-name-clause-halts : goal.returns-in_err-name-clause-halts
-returns-in_err-name-clause-halts c = passes _ _ c.from_residual.ensures.1 (active_halts c.roles.invariant c.in_err-name.ensures.halts)
+returns-in_err-name-clause-halts c = passes _ _ c.from_residual.ensures.1 (active_halts c.roles.invariant.so_far c.in_err-name.ensures.halts)
 
 pub returns-in_err-serve-clause-halts : goal.returns-in_err-serve-clause-halts
-returns-in_err-serve-clause-halts c = passes _ _ c.from_residual-in_err-serve.ensures.1 (active_close _ c.roles.invariant c.in_ok-name.ensures.reads c.in_default.ensures.none c.saturating_sub.ensures c.in_err-serve.ensures.halts)
+returns-in_err-serve-clause-halts c = passes _ _ c.from_residual-in_err-serve.ensures.1 (active_close _ c.roles.invariant.so_far c.in_ok-name.ensures.reads c.in_default.ensures.none c.saturating_sub.ensures c.in_err-serve.ensures.halts)
 
 pub returns-in_default-clause-reads : goal.returns-in_default-clause-reads
-returns-in_default-clause-reads c = active_ends _ c.roles.invariant c.in_ok-name.ensures.reads c.in_default.ensures.none c.in_ok-push.ensures.ok c.saturating_sub.ensures c.in_ok-serve.ensures.reads
+returns-in_default-clause-reads c = active_ends _ c.roles.invariant.so_far c.in_ok-name.ensures.reads c.in_default.ensures.none c.in_ok-push.ensures.ok c.saturating_sub.ensures c.in_ok-serve.ensures.reads
 
 pub roles-preserved : goal.roles-preserved
-roles-preserved c = active_goes _ c.roles.invariant c.in_ok-name.ensures.reads c.in-Some.ensures.found c.in_ok-push.ensures.ok c.saturating_sub-left.ensures
+roles-preserved c = record {
+  so_far = active_goes _ c.roles.invariant.so_far c.in_ok-name.ensures.reads c.in-Some.ensures.found c.in_ok-push.ensures.ok c.saturating_sub-left.ensures;
+  known = pushed_there c.args.input.now _ _ _ c.roles.invariant.known c.in_ok-name.ensures.known c.in_ok-push.ensures.ok;
+}
 
 pub roles-smaller : goal.roles-smaller
 roles-smaller c = omega (arith, token_shorter c.in-Some.ensures.found, read_shorter refl c.in_ok-name.ensures.reads)
+
+pub returns-in_default-clause-known : goal.returns-in_default-clause-known
+returns-in_default-clause-known c = (pushed_there c.args.input.now _ _ _ c.roles.invariant.known c.in_ok-name.ensures.known c.in_ok-push.ensures.ok, c.in_ok-serve.ensures.known)

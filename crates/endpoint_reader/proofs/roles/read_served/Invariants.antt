@@ -1,10 +1,11 @@
 use Rattle.std.proofs.Common.{length}
+use Rattle.endpoint_reader.specs.Known.{AreThere}
 use Rattle.endpoint_reader.specs.Tokens.{from}
 use Rattle.endpoint_reader.proofs.RoleLists.{ServedSoFar}
 use Rattle.endpoint_reader.proofs.roles.read_served.Given as goal
 
 abbrev pub invariant-roles : goal.invariant-roles
-invariant-roles l = ServedSoFar l.input l.fn.room (from l.input l.fn.at) l.serve l.left (from l.input l.at)
+invariant-roles l = record { so_far : ServedSoFar l.input l.fn.room (from l.input l.fn.at) l.serve l.left (from l.input l.at); known : AreThere l.input l.serve }
 
 abbrev pub decreases-roles : goal.decreases-roles
 decreases-roles l = length (from l.input l.at)

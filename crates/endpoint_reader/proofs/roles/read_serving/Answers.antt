@@ -1,5 +1,6 @@
 use Rattle.grammar_laws.proofs.Passing.{passes}
 use Rattle.endpoint_reader.proofs.RoleLists.{some_served, some_served_halts, none_served, none_served_halts}
+use Rattle.endpoint_reader.proofs.Known.{none_there}
 use Rattle.endpoint_reader.proofs.roles.read_serving.Goals as goal
 
 pub returns-in_err-end-clause-halts : goal.returns-in_err-end-clause-halts
@@ -13,3 +14,6 @@ returns-in_err-serve-clause-halts c = passes _ _ c.from_residual-in_err-serve.en
 
 pub returns-clause-reads : goal.returns-clause-reads
 returns-clause-reads c = some_served c.in-Some.ensures.found c.in_ok-serve.ensures.reads
+
+pub returns-in_default-clause-known : goal.returns-in_default-clause-known
+returns-in_default-clause-known c = none_there c.args.input.now _ c.new.ensures
