@@ -1,0 +1,4 @@
+pub mod Lists
+pub mod Once
+pub mod Bodies
+pub mod Files
