@@ -180,7 +180,7 @@ module _ (w : Written) (names texts hosts : List (List ℕ)) (e : Endpoints) (ma
   pub code_same : (id : LineId) → tree.code_at e.code.nodes (code_id id) ≡ code_of (body_at w.lines.items id)
   code_same id = ap (λ ts. slice_index_or ts id.0 tree.Ends) made.code ∙ get_or-map code_of (bodies_of w.lines.items) id.0 Ends
 
-  count : length e.code.nodes ≡ length w.lines.items
+  pub count : length e.code.nodes ≡ length w.lines.items
   count =
       sym (length-trees_of e.code.nodes) ∙ ap length made.code ∙ length-map (bodies_of w.lines.items) code_of
       ∙ (let n = length-grown w.lines.items [] in omega (arith, n))

@@ -2,3 +2,4 @@ pub mod Lists
 pub mod Once
 pub mod Bodies
 pub mod Files
+pub mod Asked

@@ -16,3 +16,20 @@ use Rattle.endpoint_making.specs.Making.{IsMadeOf}
 -- what is made of units without a fault of names and beginnings has none
 abbrev pub MadeIsFaultless : Type 0
 MadeIsFaultless = (w : Written) (names texts hosts : List (List ℕ)) (e : Endpoints) → IsMadeOf w names texts e → IsFaultless (setting w names hosts) → IsFaultlessCode e
+
+-- a line with which a unit's body begins, or that follows another
+pub data IsUsed (w : Written) (id : LineId) : Type 0 where
+  begins_procedure : {p : Procedure} → Contains w.procedures p → p.body ≡ id → IsUsed w id
+  begins_service : {v : Service} → Contains w.services v → v.body ≡ id → IsUsed w id
+  begins_process : {p : Process} → Contains w.processes p → p.body ≡ id → IsUsed w id
+  follows : (i : ℕ) {l : Line} → slice_get w.lines.items i ≡ Some l → Contains (nexts_of l) id → IsUsed w id
+
+-- each line is: the table has no others
+abbrev pub AreUsed : Written → Type 0
+AreUsed w = (id : LineId) → id.0 < length w.lines.items → IsUsed w id
+
+-- what is made of such units, where they have no fault of names and beginnings, asks no host function but these
+abbrev pub MadeAsksKnown : Type 0
+MadeAsksKnown =
+    (w : Written) (names texts hosts : List (List ℕ)) (e : Endpoints) → IsMadeOf w names texts e → AreUsed w → IsFaultless (setting w names hosts)
+    → AsksKnown (is_listed hosts e) e

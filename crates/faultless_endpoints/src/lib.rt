@@ -1,9 +1,15 @@
 //! Endpoint programs that are written without a fault have none.
 #![tactic(auto)]
 
-ghost use Rattle.faultless_endpoints.specs.Laws.{MadeIsFaultless};
+ghost use Rattle.faultless_endpoints.specs.Laws.{MadeIsFaultless, MadeAsksKnown};
 
 /// What is made of units without a fault of names and beginnings has no such fault.
 pub fn made_is_faultless()
     ensures { MadeIsFaultless }
+{}
+
+/// What is made of units without a fault of names asks no host function that isn't there, if the table of
+/// lines has no others than those of the units.
+pub fn made_asks_known()
+    ensures { MadeAsksKnown }
 {}
