@@ -34,7 +34,7 @@ use Rattle.faultless_endpoints.proofs.Once.{keys_in, AreOnce, once, same_alone, 
 
 -- ---- what is declared
 
-channels_found : (cs : List Channel) (c : NameId) (k : Channel) → first_by sign_of_channel cs (alone c) ≡ Some k → network.channel_of (map channel_made cs) c ≡ Some (channel_made k)
+pub channels_found : (cs : List Channel) (c : NameId) (k : Channel) → first_by sign_of_channel cs (alone c) ≡ Some k → network.channel_of (map channel_made cs) c ≡ Some (channel_made k)
 channels_found [] c k h = absurd cc
 channels_found (x ∷ xs) c k h = go (same_key (alone c) (alone x.name.name)) refl h (channels_found xs c k) where
   go : (b : Bool) → same_key (alone c) (alone x.name.name) ≡ b → (if b then Some x else first_by sign_of_channel xs (alone c)) ≡ Some k
@@ -47,7 +47,7 @@ channels_found (x ∷ xs) c k h = go (same_key (alone c) (alone x.name.name)) re
   go false t f ih =
       ap (λ b. if b then Some (channel_made x) else network.channel_of (map channel_made xs) c) (number_turned x.name.name.0 c.0 ∙ sym (same_alone c x.name.name) ∙ t) ∙ ih f
 
-procedures_found : (ps : List Procedure) (f p : NameId) (q : Procedure) → first_by sign_of_procedure ps (both f p) ≡ Some q → network.procedure_of (map procedure_made ps) f p ≡ Some (procedure_made q)
+pub procedures_found : (ps : List Procedure) (f p : NameId) (q : Procedure) → first_by sign_of_procedure ps (both f p) ≡ Some q → network.procedure_of (map procedure_made ps) f p ≡ Some (procedure_made q)
 procedures_found [] f p q h = absurd cc
 procedures_found (x ∷ xs) f p q h = go ((f.0 == g.0) && (p.0 == r.0)) refl h (procedures_found xs f p q) where
   g : NameId
@@ -90,7 +90,7 @@ all_bound : (bs : List NameId) (ks : List Named) → flat_map (unbound bs) ks �
 all_bound bs [] h = refl
 all_bound bs (k ∷ ks) h = let two = nothing_of_two (unbound bs k) (flat_map (unbound bs) ks) h in and_both (is_among k.name bs) (all_among (names_in ks) bs) (bound bs k two.0) (all_bound bs ks two.1)
 
-bound_same : (a : Action) (bs : List NameId) → scoped.bound_after (action_of a) bs ≡ bound_after bs a
+pub bound_same : (a : Action) (bs : List NameId) → scoped.bound_after (action_of a) bs ≡ bound_after bs a
 bound_same (Join c r k) bs = refl
 bound_same (Send k b x) bs = refl
 bound_same (Recv k a x) bs = refl
@@ -101,7 +101,7 @@ bound_same (Set x v) bs = refl
 bound_same (Show v) bs = refl
 bound_same (Host x f v w) bs = refl
 
-label_known : (l : NameId) (arms : Arms) → has_label l (arms_of arms) ≡ is_known (keys_in (map sign_of_name (labels_of arms))) (alone l)
+pub label_known : (l : NameId) (arms : Arms) → has_label l (arms_of arms) ≡ is_known (keys_in (map sign_of_name (labels_of arms))) (alone l)
 label_known l NoArms = refl
 label_known l (Arm k b others) = ap (λ c. (l.0 == k.name.0) || c) (label_known l others) ∙ ap (λ c. c || is_known (keys_in (map sign_of_name (labels_of others))) (alone l)) (sym (same_alone l k.name))
 

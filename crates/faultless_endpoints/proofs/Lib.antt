@@ -3,3 +3,5 @@ pub mod Once
 pub mod Bodies
 pub mod Files
 pub mod Asked
+pub mod Backward
+pub mod Unmade

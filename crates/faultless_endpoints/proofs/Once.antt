@@ -13,7 +13,7 @@ use Rattle.endpoint_names.specs.Keys.{alone, both, same_key, is_known, sign_of_n
 use Rattle.endpoint_names.specs.Faults.{fault_at, repeated, names_in}
 use Rattle.endpoint_names.proofs.Keys.{key_turned}
 use Rattle.endpoint_making.specs.Making.{procedure_made, service_made}
-use Rattle.faultless_endpoints.proofs.Lists.{nothing_of_two, no_fault}
+use Rattle.faultless_endpoints.proofs.Lists.{nothing_of_two, no_fault, two_nothings, faultless}
 
 abbrev pub keys_in : List Sign → List Key
 keys_in ss = map (λ s. s.key) ss
@@ -105,3 +105,50 @@ single (s ∷ ss) h = one_service (sym (known_again ss s.channel.name s.role.nam
 
 pub single_services : (ss : List Service) → repeated [] (map sign_of_service ss) ≡ [] → AreSingle (map service_made ss)
 single_services ss h = single ss (once (map sign_of_service ss) h)
+
+-- ---- back
+
+or_neither : (a b : Bool) → a ≡ false → b ≡ false → (a || b) ≡ false
+or_neither a b h g = cc
+
+new_more : (known : List Key) (y : Key) (ks : List Key) → AreNew known ks → is_known ks y ≡ false → AreNew (known ++ y ∷ []) ks
+new_more known y [] h g = tt
+new_more known y (k ∷ ks) h g =
+    let apart : same_key k y ≡ false = key_turned k y ∙ or_left (same_key y k) (is_known ks y) g in
+    let here : is_known (known ++ y ∷ []) k ≡ false = list_any-append (same_key k) known (y ∷ []) ∙ or_neither (is_known known k) (is_known (y ∷ []) k) h.0 (or_neither (same_key k y) false apart refl) in
+    (here, new_more known y ks h.1 (or_right (same_key y k) (is_known ks y) g))
+
+new_once : (known : List Key) (ss : List Sign) → AreNew known (keys_in ss) → AreOnce (keys_in ss) → repeated known ss ≡ []
+new_once known [] h g = refl
+new_once known (s ∷ ss) h g =
+    two_nothings (fault_at (is_known known s.key) s.place) (repeated (known ++ s.key ∷ []) ss) (faultless (is_known known s.key) s.place h.0)
+    (new_once (known ++ s.key ∷ []) ss (new_more known s.key (keys_in ss) h.1 g.0) g.1)
+
+none_known : (ks : List Key) → AreNew [] ks
+none_known [] = tt
+none_known (k ∷ ks) = (refl, none_known ks)
+
+pub not_again : (ss : List Sign) → AreOnce (keys_in ss) → repeated [] ss ≡ []
+not_again ss h = new_once [] ss (none_known (keys_in ss)) h
+
+module _ {X : Type 0} (f : X → Named) where
+  name_once : (xs : List X) → AreDistinct (map (λ y. (f y).name) xs) → AreOnce (keys_in (map (λ y. sign_of_name (f y)) xs))
+  name_once [] h = tt
+  name_once (y ∷ ys) (one_more g h) = (known_name f ys (f y).name ∙ g, name_once ys h)
+
+  pub names_distinct : (xs : List X) → AreDistinct (map (λ y. (f y).name) xs) → repeated [] (map (λ y. sign_of_name (f y)) xs) ≡ []
+  names_distinct xs h = not_again (map (λ y. sign_of_name (f y)) xs) (name_once xs h)
+
+unit_once : (ps : List Procedure) → AreApart (map procedure_made ps) → AreOnce (keys_in (map sign_of_procedure ps))
+unit_once [] h = tt
+unit_once (q ∷ qs) (one_unit g h) = (known_unit qs q.signature.name.name q.signature.param.name ∙ g, unit_once qs h)
+
+pub units_apart : (ps : List Procedure) → AreApart (map procedure_made ps) → repeated [] (map sign_of_procedure ps) ≡ []
+units_apart ps h = not_again (map sign_of_procedure ps) (unit_once ps h)
+
+service_once : (ss : List Service) → AreSingle (map service_made ss) → AreOnce (keys_in (map sign_of_service ss))
+service_once [] h = tt
+service_once (s ∷ ss) (one_service g h) = (known_again ss s.channel.name s.role.name ∙ g, service_once ss h)
+
+pub services_single : (ss : List Service) → AreSingle (map service_made ss) → repeated [] (map sign_of_service ss) ≡ []
+services_single ss h = not_again (map sign_of_service ss) (service_once ss h)

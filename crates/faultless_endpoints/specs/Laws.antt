@@ -8,7 +8,7 @@ use Rattle.endpoint_reader.specs.declared.written.Process.{Process}
 use Rattle.endpoint_reader.specs.declared.written.Written.{Written}
 use Rattle.endpoint_reader.specs.Lines.{nexts_of}
 use Rattle.endpoint_code.specs.declared.endpoints.Endpoints.{Endpoints}
-use Rattle.endpoint_code.specs.Faults.{IsFaultless as IsFaultlessCode, AsksKnown, is_listed}
+use Rattle.endpoint_code.specs.Faults.{IsFaultless as IsFaultlessCode, IsFaultlessWith, AsksKnown, is_listed}
 use Rattle.endpoint_names.specs.Faults.{setting}
 use Rattle.endpoint_names.specs.Class.{IsFaultless}
 use Rattle.endpoint_making.specs.Making.{IsMadeOf}
@@ -33,3 +33,7 @@ abbrev pub MadeAsksKnown : Type 0
 MadeAsksKnown =
     (w : Written) (names texts hosts : List (List ℕ)) (e : Endpoints) → IsMadeOf w names texts e → AreUsed w → IsFaultless (setting w names hosts)
     → AsksKnown (is_listed hosts e) e
+
+-- and back: where what is made has no fault, the units have none
+abbrev pub FaultlessIsMade : Type 0
+FaultlessIsMade = (w : Written) (names texts hosts : List (List ℕ)) (e : Endpoints) → IsMadeOf w names texts e → IsFaultlessWith hosts e → IsFaultless (setting w names hosts)

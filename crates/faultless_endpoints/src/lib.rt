@@ -1,7 +1,7 @@
 //! Endpoint programs that are written without a fault have none.
 #![tactic(auto)]
 
-ghost use Rattle.faultless_endpoints.specs.Laws.{MadeIsFaultless, MadeAsksKnown};
+ghost use Rattle.faultless_endpoints.specs.Laws.{MadeIsFaultless, MadeAsksKnown, FaultlessIsMade};
 
 /// What is made of units without a fault of names and beginnings has no such fault.
 pub fn made_is_faultless()
@@ -12,4 +12,9 @@ pub fn made_is_faultless()
 /// lines has no others than those of the units.
 pub fn made_asks_known()
     ensures { MadeAsksKnown }
+{}
+
+/// And back: where what is made has no fault, the units that it is made of have none.
+pub fn faultless_is_made()
+    ensures { FaultlessIsMade }
 {}
