@@ -1,8 +1,11 @@
 -- What contracts see of an office.
-use Rattle.std.specs.Prelude.{ℕ, Bool, List, [], ◌∷◌, map, not, Option, Some, None, slice_get, slice_set}
+use Rattle.std.specs.Prelude.{◌-◌, ◌≡◌, ℕ, Bool, List, [], ◌∷◌, map, not, Option, Some, None, slice_get, slice_set, Vec, vec_capacity, vec_len}
+use Rattle.std.specs.declared.alloc.Global.{Global}
 use Rattle.chor_base.specs.declared.names.NameId.{NameId}
 use Rattle.chor_base.specs.declared.event.Entry.{Entry}
 use Rattle.chor_base.specs.declared.event.Event.{Event}
+use Rattle.chor_base.specs.declared.event.Event.TheVariants as event
+use Rattle.chor_base.specs.declared.value.Load.{Load}
 use Rattle.chor_base.specs.Events.{Triple}
 use Rattle.chor_base.specs.Meaning.{Hosts}
 use Rattle.endpoint_code.specs.declared.endpoints.Endpoints.{Endpoints}
@@ -25,6 +28,13 @@ pub record OfficeView : Type 0 where
   pub sid : ℕ
   pub desks : List Desk
   pub room : ℕ
+
+abbrev pub room_in : Vec Entry Global → ℕ
+room_in h = vec_capacity h - vec_len h
+
+abbrev pub office_of : Endpoints → Hosts → Option ℕ → Vec Entry Global → QueueTable → ℕ → List Desk → OfficeView
+office_of e hosts capacity history queues sid desks =
+    record { endpoints = e; hosts = hosts; capacity = capacity; history = history.items; queues = queues; sid = sid; desks = desks; room = room_in history }
 
 -- ---- what was posted
 
@@ -71,6 +81,10 @@ IsAfter v n = IsNetworkRun v.endpoints v.hosts v.capacity (events_of v.history) 
 -- after the events so far, this can be the next, whether or not its queue is full
 abbrev pub CanMake : OfficeView → Event → Type 0
 CanMake v x = (n : NetworkState) → IsAfter v n → (m : NetworkState) × NetworkSteps v.endpoints v.hosts None n x m
+
+-- the process stands where it receives what is first in a queue, if anything is
+abbrev pub CanReceive : OfficeView → ℕ → Triple → Type 0
+CanReceive v p t = (l : Load) → slice_get (loads_at v.queues t) 0 ≡ Some l → CanMake v (event.Recv p t.0 t.1 t.2 l)
 
 -- a declared capacity is reached on a triple
 abbrev pub is_full : OfficeView → Triple → Bool

@@ -37,8 +37,7 @@ pub struct Office<'a> {
 }
 
 impl<'a> Model for Office<'a> {
-    ghost use Rattle.std.specs.Prelude.{vec_capacity, vec_len, ◌-◌};
-    ghost use Rattle.post_office.specs.Views.{OfficeView};
+    ghost use Rattle.post_office.specs.Views.{OfficeView, office_of};
     ghost use Rattle.post_office.specs.Kept.{IsKept};
 
     ghost Value = { OfficeView };
@@ -48,9 +47,9 @@ impl<'a> Model for Office<'a> {
 
     ghost coded = { Prim.hlevel (codes, whole.the_row.coded) };
 
-    ghost view = { λ a. record { endpoints = a.endpoints.now; hosts = a.hosts.items; capacity = a.capacity; history = a.history.items; queues = a.queues; sid = a.sid; desks = a.desks.items; room = vec_capacity a.history - vec_len a.history } };
+    ghost view = { λ a. office_of a.endpoints.now a.hosts.items a.capacity a.history a.queues a.sid a.desks.items };
 
-    ghost invariant = { λ a. IsKept (record { endpoints = a.endpoints.now; hosts = a.hosts.items; capacity = a.capacity; history = a.history.items; queues = a.queues; sid = a.sid; desks = a.desks.items; room = vec_capacity a.history - vec_len a.history }) };
+    ghost invariant = { λ a. IsKept (office_of a.endpoints.now a.hosts.items a.capacity a.history a.queues a.sid a.desks.items) };
 }
 
 impl<'a> Office<'a> {

@@ -1,10 +1,9 @@
 //! Sends, receipts and local events.
 
 ghost use Rattle.std.specs.Prelude.{◌≡◌, ◌≤◌, Some, [], slice_get, OnOk, OnErr, IsOk, true};
-ghost use Rattle.chor_base.specs.declared.value.Load.{Load as AnyLoad};
 ghost use Rattle.chor_base.specs.declared.event.Event.TheVariants as event;
 ghost use Rattle.post_office.specs.Queues.{loads_at, room_at};
-ghost use Rattle.post_office.specs.Views.{CanMake, is_full};
+ghost use Rattle.post_office.specs.Views.{CanMake, CanReceive, is_full};
 ghost use Rattle.post_office.specs.Answers.{IsSame, HasActed, AnswersSend, AnswersReceipt, is_local};
 
 use super::Office;
@@ -91,7 +90,7 @@ impl Office<'_> {
     /// that takes it.
     pub fn recv(&mut self, worker: u32, pid: u32, sid: u32, from: NameId, to: NameId) -> Received
         requires room { 1 ≤ self.old.room }
-        requires stands { (load : AnyLoad) → slice_get (loads_at self.old.queues (sid, from, to)) 0 ≡ Some load → CanMake self.old (event.Recv pid sid from to load) }
+        requires stands { CanReceive self.old pid (sid, from, to) }
         ensures { AnswersReceipt self.old worker pid (sid, from, to) result self.new }
     {
         let triple = Triple { sid, from, to };

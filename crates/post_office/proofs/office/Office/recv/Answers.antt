@@ -4,7 +4,7 @@ use Rattle.chor_base.specs.declared.value.Load.{Load}
 use Rattle.chor_base.specs.Events.{Triple}
 use Rattle.chor_base.specs.declared.event.Event.TheVariants as event
 use Rattle.post_office.specs.Queues.{loads_at}
-use Rattle.post_office.specs.Views.{OfficeView, CanMake}
+use Rattle.post_office.specs.Views.{OfficeView, CanReceive}
 use Rattle.post_office.proofs.Acting.{acted_kept, none_first, take_flows}
 use Rattle.post_office.proofs.office.Office.recv.Goals as goal
 
@@ -12,7 +12,7 @@ pub invariant_of-self : goal.invariant_of-self
 invariant_of-self c =
     let t : Triple = (c.args.sid, c.args.from, c.args.to) in
     let x = event.Recv c.args.pid c.args.sid c.args.from c.args.to c.in-Some.load in
-    let can = subst (λ (v : OfficeView). (l : Load) → slice_get (loads_at v.queues t) 0 ≡ Some l → CanMake v (event.Recv c.args.pid c.args.sid c.args.from c.args.to l)) (sym c.self.view_is) c.requires.stands in
+    let can = subst (λ (v : OfficeView). CanReceive v c.args.pid t) (sym c.self.view_is) c.requires.stands in
     acted_kept c.self.invariant x c.args.pid refl refl (can c.in-Some.load (sym c.in-Some.ensures)) tt c.args.worker c.append.new.history.items c.take.new.self c.make_busy.new.desks.items _
     c.append.ensures.items (take_flows c.self.inside.queues c.take.new.self t c.in-Some.load c.take.ensures (sym c.in-Some.ensures)) c.make_busy.ensures
 
