@@ -8,3 +8,6 @@ pub mod Starting
 pub mod Scoped
 pub mod Reached
 pub mod Begins
+pub mod Held
+pub mod Sound
+pub mod HeldOnce

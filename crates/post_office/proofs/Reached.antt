@@ -110,7 +110,7 @@ node_goes cap n p v vars ss End x k h = absurd cc
 abbrev pub AreSomewhere : Endpoints → List Machine → Type 0
 AreSomewhere e ms = (p : ℕ) (m : Machine) → slice_get ms p ≡ Some m → IsSomewhere e m.at
 
-get-set_own : (ms : List Machine) (p : ℕ) (m w : Machine) → slice_get (slice_set ms p m) p ≡ Some w → m ≡ w
+pub get-set_own : (ms : List Machine) (p : ℕ) (m w : Machine) → slice_get (slice_set ms p m) p ≡ Some w → m ≡ w
 get-set_own [] p m w h = absurd cc
 get-set_own (x ∷ ms) zero m w h = cc
 get-set_own (x ∷ ms) (suc p) m w h = get-set_own ms p m w h
@@ -130,7 +130,7 @@ module _ (e : Endpoints) where
   append_somewhere (x ∷ ms) ns a b zero m h = a zero m h
   append_somewhere (x ∷ ms) ns a b (suc p) m h = append_somewhere ms ns (λ q w i. a (suc q) w i) b p m h
 
-  first_somewhere : (ps : List Process) → All (λ p. IsScoped e p.body []) ps → AreSomewhere e (standing_all ps)
+  pub first_somewhere : (ps : List Process) → All (λ p. IsScoped e p.body []) ps → AreSomewhere e (standing_all ps)
   first_somewhere [] all p m h = absurd cc
   first_somewhere (x ∷ ps) all zero m h =
       let is : x.body ≡ m.at = (let w : Machine = record { at = x.body; vars = fin.empty; sessions = fin.empty } in let s : w ≡ m = cc in ap (λ (y : Machine). y.at) s) in
@@ -221,7 +221,7 @@ module _ (e : Endpoints) (faultless : IsFaultless e) where
           subst (λ (w : List (ℕ × Machine)). AreSomewhere e (with_machines ms w)) is
           (again ws g (slice_set ms q.1 m) (set_somewhere e ms q.1 m a (joined_somewhere (slice_get n.machines q.1) c q.0 s m (λ w j. all q.1 w j) f)))
 
-  started_somewhere : (n k : NetworkState) (c : NameId) (ps : List ℕ) (x : Event) → AreSomewhere e n.machines → starts e n c ps ≡ Some (Makes x k) → AreSomewhere e k.machines
+  pub started_somewhere : (n k : NetworkState) (c : NameId) (ps : List ℕ) (x : Event) → AreSomewhere e n.machines → starts e n c ps ≡ Some (Makes x k) → AreSomewhere e k.machines
   started_somewhere n k c ps x all h = at_channel (channel_of e.channels c) refl h
     where
       at_joiners : (y : Channel) → channel_of e.channels c ≡ Some y → (qs : List (NameId × ℕ)) (o : Option (List (ℕ × Machine))) → joiners e n c n.sid qs ≡ o → begun e n c y qs o ≡ Some (Makes x k) → AreSomewhere e k.machines
@@ -243,7 +243,7 @@ module _ (e : Endpoints) (faultless : IsFaultless e) where
       at_channel None f i = absurd cc
       at_channel (Some y) f i = at_pairs y f (paired y.active ps) i
 
-  acted_somewhere : (cap : Option ℕ) (n k : NetworkState) (p : ℕ) (v : ℤ) (x : Event) → AreSomewhere e n.machines → makes e cap n p v ≡ Some (Makes x k) → AreSomewhere e k.machines
+  pub acted_somewhere : (cap : Option ℕ) (n k : NetworkState) (p : ℕ) (v : ℤ) (x : Event) → AreSomewhere e n.machines → makes e cap n p v ≡ Some (Makes x k) → AreSomewhere e k.machines
   acted_somewhere cap n k p v x all h = at_machine (slice_get n.machines p) refl h
     where
       at_place : (w : Machine) → slice_get n.machines p ≡ Some w → (o : Option Place) → place_of e w ≡ o → place_makes cap n p v w.vars o ≡ Some (Makes x k) → AreSomewhere e k.machines

@@ -1,0 +1,465 @@
+-- In each state that a run of a network reaches, each role is held once.
+use Rattle.std.proofs.Common.{◌≡◌, ◌≢◌, ℕ, zero, suc, ◌+◌, ◌<◌, ◌==◌, ◌&&◌, ◌||◌, ◌⊎◌, inl, inr, Bool, true, false, cond, List, [], ◌∷◌, ◌++◌, length, refl, sym, ap, ◌∙◌, subst, Option, Some, None, ℤ, arith, if◌then◌else◌, append_assoc}
+use Rattle.std.specs.Prelude.{slice_get, slice_set, map, All}
+use Rattle.std.specs.FinMap as fin
+use Rattle.std.specs.Ordering.{nat_cmp}
+use Rattle.std.proofs.lemmas.Bool.Decides.{nat_tests}
+use Rattle.std.proofs.lemmas.List.{append-nil}
+use Rattle.std.proofs.lemmas.Option.{get_or_from_slice_get, slice_get_within}
+use Rattle.chor_base.specs.declared.names.NameId.{NameId}
+use Rattle.chor_base.specs.declared.value.Value.TheVariants.{Part as Endpoint}
+use Rattle.chor_base.specs.declared.value.Value.{Value}
+use Rattle.chor_base.specs.declared.value.Load.TheVariants.{Value as Carries}
+use Rattle.chor_base.specs.declared.event.Event.{Event}
+use Rattle.chor_base.specs.NameMap.{Variables}
+use Rattle.chor_base.specs.Meaning.{Hosts}
+use Rattle.endpoint_code.specs.declared.code.CodeId.{CodeId}
+use Rattle.endpoint_code.specs.declared.code.CodeNode.{CodeNode}
+use Rattle.endpoint_code.specs.declared.code.CodeNode.TheVariants.{Join, Send, Recv, Pick, Branch, Throw, Catch, Set, Show, Host, If, Call, End}
+use Rattle.endpoint_code.specs.declared.endpoints.Channel.{Channel}
+use Rattle.endpoint_code.specs.declared.endpoints.Procedure.{Procedure}
+use Rattle.endpoint_code.specs.declared.endpoints.Process.{Process as Named}
+use Rattle.endpoint_code.specs.declared.endpoints.Endpoints.{Endpoints}
+use Rattle.endpoint_code.specs.Kept.{node_there, has_name, has_text}
+use Rattle.endpoint_code.specs.Faults as scope
+use Rattle.endpoint_code.specs.Faults.{IsScoped, AreDistinct, no_name, one_more, is_among, HasNoNameFault, IsFaultless}
+use Rattle.endpoint_code.specs.Network.{Sessions, Machine, NetworkState, Place, Makes, node_at, at_node, procedure_of, body_place, place_in, place_of, passed, moved, queue_of, place_makes, machine_makes, makes, node_joins, place_joins, joins, one_joiner, joiners, with_machines, service_of, served, channel_of, begun, paired, one_pair, starts_with, channel_starts, starts, standing_all, NetworkSteps, acts, begins, first_state}
+use Rattle.endpoint_code.specs.NetworkRuns.{NetworkLeads, IsNetworkRun}
+use Rattle.post_office.proofs.Acting.{same_number, other_number}
+use Rattle.post_office.proofs.Casts.{name_same}
+use Rattle.post_office.proofs.Steps.{get-set_other}
+use Rattle.post_office.proofs.Starting.{NotIn}
+use Rattle.post_office.proofs.Scoped.{IsSomewhere, IsPlaced, is_placed}
+use Rattle.post_office.proofs.Reached.{AreSomewhere, acted_somewhere, started_somewhere, first_somewhere, channel_has, get-set_own}
+use Rattle.post_office.proofs.Held.{AreOnce, AreFrom, passed_from, passed_once, Holder, Process, Transit, held_by, HoldsAt, IsUnique, IsNowhere, added_unique, once_in, was_held, replaced_unique, get_bound, none_bound}
+use Rattle.post_office.proofs.Sound.{ArePlain, IsSound, plain_set, moved_sound, bound_split, node_sound}
+
+-- ---- places
+
+-- the sessions passed at a call stand once
+call_distinct : {e : Endpoints} {id : CodeId} {bs : List NameId} → IsScoped e id bs → (f p : NameId) (ss : List NameId) → node_at e id ≡ Some (Call f p ss) → AreDistinct ss
+call_distinct (scope.joins h a u s) f p ss m = absurd cc
+call_distinct (scope.sends h a s) f p ss m = absurd cc
+call_distinct (scope.receives h a s) f p ss m = absurd cc
+call_distinct (scope.picks h a s) f p ss m = absurd cc
+call_distinct (scope.offers h a d s) f p ss m = absurd cc
+call_distinct (scope.gives h a b s) f p ss m = absurd cc
+call_distinct (scope.gains h a b s) f p ss m = absurd cc
+call_distinct (scope.sets h s) f p ss m = absurd cc
+call_distinct (scope.shows h s) f p ss m = absurd cc
+call_distinct (scope.asks h s) f p ss m = absurd cc
+call_distinct (scope.tests h s t) f p ss m = absurd cc
+call_distinct (scope.calls {ss = ts} h a b c d) f p ss m = (let is : ts ≡ ss = cc in subst AreDistinct is d)
+call_distinct (scope.ends h) f p ss m = absurd cc
+
+same_from : (ss ts : Sessions) → ts ≡ ss → AreFrom ss ts
+same_from ss ts is k v h = (k, subst (λ (m : Sessions). fin.get m k ≡ Some v) (sym is) h)
+
+-- what a process's names stand for where it is
+pub place_names : (e : Endpoints) (id : CodeId) (m : Sessions) (q : Place) → IsSomewhere e id → AreOnce m → place_in e (node_at e id) m ≡ Some q → AreFrom q.sessions m × AreOnce q.sessions
+place_names e id m q somewhere once h = go (node_at e id) refl h
+  where
+    same : (node : CodeNode) (ts : Sessions) → at_node (Some node) ts ≡ Some q → ts ≡ q.sessions
+    same node ts i = (let place : Place = record { node = node; sessions = ts } in let j : place ≡ q = cc in ap (λ (w : Place). w.sessions) j)
+
+    stays : (node : CodeNode) → at_node (Some node) m ≡ Some q → AreFrom q.sessions m × AreOnce q.sessions
+    stays node i = (same_from q.sessions m (same node m i), subst AreOnce (same node m i) once)
+
+    in_body : (ss : List NameId) → AreDistinct ss → (o : Option Procedure) → body_place e o ss m ≡ Some q → AreFrom q.sessions m × AreOnce q.sessions
+    in_body ss d None i = absurd cc
+    in_body ss d (Some r) i = at_body (node_at e r.body) i
+      where
+        at_body : (o : Option CodeNode) → at_node o (passed r.sessions ss m) ≡ Some q → AreFrom q.sessions m × AreOnce q.sessions
+        at_body None j = absurd cc
+        at_body (Some node) j =
+            let is = same node (passed r.sessions ss m) j in
+            (subst (λ (w : Sessions). AreFrom w m) is (passed_from r.sessions ss m), subst AreOnce is (passed_once r.sessions ss m d once))
+
+    go : (o : Option CodeNode) → node_at e id ≡ o → place_in e o m ≡ Some q → AreFrom q.sessions m × AreOnce q.sessions
+    go None f i = absurd cc
+    go (Some (Call g p ss)) f i = in_body ss (call_distinct somewhere.1 g p ss f) (procedure_of e.procedures g p) i
+    go (Some (Join c r k a)) f i = stays (Join c r k a) i
+    go (Some (Send k c x a)) f i = stays (Send k c x a) i
+    go (Some (Recv k c x a)) f i = stays (Recv k c x a) i
+    go (Some (Pick k c l a)) f i = stays (Pick k c l a) i
+    go (Some (Branch k c arms)) f i = stays (Branch k c arms) i
+    go (Some (Throw k c g a)) f i = stays (Throw k c g a) i
+    go (Some (Catch k c g a)) f i = stays (Catch k c g a) i
+    go (Some (Set x v a)) f i = stays (Set x v a) i
+    go (Some (Show v a)) f i = stays (Show v a) i
+    go (Some (Host x g v w a)) f i = stays (Host x g v w a) i
+    go (Some (If v a c)) f i = stays (If v a c) i
+    go (Some End) f i = stays End i
+
+all_at : {X : Type 0} (P : X → Type 0) (xs : List X) (i : ℕ) (x : X) → All P xs → slice_get xs i ≡ Some x → P x
+all_at P xs i x all h = subst P (get_or_from_slice_get xs i x x h) (all i x (slice_get_within xs i x h))
+
+-- ---- a step of one process
+
+acted_sound : (e : Endpoints) → IsFaultless e → (cap : Option ℕ) (n k : NetworkState) (p : ℕ) (v : ℤ) (x : Event) → AreSomewhere e n.machines → IsSound n → makes e cap n p v ≡ Some (Makes x k) → IsSound k
+acted_sound e faultless cap n k p v x all sound h = at_machine (slice_get n.machines p) refl h
+  where
+    at_place : (w : Machine) → slice_get n.machines p ≡ Some w → (o : Option Place) → place_of e w ≡ o → place_makes cap n p v w.vars o ≡ Some (Makes x k) → IsSound k
+    at_place w f None g i = absurd cc
+    at_place w f (Some q) g i =
+        let placed = is_placed e faultless.names w.at w.sessions q (all p w f) g in
+        let names = place_names e w.at w.sessions q (all p w f) (once_in n p w sound.unique f) g in
+        let kept : node_there (has_name e.names) (has_text e.texts) q.node ≡ true = all_at (λ (o : CodeNode). node_there (has_name e.names) (has_text e.texts) o ≡ true) e.code.nodes placed.id.0 q.node e.numbered.in_nodes placed.found in
+        node_sound n p w f sound q.sessions names.0 names.1 cap v q.node (has_name e.names) (has_text e.texts) kept x k i
+
+    at_machine : (o : Option Machine) → slice_get n.machines p ≡ o → machine_makes e cap n p v o ≡ Some (Makes x k) → IsSound k
+    at_machine None f i = absurd cc
+    at_machine (Some w) f i = at_place w f (place_of e w) refl i
+
+-- ---- a start
+
+-- a process that joins a session has it under one more name
+record HasOneMore (e : Endpoints) (w : Machine) (c r : NameId) (s : ℕ) (m : Machine) : Type 0 where
+  sessions : Sessions
+  key : ℕ
+  from : AreFrom sessions w.sessions
+  once : AreOnce sessions
+  is : m.sessions ≡ fin.insert sessions key (s, r)
+  vars : m.vars ≡ w.vars
+
+joined_more : (e : Endpoints) (w : Machine) (c r : NameId) (s : ℕ) (m : Machine) → IsSomewhere e w.at → AreOnce w.sessions → joins e (Some w) c r s ≡ Some m → HasOneMore e w c r s m
+joined_more e w c r s m somewhere once h = at_place (place_of e w) refl h
+  where
+    at_node : (q : Place) → AreFrom q.sessions w.sessions × AreOnce q.sessions → (node : CodeNode) → node_joins node w.vars q.sessions c r s ≡ Some m → HasOneMore e w c r s m
+    at_node q names (Join d o k next) i = go ((d.0 == c.0) && (o.0 == r.0)) i
+      where
+        go : (b : Bool) → (if b then Some (record { at = next; vars = w.vars; sessions = fin.insert q.sessions k.0 (s, r) }) else None) ≡ Some m → HasOneMore e w c r s m
+        go false j = absurd cc
+        go true j =
+            let y : Machine = record { at = next; vars = w.vars; sessions = fin.insert q.sessions k.0 (s, r) } in
+            let same : y ≡ m = cc in
+            record { sessions = q.sessions; key = k.0; from = names.0; once = names.1; is = sym (ap (λ (z : Machine). z.sessions) same); vars = sym (ap (λ (z : Machine). z.vars) same) }
+    at_node q names (Send k b x next) i = absurd cc
+    at_node q names (Recv k a x next) i = absurd cc
+    at_node q names (Pick k b l next) i = absurd cc
+    at_node q names (Branch k a arms) i = absurd cc
+    at_node q names (Throw k b g next) i = absurd cc
+    at_node q names (Catch k a g next) i = absurd cc
+    at_node q names (Set x v next) i = absurd cc
+    at_node q names (Show v next) i = absurd cc
+    at_node q names (Host x g v u next) i = absurd cc
+    at_node q names (If v t u) i = absurd cc
+    at_node q names (Call g o ss) i = absurd cc
+    at_node q names End i = absurd cc
+
+    at_place : (o : Option Place) → place_of e w ≡ o → place_joins o w.vars c r s ≡ Some m → HasOneMore e w c r s m
+    at_place None f i = absurd cc
+    at_place (Some q) f i = at_node q (place_names e w.at w.sessions q somewhere once f) q.node i
+
+-- a process joins a channel in one role only
+one_role : (e : Endpoints) (o : Option Machine) (c r q : NameId) (s : ℕ) (m k : Machine) → joins e o c r s ≡ Some m → joins e o c q s ≡ Some k → r.0 ≡ q.0
+one_role e None c r q s m k h g = absurd cc
+one_role e (Some w) c r q s m k h g = at_place (place_of e w) h g
+  where
+    none : (b : Bool) (x y : Machine) → b ≡ false → (if b then Some x else None) ≡ Some y → ⊥
+    none true x y i j = absurd cc
+    none false x y i j = absurd cc
+
+    at_node : (node : CodeNode) (ss : Sessions) → node_joins node w.vars ss c r s ≡ Some m → node_joins node w.vars ss c q s ≡ Some k → r.0 ≡ q.0
+    at_node (Join d o y next) ss i j = go ((d.0 == c.0) && (o.0 == r.0)) refl ((d.0 == c.0) && (o.0 == q.0)) refl
+      where
+        go : (a : Bool) → ((d.0 == c.0) && (o.0 == r.0)) ≡ a → (b : Bool) → ((d.0 == c.0) && (o.0 == q.0)) ≡ b → r.0 ≡ q.0
+        go true x true z = grind (arith, nat_tests)
+        go false x b z = absurd (none ((d.0 == c.0) && (o.0 == r.0)) (record { at = next; vars = w.vars; sessions = fin.insert ss y.0 (s, r) }) m x i)
+        go true x false z = absurd (none ((d.0 == c.0) && (o.0 == q.0)) (record { at = next; vars = w.vars; sessions = fin.insert ss y.0 (s, q) }) k z j)
+    at_node (Send k b x next) ss i j = absurd cc
+    at_node (Recv k a x next) ss i j = absurd cc
+    at_node (Pick k b l next) ss i j = absurd cc
+    at_node (Branch k a arms) ss i j = absurd cc
+    at_node (Throw k b g next) ss i j = absurd cc
+    at_node (Catch k a g next) ss i j = absurd cc
+    at_node (Set x v next) ss i j = absurd cc
+    at_node (Show v next) ss i j = absurd cc
+    at_node (Host x g v u next) ss i j = absurd cc
+    at_node (If v t u) ss i j = absurd cc
+    at_node (Call g o ts) ss i j = absurd cc
+    at_node End ss i j = absurd cc
+
+    at_place : (o : Option Place) → place_joins o w.vars c r s ≡ Some m → place_joins o w.vars c q s ≡ Some k → r.0 ≡ q.0
+    at_place None i j = absurd cc
+    at_place (Some x) i j = at_node x.node x.sessions i j
+
+-- in the middle of the start of session s: the roles that are still to come are not yet held
+record IsStarting (n : NetworkState) (s : ℕ) (roles : List NameId) : Type 0 where
+  unique : IsUnique n
+  started : (v : ℕ × NameId) (l : Holder) → HoldsAt n v l → (v.0 < s) ⊎ ((v.0 ≡ s) × (is_among v.1 roles ≡ false))
+  plain : (p : ℕ) (m : Machine) → slice_get n.machines p ≡ Some m → ArePlain m.vars
+
+among_own : (r : NameId) (rs : List NameId) → is_among r (r ∷ rs) ≡ true
+among_own r rs = go (r.0 == r.0) (grind (arith, nat_tests))
+  where
+    go : (b : Bool) → b ≡ true → (b || is_among r rs) ≡ true
+    go true h = refl
+    go false h = absurd cc
+
+not_rest : (x r : NameId) (rs : List NameId) → is_among x (r ∷ rs) ≡ false → is_among x rs ≡ false
+not_rest x r rs h = go (x.0 == r.0) h
+  where
+    go : (b : Bool) → (b || is_among x rs) ≡ false → is_among x rs ≡ false
+    go true i = absurd cc
+    go false i = i
+
+fresh : {n : NetworkState} {s : ℕ} {r : NameId} {rs : List NameId} → IsStarting n s (r ∷ rs) → IsNowhere n (s, r)
+fresh {n} {s} {r} {rs} starting l h = go (starting.started (s, r) l h)
+  where
+    go : (s < s) ⊎ ((s ≡ s) × (is_among r (r ∷ rs) ≡ false)) → ⊥
+    go (inl lt) = omega arith
+    go (inr x) = (let yes = among_own r rs in let no : is_among r (r ∷ rs) ≡ false = x.1 in cc)
+
+-- one more holder of a new role
+one_more_held : (n k : NetworkState) (s : ℕ) (r : NameId) (rs : List NameId) (at : Holder) → is_among r rs ≡ false → IsStarting n s (r ∷ rs)
+    → ((v : ℕ × NameId) (l : Holder) → HoldsAt k v l → ((l ≡ at) × ((s, r) ≡ v)) ⊎ HoldsAt n v l) → ((p : ℕ) (m : Machine) → slice_get k.machines p ≡ Some m → ArePlain m.vars) → IsStarting k s rs
+one_more_held n k s r rs at apart starting split plain = record {
+  unique = added_unique n k (s, r) at split (fresh starting) starting.unique;
+  started = λ v l h. elim (split v l h) [
+    | inl x ↦ inr (subst (λ (y : ℕ × NameId). (y.0 ≡ s) × (is_among y.1 rs ≡ false)) x.1 (refl, apart))
+    | inr x ↦ elim (starting.started v l x) [ inl lt ↦ inl lt | inr y ↦ inr (y.0, not_rest v.1 r rs y.1) ]
+  ];
+  plain = plain;
+}
+
+-- the machines of these parts are as before the start
+Untouched : NetworkState → List Machine → List (NameId × ℕ) → Type 0
+Untouched n ms [] = Unit {0}
+Untouched n ms (q ∷ ps) = (slice_get ms q.1 ≡ slice_get n.machines q.1) × Untouched n ms ps
+
+untouched_set : (n : NetworkState) (ms : List Machine) (ps : List (NameId × ℕ)) (p : ℕ) (m : Machine) → NotIn p (map (λ q. q.1) ps) → Untouched n ms ps → Untouched n (slice_set ms p m) ps
+unfolding Untouched
+untouched_set n ms [] p m h u = tt
+untouched_set n ms (q ∷ ps) p m h u = (get-set_other ms p q.1 m (λ e. h.0 (sym e)) ∙ u.0, untouched_set n ms ps p m h.1 u.1)
+
+untouched_all : (n : NetworkState) (ps : List (NameId × ℕ)) → Untouched n n.machines ps
+unfolding Untouched
+untouched_all n [] = tt
+untouched_all n (q ∷ ps) = (refl, untouched_all n ps)
+
+-- the roles of parts, and then others
+abbrev and_roles : List (NameId × ℕ) → List NameId → List NameId
+and_roles ps rs = map (λ q. q.0) ps ++ rs
+
+none_set : ArePlain (fin.empty {R = nat_cmp})
+none_set x v h = (let j : None ≡ Some v = sym (fin.get-empty nat_cmp x) ∙ h in absurd cc)
+
+distinct_back : (xs ys : List NameId) → AreDistinct (xs ++ ys) → AreDistinct ys
+distinct_back [] ys d = d
+distinct_back (x ∷ xs) ys (one_more n d) = distinct_back xs ys d
+
+starting_moved : (n : NetworkState) (s : ℕ) (roles : List NameId) (p : ℕ) (w : Machine) → slice_get n.machines p ≡ Some w → IsStarting n s roles → (at : CodeId) (vars : Variables) (ss : Sessions) → AreFrom ss w.sessions → AreOnce ss → ArePlain vars → IsStarting (moved n p at vars ss) s roles
+starting_moved n s roles p w there starting at vars ss from once plain =
+    let m : Machine = record { at = at; vars = vars; sessions = ss } in
+    record {
+      unique = replaced_unique n p w m there from once starting.unique;
+      started = λ v l h. (let o = was_held n p w m there from v l h in starting.started v o.0 o.1);
+      plain = plain_set n.machines p m starting.plain plain;
+    }
+
+not_again : (e : Endpoints) (n : NetworkState) (c : NameId) (s : ℕ) (q : NameId × ℕ) (m : Machine) → joins e (slice_get n.machines q.1) c q.0 s ≡ Some m → (ps : List (NameId × ℕ)) (js : List (ℕ × Machine)) → joiners e n c s ps ≡ Some js → (rs : List NameId) → is_among q.0 (and_roles ps rs) ≡ false → NotIn q.1 (map (λ x. x.1) ps)
+not_again e n c s q m one [] js h rs apart = tt
+not_again e n c s q m one (y ∷ ps) js h rs apart = (other, rest (λ ws f. not_again e n c s q m one ps ws f rs (not_rest q.0 y.0 (and_roles ps rs) apart)))
+  where
+    other : q.1 ≢ y.1
+    other same = go (joins e (slice_get n.machines y.1) c y.0 s) refl (joiners e n c s ps) h
+      where
+        go : (o : Option Machine) → joins e (slice_get n.machines y.1) c y.0 s ≡ o → (os : Option (List (ℕ × Machine))) → one_joiner y.1 o os ≡ Some js → ⊥
+        go None f os i = absurd cc
+        go (Some k) f os i =
+            let here : joins e (slice_get n.machines q.1) c y.0 s ≡ Some k = ap (λ x. joins e (slice_get n.machines x) c y.0 s) same ∙ f in
+            let role : q.0.0 ≡ y.0.0 = one_role e (slice_get n.machines q.1) c q.0 y.0 s m k one here in
+            clash (q.0.0 == y.0.0) (grind (arith, nat_tests)) apart
+          where
+            clash : (b : Bool) → b ≡ true → (b || is_among q.0 (and_roles ps rs)) ≡ false → ⊥
+            clash true a b = absurd cc
+            clash false a b = absurd cc
+
+    rest : ((ws : List (ℕ × Machine)) → joiners e n c s ps ≡ Some ws → NotIn q.1 (map (λ x. x.1) ps)) → NotIn q.1 (map (λ x. x.1) ps)
+    rest again = go (joins e (slice_get n.machines y.1) c y.0 s) (joiners e n c s ps) refl h
+      where
+        go : (o : Option Machine) (os : Option (List (ℕ × Machine))) → joiners e n c s ps ≡ os → one_joiner y.1 o os ≡ Some js → NotIn q.1 (map (λ x. x.1) ps)
+        go None os f i = absurd cc
+        go (Some k) None f i = absurd cc
+        go (Some k) (Some ws) f i = again ws f
+
+-- the processes of a start join one after another
+joined_starting : (e : Endpoints) (n : NetworkState) (c : NameId) (s : ℕ) → AreSomewhere e n.machines → IsUnique n → (ps : List (NameId × ℕ)) (js : List (ℕ × Machine)) → joiners e n c s ps ≡ Some js → (rs : List NameId) → AreDistinct (and_roles ps rs)
+    → (ms : List Machine) → Untouched n ms ps → IsStarting (record n { machines = ms }) s (and_roles ps rs) → IsStarting (record n { machines = with_machines ms js }) s rs
+unfolding Untouched
+joined_starting e n c s all unique [] js h rs d ms u starting = (let is : [] ≡ js = cc in subst (λ (w : List (ℕ × Machine)). IsStarting (record n { machines = with_machines ms w }) s rs) is starting)
+joined_starting e n c s all unique (q ∷ ps) js h rs (one_more apart d) ms u starting =
+    go (slice_get n.machines q.1) refl (joiners e n c s ps) refl h (λ ws f ns v more. joined_starting e n c s all unique ps ws f rs d ns v more)
+  where
+    go : (o : Option Machine) → slice_get n.machines q.1 ≡ o → (os : Option (List (ℕ × Machine))) → joiners e n c s ps ≡ os → one_joiner q.1 (joins e (slice_get n.machines q.1) c q.0 s) os ≡ Some js
+        → ((ws : List (ℕ × Machine)) → joiners e n c s ps ≡ Some ws → (ns : List Machine) → Untouched n ns ps → IsStarting (record n { machines = ns }) s (and_roles ps rs) → IsStarting (record n { machines = with_machines ns ws }) s rs)
+        → IsStarting (record n { machines = with_machines ms js }) s rs
+    go None f os g i again = (let j : one_joiner q.1 (joins e None c q.0 s) os ≡ Some js = sym (ap (λ (o : Option Machine). one_joiner q.1 (joins e o c q.0 s) os) f) ∙ i in absurd cc)
+    go (Some w) f os g i again = joined (joins e (slice_get n.machines q.1) c q.0 s) refl os g i
+      where
+        joined : (o : Option Machine) → joins e (slice_get n.machines q.1) c q.0 s ≡ o → (os : Option (List (ℕ × Machine))) → joiners e n c s ps ≡ os → one_joiner q.1 o os ≡ Some js → IsStarting (record n { machines = with_machines ms js }) s rs
+        joined None a os b j = absurd cc
+        joined (Some m) a None b j = absurd cc
+        joined (Some m) a (Some ws) b j =
+            let is : (q.1, m) ∷ ws ≡ js = cc in
+            subst (λ (x : List (ℕ × Machine)). IsStarting (record n { machines = with_machines ms x }) s rs) is
+            (again ws b (slice_set ms q.1 m) (untouched_set n ms ps q.1 m (not_again e n c s q m a ps ws b rs apart) u.1) more)
+          where
+            now : NetworkState
+            now = record n { machines = ms }
+
+            there : slice_get ms q.1 ≡ Some w
+            there = u.0 ∙ f
+
+            name : HasOneMore e w c q.0 s m
+            name = joined_more e w c q.0 s m (all q.1 w f) (once_in n q.1 w unique f) (sym (ap (λ (o : Option Machine). joins e o c q.0 s) f) ∙ a)
+
+            plain : ArePlain m.vars
+            plain = subst ArePlain (sym name.vars) (starting.plain q.1 w there)
+
+            renamed : IsStarting (moved (record n { machines = ms }) q.1 m.at m.vars name.sessions) s (q.0 ∷ and_roles ps rs)
+            renamed = starting_moved (record n { machines = ms }) s (q.0 ∷ and_roles ps rs) q.1 w there starting m.at m.vars name.sessions name.from name.once plain
+
+            split : (v : ℕ × NameId) (l : Holder) → HoldsAt (moved (record n { machines = ms }) q.1 m.at m.vars (fin.insert name.sessions name.key (s, q.0))) v l → ((l ≡ Process q.1 name.key) × ((s, q.0) ≡ v)) ⊎ HoldsAt (moved (record n { machines = ms }) q.1 m.at m.vars name.sessions) v l
+            split v (Transit t k) x = inr x
+            split v (Process p k) x = bound_split (record n { machines = ms }) q.1 w there m.at m.vars name.sessions name.key (s, q.0) v p k x
+
+            bound : IsStarting (moved (record n { machines = ms }) q.1 m.at m.vars (fin.insert name.sessions name.key (s, q.0))) s (and_roles ps rs)
+            bound = one_more_held (moved (record n { machines = ms }) q.1 m.at m.vars name.sessions) (moved (record n { machines = ms }) q.1 m.at m.vars (fin.insert name.sessions name.key (s, q.0))) s q.0 (and_roles ps rs) (Process q.1 name.key) apart renamed split
+                (plain_set ms q.1 (record { at = m.at; vars = m.vars; sessions = fin.insert name.sessions name.key (s, q.0) }) starting.plain plain)
+
+            more : IsStarting (record n { machines = slice_set ms q.1 m }) s (and_roles ps rs)
+            more = subst (λ (z : Sessions). IsStarting (record n { machines = slice_set ms q.1 (record { at = m.at; vars = m.vars; sessions = z }) }) s (and_roles ps rs)) (sym name.is) bound
+
+-- ---- new processes
+
+last_machine : (ms : List Machine) (x m : Machine) (p : ℕ) → slice_get (ms ++ x ∷ []) p ≡ Some m → ((p ≡ length ms) × (x ≡ m)) ⊎ (slice_get ms p ≡ Some m)
+last_machine [] x m zero h = inl (refl, cc)
+last_machine [] x m (suc p) h = absurd cc
+last_machine (y ∷ ms) x m zero h = inr h
+last_machine (y ∷ ms) x m (suc p) h = elim (last_machine ms x m p h) [ inl e ↦ inl (ap suc e.0, e.1) | inr e ↦ inr e ]
+
+served_starting : (e : Endpoints) (n : NetworkState) (c : NameId) (s : ℕ) (rs : List NameId) → AreDistinct rs → (ms : List Machine) → IsStarting (record n { machines = ms }) s rs → IsStarting (record n { machines = ms ++ served e c s rs }) s []
+served_starting e n c s [] d ms starting = subst (λ (w : List Machine). IsStarting (record n { machines = w }) s []) (sym (append-nil ms)) starting
+served_starting e n c s (r ∷ rs) (one_more apart d) ms starting =
+    subst (λ (w : List Machine). IsStarting (record n { machines = w }) s []) (append_assoc ms (new ∷ []) (served e c s rs)) (served_starting e n c s rs d (ms ++ new ∷ []) more)
+  where
+    new : Machine
+    new = record { at = service_of e.services c r; vars = fin.empty; sessions = fin.insert fin.empty c.0 (s, r) }
+
+    split : (v : ℕ × NameId) (l : Holder) → HoldsAt (record n { machines = ms ++ new ∷ [] }) v l → ((l ≡ Process (length ms) c.0) × ((s, r) ≡ v)) ⊎ HoldsAt (record n { machines = ms }) v l
+    split v (Transit t k) x = inr x
+    split v (Process p k) x = go (slice_get (ms ++ new ∷ []) p) refl x
+      where
+        go : (o : Option Machine) → slice_get (ms ++ new ∷ []) p ≡ o → held_by o k ≡ Some v → ((Process p k ≡ Process (length ms) c.0) × ((s, r) ≡ v)) ⊎ HoldsAt (record n { machines = ms }) v (Process p k)
+        go None f y = absurd cc
+        go (Some m) f y = elim (last_machine ms new m p f) [
+          | inl z ↦ own z.0 (subst (λ (w : Machine). fin.get w.sessions k ≡ Some v) (sym z.1) y)
+          | inr z ↦ inr (ap (λ (o : Option Machine). held_by o k) z ∙ y)
+        ]
+          where
+            own : p ≡ length ms → fin.get new.sessions k ≡ Some v → ((Process p k ≡ Process (length ms) c.0) × ((s, r) ≡ v)) ⊎ HoldsAt (record n { machines = ms }) v (Process p k)
+            own here z = elim (get_bound fin.empty c.0 (s, r) k v z) [
+              | inl b ↦ inl ((let key : k ≡ c.0 = b.0 in cc), b.1)
+              | inr b ↦ absurd (none_bound k v b.1)
+            ]
+
+    plain : (p : ℕ) (m : Machine) → slice_get (ms ++ new ∷ []) p ≡ Some m → ArePlain m.vars
+    plain p m h = elim (last_machine ms new m p h) [
+      | inl z ↦ subst (λ (w : Machine). ArePlain w.vars) z.1 none_set
+      | inr z ↦ starting.plain p m z
+    ]
+
+    more : IsStarting (record n { machines = ms ++ new ∷ [] }) s rs
+    more = one_more_held (record n { machines = ms }) (record n { machines = ms ++ new ∷ [] }) s r rs (Process (length ms) c.0) apart starting split plain
+
+-- ---- runs
+
+pair_roles : (rs : List NameId) (ps : List ℕ) (qs : List (NameId × ℕ)) → paired rs ps ≡ Some qs → map (λ q. q.0) qs ≡ rs
+pair_roles [] [] qs h = (let e : [] ≡ qs = cc in ap (map (λ q. q.0)) (sym e))
+pair_roles (r ∷ rs) (p ∷ ps) qs h = go (paired rs ps) refl h (λ xs f. pair_roles rs ps xs f)
+  where
+    go : (o : Option (List (NameId × ℕ))) → paired rs ps ≡ o → one_pair r p o ≡ Some qs → ((xs : List (NameId × ℕ)) → paired rs ps ≡ Some xs → map (λ q. q.0) xs ≡ rs) → map (λ q. q.0) qs ≡ r ∷ rs
+    go None f g again = absurd cc
+    go (Some xs) f g again = (let e : (r, p) ∷ xs ≡ qs = cc in ap (map (λ q. q.0)) (sym e) ∙ ap (λ (ns : List NameId). r ∷ ns) (again xs f))
+pair_roles [] (p ∷ ps) qs h = absurd cc
+pair_roles (r ∷ rs) [] qs h = absurd cc
+
+started_sound : (e : Endpoints) → IsFaultless e → (n k : NetworkState) (c : NameId) (ps : List ℕ) (x : Event) → AreSomewhere e n.machines → IsSound n → starts e n c ps ≡ Some (Makes x k) → IsSound k
+started_sound e faultless n k c ps x all sound h = at_channel (channel_of e.channels c) refl h
+  where
+    at_joiners : (y : Channel) → channel_of e.channels c ≡ Some y → (qs : List (NameId × ℕ)) → paired y.active ps ≡ Some qs → (o : Option (List (ℕ × Machine))) → joiners e n c n.sid qs ≡ o → begun e n c y qs o ≡ Some (Makes x k) → IsSound k
+    at_joiners y f qs g None i j = absurd cc
+    at_joiners y f qs g (Some ms) i j =
+        let last : NetworkState = record n { machines = with_machines n.machines ms ++ served e c n.sid y.serve; sid = suc n.sid } in
+        let is : last ≡ k = cc in
+        subst IsSound is sound_after
+      where
+        roles : and_roles qs y.serve ≡ y.active ++ y.serve
+        roles = ap (λ (rs : List NameId). rs ++ y.serve) (pair_roles y.active ps qs g)
+
+        distinct : AreDistinct (y.active ++ y.serve)
+        distinct = (channel_has e (λ (z : Channel). AreDistinct (z.active ++ z.serve)) e.channels c y faultless.names.roles f).0
+
+        beginning : IsStarting n n.sid (and_roles qs y.serve)
+        beginning = record { unique = sound.unique; started = λ v l a. inl (sound.started v l a); plain = sound.plain }
+
+        active : IsStarting (record n { machines = with_machines n.machines ms }) n.sid y.serve
+        active = joined_starting e n c n.sid all sound.unique qs ms i y.serve (subst AreDistinct (sym roles) distinct) n.machines (untouched_all n qs) beginning
+
+        serving : IsStarting (record n { machines = with_machines n.machines ms ++ served e c n.sid y.serve }) n.sid []
+        serving = served_starting e n c n.sid y.serve (distinct_back y.active y.serve distinct) (with_machines n.machines ms) active
+
+        sound_after : IsSound (record n { machines = with_machines n.machines ms ++ served e c n.sid y.serve; sid = suc n.sid })
+        sound_after = record {
+          unique = serving.unique;
+          started = λ v l a. elim (serving.started v l a) [ inl lt ↦ (let less : v.0 < n.sid = lt in omega arith) | inr z ↦ (let same : v.0 ≡ n.sid = z.0 in omega arith) ];
+          plain = serving.plain;
+        }
+
+    at_pairs : (y : Channel) → channel_of e.channels c ≡ Some y → (o : Option (List (NameId × ℕ))) → paired y.active ps ≡ o → starts_with e n c y o ≡ Some (Makes x k) → IsSound k
+    at_pairs y f None g i = absurd cc
+    at_pairs y f (Some []) g i = absurd cc
+    at_pairs y f (Some (q ∷ qs)) g i = at_joiners y f (q ∷ qs) g (joiners e n c n.sid (q ∷ qs)) refl i
+
+    at_channel : (o : Option Channel) → channel_of e.channels c ≡ o → channel_starts e n c ps o ≡ Some (Makes x k) → IsSound k
+    at_channel None f i = absurd cc
+    at_channel (Some y) f i = at_pairs y f (paired y.active ps) refl i
+
+first_sound : (e : Endpoints) → IsSound (first_state e)
+first_sound e = record {
+  unique = λ v l m a b. absurd (none v l a);
+  started = λ v l h. absurd (none v l h);
+  plain = λ p m h. plain_all e.processes p m h;
+}
+  where
+    none_by : (ps : List Named) (p k : ℕ) (v : ℕ × NameId) → held_by (slice_get (standing_all ps) p) k ≡ Some v → ⊥
+    none_by [] p k v h = absurd cc
+    none_by (x ∷ ps) zero k v h = none_bound k v h
+    none_by (x ∷ ps) (suc p) k v h = none_by ps p k v h
+
+    none : (v : ℕ × NameId) (l : Holder) → HoldsAt (first_state e) v l → ⊥
+    none v (Process p k) h = none_by e.processes p k v h
+    none v (Transit t i) h = absurd cc
+
+    plain_all : (ps : List Named) (p : ℕ) (m : Machine) → slice_get (standing_all ps) p ≡ Some m → ArePlain m.vars
+    plain_all [] p m h = absurd cc
+    plain_all (x ∷ ps) zero m h = (let w : Machine = record { at = x.body; vars = fin.empty; sessions = fin.empty } in let is : w ≡ m = cc in subst (λ (y : Machine). ArePlain y.vars) is none_set)
+    plain_all (x ∷ ps) (suc p) m h = plain_all ps p m h
+
+leads_sound : (e : Endpoints) (faultless : IsFaultless e) (hosts : Hosts) (cap : Option ℕ) (h : List Event) (n last : NetworkState) → AreSomewhere e n.machines → IsSound n → NetworkLeads e hosts cap n h last → IsSound last
+leads_sound e faultless hosts capacity [] n last all sound l = subst IsSound l sound
+leads_sound e faultless hosts capacity (x ∷ xs) n last all sound l = leads_sound e faultless hosts capacity xs l.0 last (stands l.1) (stepped l.1) l.2
+  where
+    stands : NetworkSteps e hosts capacity n x l.0 → AreSomewhere e l.0.machines
+    stands (acts p v a i) = acted_somewhere e faultless capacity n l.0 p v x all i
+    stands (begins c ps i) = started_somewhere e faultless n l.0 c ps x all i
+
+    stepped : NetworkSteps e hosts capacity n x l.0 → IsSound l.0
+    stepped (acts p v a i) = acted_sound e faultless capacity n l.0 p v x all sound i
+    stepped (begins c ps i) = started_sound e faultless n l.0 c ps x all sound i
+
+-- In each state that a run reaches, each role is held once
+pub held_once : (e : Endpoints) → IsFaultless e → (hosts : Hosts) (cap : Option ℕ) (h : List Event) (last : NetworkState) → IsNetworkRun e hosts cap h last → IsUnique last
+held_once e faultless hosts capacity h last run = (leads_sound e faultless hosts capacity h (first_state e) last (first_somewhere e e.processes faultless.names.process_bodies) (first_sound e) run).unique
