@@ -5,6 +5,7 @@ pub mod Scopes
 pub mod Heads
 pub mod Fields
 pub mod Rooms
+pub mod Places
 pub mod Moves
 pub mod Alone
 pub mod Makers

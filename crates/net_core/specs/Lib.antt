@@ -1,4 +1,5 @@
 pub mod Lanes
+pub mod Indexed
 pub mod Machines
 pub mod Views
 pub mod Heads

@@ -1,11 +1,12 @@
 //! The queues of a network.
 
 ghost use Rattle.std.specs.Prelude.{◌≡◌, ◌≤◌, ◌<◌, ◌∷◌, ◌++◌, [], length, drop, OnOk, OnErr, IsOk, IfSome, IfNone, slice_get, IsTrue, ◌↔◌, true, None, ◌≢◌};
-ghost use Rattle.chor_base.specs.Events.{Triple, triple_eq};
+ghost use Rattle.chor_base.specs.Events.{Triple};
 ghost use Rattle.endpoint_code.specs.Network.{loads_for, with_loads};
 ghost use Rattle.net_core.specs.Lanes.{loads_in, room_on, lane_from};
 
 use chor_base::{Load, Memory, NameId};
+use indexmap::IndexSet;
 use std::alloc::Global;
 use std::collections::VecDeque;
 use std::marker::Model;
@@ -31,13 +32,6 @@ impl Model for Lane {
 }
 
 impl Lane {
-    // Whether the lane is that of a triple.
-    fn is_for(&self, sid: u32, from: NameId, to: NameId) -> bool
-        ensures { result ≡ triple_eq self.now.triple (sid, from, to) }
-    {
-        self.sid == sid && self.from == from && self.to == to
-    }
-
     fn first(&self) -> Option<Load>
         ensures { result ≡ slice_get self.now.loads 0 }
     {
@@ -74,38 +68,37 @@ impl Lane {
     }
 }
 
+// A session, a sender's role in it and a receiver's role.
+#[derive(Clone, Copy, PartialEq, Eq, Hash)]
+pub struct Direction {
+    sid: u32,
+    from: NameId,
+    to: NameId,
+}
+
 /// The queues of a network, one for each triple of a session, a sender's role and a receiver's
 /// role on which something was sent.
 #[derive(Drop)]
 pub struct Queues {
+    // The triples of the queues, in their order.
+    directions: IndexSet<Direction>,
     lanes: Vec<Lane>,
     // Room for the first load of a new queue.
     spare: VecDeque<Load>,
 }
 
 impl Model for Queues {
-    ghost use Rattle.std.specs.Prelude.{◌-◌, ◌≡◌, [], min, vec_capacity, vec_len};
+    ghost use Rattle.std.specs.Prelude.{◌-◌, min, vec_capacity, vec_len};
     ghost use Rattle.std.specs.VecDeque.{deque_capacity};
+    ghost use Rattle.indexmap.specs.IndexSet.{spare as directions_left};
     ghost use Rattle.net_core.specs.Lanes.{QueuesView};
+    ghost use Rattle.net_core.specs.Indexed.{IsIndexed};
 
     ghost Value = { QueuesView };
 
-    ghost view = { λ a. record { lanes = a.lanes.items; fresh = min (vec_capacity a.lanes - vec_len a.lanes) (deque_capacity a.spare) } };
+    ghost view = { λ a. record { lanes = a.lanes.items; fresh = min (directions_left a.directions) (min (vec_capacity a.lanes - vec_len a.lanes) (deque_capacity a.spare)) } };
 
-    ghost invariant = { λ a. a.spare.items ≡ [] };
-}
-
-// The place of a triple's queue.
-fn place_of(lanes: &[Lane], sid: u32, from: NameId, to: NameId) -> Option<usize>
-    ensures place { result ≡ lane_from 0 lanes.now (sid, from, to) }
-    ensures within { IfSome result (λ i. i < length lanes.now) }
-{
-    for (place, lane) in lanes.iter().enumerate() {
-        if lane.is_for(sid, from, to) {
-            return Some(place);
-        }
-    }
-    None
+    ghost invariant = { λ a. IsIndexed a.directions.keys a.lanes.items a.spare.items };
 }
 
 impl Queues {
@@ -114,16 +107,26 @@ impl Queues {
         ensures { result.lanes ≡ [] }
     {
         Queues {
+            directions: IndexSet::new(alloc),
             lanes: Vec::new(alloc),
             spare: VecDeque::new(alloc),
         }
+    }
+
+    // The place of a triple's queue.
+    fn place_of(&self, sid: u32, from: NameId, to: NameId) -> Option<usize>
+        ensures place { result ≡ lane_from 0 self.now.lanes (sid, from, to) }
+        ensures within { IfSome result (λ i. i < length self.now.lanes) }
+    {
+        let direction = Direction { sid, from, to };
+        self.directions.get_index_of(&direction)
     }
 
     /// The first load of a queue.
     pub fn first(&self, sid: u32, from: NameId, to: NameId) -> Option<Load>
         ensures { result ≡ slice_get (loads_for (loads_in self.now.lanes) (sid, from, to)) 0 }
     {
-        let place = place_of(self.lanes.as_slice(), sid, from, to)?;
+        let place = self.place_of(sid, from, to)?;
         self.lanes[place].first()
     }
 
@@ -134,7 +137,7 @@ impl Queues {
         ensures kept { (t : Triple) → room_on self.old t ≤ room_on self.new t }
         ensures succeeds { 1 ≤ room_on self.old (sid, from, to) → IsOk result }
     {
-        match place_of(self.lanes.as_slice(), sid, from, to) {
+        match self.place_of(sid, from, to) {
             Some(place) => {
                 let lane = &mut self.lanes[place];
                 lane.reserve()
@@ -150,6 +153,7 @@ impl Queues {
         ensures kept { self.old.fresh ≤ self.new.fresh }
         ensures succeeds { 1 ≤ self.old.fresh → IsOk result }
     {
+        self.directions.reserve(1)?;
         self.lanes.reserve(1)?;
         self.spare.reserve(1)?;
         Ok(())
@@ -160,7 +164,7 @@ impl Queues {
         requires { 1 ≤ room_on self.old (sid, from, to) }
         ensures { loads_in self.new.lanes ≡ with_loads (loads_in self.old.lanes) (sid, from, to) (loads_for (loads_in self.old.lanes) (sid, from, to) ++ load ∷ []) }
     {
-        match place_of(self.lanes.as_slice(), sid, from, to) {
+        match self.place_of(sid, from, to) {
             Some(place) => {
                 let lane = &mut self.lanes[place];
                 lane.push(load);
@@ -171,7 +175,8 @@ impl Queues {
 
     // Makes a queue with its first load.
     fn open(&mut self, sid: u32, from: NameId, to: NameId, load: Load)
-        requires { 1 ≤ self.old.fresh }
+        requires room { 1 ≤ self.old.fresh }
+        requires absent { lane_from 0 self.old.lanes (sid, from, to) ≡ None }
         ensures { loads_in self.new.lanes ≡ loads_in self.old.lanes ++ ((sid, from, to), load ∷ []) ∷ [] }
     {
         let alloc = *self.lanes.allocator();
@@ -183,6 +188,10 @@ impl Queues {
             to,
             loads,
         };
+        match self.directions.insert(Direction { sid, from, to }) {
+            Ok(_) => {}
+            Err(_) => unreachable!(),
+        }
         match self.lanes.push(lane) {
             Ok(()) => {}
             Err(_) => unreachable!(),
@@ -194,7 +203,7 @@ impl Queues {
         requires { slice_get (loads_for (loads_in self.old.lanes) (sid, from, to)) 0 ≢ None }
         ensures { loads_in self.new.lanes ≡ with_loads (loads_in self.old.lanes) (sid, from, to) (drop 1 (loads_for (loads_in self.old.lanes) (sid, from, to))) }
     {
-        if let Some(place) = place_of(self.lanes.as_slice(), sid, from, to) {
+        if let Some(place) = self.place_of(sid, from, to) {
             let lane = &mut self.lanes[place];
             lane.pop();
         }

@@ -1,8 +1,9 @@
-use Rattle.std.proofs.Common.{◌≡◌, ◌≤◌, ◌∙◌, ap, sym, List, arith, ◌<◌, length, get_or, rules}
+use Rattle.std.proofs.Common.{List, ap, arith, get_or, length, rules, sym, ◌<◌, ◌∙◌, ◌≡◌, ◌≤◌}
 use Rattle.chor_base.specs.Events.{Triple}
 use Rattle.net_core.specs.Lanes.{LaneView, QueuesView, loads_in, room_among, room_on, lane_from}
 use Rattle.net_core.proofs.Lanes.{same_loads, room_found, room_kept, room_none, room_more, room_put_found, on_ok}
 use Rattle.net_core.specs.contracts.queues.Queues.{the_view}
+use Rattle.net_core.proofs.Places.{indexed_put}
 use Rattle.net_core.proofs.queues.Queues.reserve.Goals as goal
 
 pub returns-in-Some-clause-loads : goal.returns-in-Some-clause-loads
@@ -20,7 +21,7 @@ returns-in-Some-clause-ok c =
     on_ok c.reserve.result
     (λ (h : 1 ≤ c.reserve.new.self.room).
     let e = room_put_found (the_view c.self.inside).fresh c.self.inside.lanes.items t c.in-Some.place c.index_mut-lane.result.now c.reserve.new.self
-    (sym (c.in-Some.ensures.place ∙ ap (λ (ls : List LaneView). lane_from 0 ls t) c.as_slice.ensures.value)) c.index_mut-lane.ensures.value c.reserve.ensures.triple in
+    (sym (c.in-Some.ensures.place ∙ ap (λ (v : QueuesView). lane_from 0 v.lanes t) (sym c.self.view_is))) c.index_mut-lane.ensures.value c.reserve.ensures.triple in
     omega arith)
     c.reserve.ensures.ok
 
@@ -40,7 +41,7 @@ returns-in-Some-clause-succeeds c = λ h.
     let e : room_on c.args.self.now t ≡ c.index_mut-lane.result.now.room =
     ap (λ (v : QueuesView). room_on v t) (sym c.self.view_is)
     ∙ room_found _ c.self.inside.lanes.items t c.in-Some.place c.index_mut-lane.result.now
-    (sym (c.in-Some.ensures.place ∙ ap (λ (ls : List LaneView). lane_from 0 ls t) c.as_slice.ensures.value)) c.index_mut-lane.ensures.value
+    (sym (c.in-Some.ensures.place ∙ ap (λ (v : QueuesView). lane_from 0 v.lanes t) (sym c.self.view_is))) c.index_mut-lane.ensures.value
     in
     c.reserve.ensures.succeeds (omega arith)
 
@@ -50,7 +51,7 @@ returns-in-None-clause-ok c =
     on_ok c.reserve_lane.result
     (λ (h : 1 ≤ c.reserve_lane.new.self.fresh).
     let e : room_on c.reserve_lane.new.self t ≡ c.reserve_lane.new.self.fresh =
-    room_none c.reserve_lane.new.self.fresh c.reserve_lane.new.self.lanes t (ap (λ (ls : List LaneView). lane_from 0 ls t) c.reserve_lane.ensures.lanes ∙ (sym (c.in-None.ensures.place ∙ ap (λ (ls : List LaneView). lane_from 0 ls t) c.as_slice.ensures.value ∙ ap (λ (v : QueuesView). lane_from 0 v.lanes t) c.self.view_is)))
+    room_none c.reserve_lane.new.self.fresh c.reserve_lane.new.self.lanes t (ap (λ (ls : List LaneView). lane_from 0 ls t) c.reserve_lane.ensures.lanes ∙ (sym (c.in-None.ensures.place)))
     in
     omega arith)
     c.reserve_lane.ensures.ok
@@ -68,5 +69,14 @@ returns-in-None-clause-kept c = λ t.
 pub returns-in-None-clause-succeeds : goal.returns-in-None-clause-succeeds
 returns-in-None-clause-succeeds c = λ h.
     let t : Triple = (c.args.sid, c.args.from, c.args.to) in
-    let e : room_on c.args.self.now t ≡ c.args.self.now.fresh = room_none c.args.self.now.fresh c.args.self.now.lanes t (sym (c.in-None.ensures.place ∙ ap (λ (ls : List LaneView). lane_from 0 ls t) c.as_slice.ensures.value ∙ ap (λ (v : QueuesView). lane_from 0 v.lanes t) c.self.view_is)) in
+    let e : room_on c.args.self.now t ≡ c.args.self.now.fresh = room_none c.args.self.now.fresh c.args.self.now.lanes t (sym (c.in-None.ensures.place)) in
     c.reserve_lane.ensures.succeeds (omega arith)
+
+pub invariant_of-self : goal.invariant_of-self
+invariant_of-self c =
+    let i = c.self.inside in
+    let within : c.in-Some.place < length i.lanes.items = search rules in
+    record {
+      same = indexed_put i.directions.keys i.lanes.items c.in-Some.place c.index_mut-lane.result.now c.reserve.new.self c.self.invariant.same within c.index_mut-lane.ensures.value c.reserve.ensures.triple;
+      unused = c.self.invariant.unused;
+    }
