@@ -183,7 +183,7 @@ fits_fewer v (suc k) le f =
     let m : length v.state.machines + suc k * most_served v.endpoints.channels < 2 ^ 32 = f.machines in
     record { sid = omega arith; machines = omega (arith, suc-mul k (most_served v.endpoints.channels), one-mul (most_served v.endpoints.channels)) }
 
-fits_after : (old new : NetworkView) (k : ℕ) → new.endpoints ≡ old.endpoints → HasGrown old new → FitsMore old (suc k) → FitsMore new k
+pub fits_after : (old new : NetworkView) (k : ℕ) → new.endpoints ≡ old.endpoints → HasGrown old new → FitsMore old (suc k) → FitsMore new k
 fits_after old new k same g f =
     let s : old.state.sid + suc k < 2 ^ 32 = f.sid in
     let t : new.state.sid ≤ old.state.sid + 1 = g.sid in
