@@ -57,8 +57,8 @@ module _ (s : Setting) where
   clean_next bs (line.If t first second) next h c =
       let two = nothing_of_two (body_faults s bs (body_in (bodies_of lines) first)) (body_faults s bs (body_in (bodies_of lines) second)) h in
       elim (head_or_tail first (second ∷ []) next c) [
-        inl e ↦ (bs, subst (λ id. body_faults s bs (body_at lines id) ≡ []) e two.0)
-      | inr m ↦ elim (head_or_tail second [] next m) [ inl e ↦ (bs, subst (λ id. body_faults s bs (body_at lines id) ≡ []) e two.1) | inr n ↦ absurd (nowhere next n) ]
+        | inl e ↦ (bs, subst (λ id. body_faults s bs (body_at lines id) ≡ []) e two.0)
+        | inr m ↦ elim (head_or_tail second [] next m) [ inl e ↦ (bs, subst (λ id. body_faults s bs (body_at lines id) ≡ []) e two.1) | inr n ↦ absurd (nowhere next n) ]
       ]
   clean_next bs (line.Call p x) next h c = absurd (nowhere next c)
   clean_next bs line.End next h c = absurd (nowhere next c)
@@ -100,8 +100,8 @@ module _ (s : Setting) where
     clean (suc fuel) id le lt =
         clean_unit id (used id lt)
         (λ i l at c.
-            let later : id.0 < i = subst (λ x. x.0 < i) c.2 (s.written.lines.closed i l at c.0 id c.1) in
-            clean fuel (record { 0 = i }) (omega (arith, le, later)) (slice_get_within lines i l at))
+        let later : id.0 < i = subst (λ x. x.0 < i) c.2 (s.written.lines.closed i l at c.0 id c.1) in
+        clean fuel (record { 0 = i }) (omega (arith, le, later)) (slice_get_within lines i l at))
 
 -- ---- what nodes ask
 

@@ -71,10 +71,10 @@ module _ (w : Written) (names texts hosts : List (List ℕ)) (e : Endpoints) (ma
   provided_fine c p =
       let each = unmade (λ r. code.has_service c.name.name r e.services ≡ true) (λ x. x.name) c.roles.serve p in
       all_nothings (unprovided w c.name.name) c.roles.serve (λ i d lt.
-          let r = slice_index_or c.roles.serve i d in
-          let known : is_known (keys_of sign_of_service w.services) (both c.name.name r.name) ≡ true =
-          known_service w.services c.name.name r.name ∙ ap (code.has_service c.name.name r.name) (sym made.services) ∙ each i d lt in
-          faultless_so (is_known (keys_of sign_of_service w.services) (both c.name.name r.name)) r.place known)
+      let r = slice_index_or c.roles.serve i d in
+      let known : is_known (keys_of sign_of_service w.services) (both c.name.name r.name) ≡ true =
+      known_service w.services c.name.name r.name ∙ ap (code.has_service c.name.name r.name) (sym made.services) ∙ each i d lt in
+      faultless_so (is_known (keys_of sign_of_service w.services) (both c.name.name r.name)) r.place known)
 
   served_fine : (v : Service) → code.IsServed e (service_made v) → unknown_channel w v.channel ++ unserved (channel_of w v.channel.name) v.role ≡ []
   served_fine v s =
@@ -102,8 +102,8 @@ module _ (w : Written) (names texts hosts : List (List ℕ)) (e : Endpoints) (ma
       two_nothings (repeated [] (map sign_of_channel w.channels)) (flat_map (channel_faults w) w.channels)
       (names_distinct (λ c. c.name) w.channels (names_of_made channel_made (λ k. k.name) w.channels e.channels made.channels h.channels))
       (all_nothings (channel_faults w) w.channels (λ i d lt.
-          let c = slice_index_or w.channels i d in
-          two_nothings (repeated [] (map sign_of_name (c.roles.active ++ c.roles.serve))) (flat_map (unprovided w c.name.name) c.roles.serve) (roles_fine c (roles i d lt)) (provided_fine c (provided i d lt))))
+      let c = slice_index_or w.channels i d in
+      two_nothings (repeated [] (map sign_of_name (c.roles.active ++ c.roles.serve))) (flat_map (unprovided w c.name.name) c.roles.serve) (roles_fine c (roles i d lt)) (provided_fine c (provided i d lt))))
 
   procedures_fine : faults_of_procedures (setting w names hosts) ≡ []
   procedures_fine =
@@ -112,9 +112,9 @@ module _ (w : Written) (names texts hosts : List (List ℕ)) (e : Endpoints) (ma
       two_nothings (repeated [] (map sign_of_procedure w.procedures)) (flat_map (procedure_faults (setting w names hosts)) w.procedures)
       (units_apart w.procedures (subst code.AreApart made.procedures h.procedures))
       (all_nothings (procedure_faults (setting w names hosts)) w.procedures (λ i d lt.
-          let p = slice_index_or w.procedures i d in
-          two_nothings (repeated [] (map sign_of_name p.signature.sessions)) (body_faults (setting w names hosts) (names_in p.signature.sessions) (body_at w.lines.items p.body))
-          (names_distinct (λ x. x) p.signature.sessions (sessions i d lt)) (body_fine p.body (names_in p.signature.sessions) (bodies i d lt))))
+      let p = slice_index_or w.procedures i d in
+      two_nothings (repeated [] (map sign_of_name p.signature.sessions)) (body_faults (setting w names hosts) (names_in p.signature.sessions) (body_at w.lines.items p.body))
+      (names_distinct (λ x. x) p.signature.sessions (sessions i d lt)) (body_fine p.body (names_in p.signature.sessions) (bodies i d lt))))
 
   services_fine : faults_of_services (setting w names hosts) ≡ []
   services_fine =
@@ -123,9 +123,9 @@ module _ (w : Written) (names texts hosts : List (List ℕ)) (e : Endpoints) (ma
       two_nothings (repeated [] (map sign_of_service w.services)) (flat_map (service_faults (setting w names hosts)) w.services)
       (services_single w.services (subst code.AreSingle made.services h.services))
       (all_nothings (service_faults (setting w names hosts)) w.services (λ i d lt.
-          let v = slice_index_or w.services i d in
-          two_nothings (unknown_channel w v.channel ++ unserved (channel_of w v.channel.name) v.role) (body_faults (setting w names hosts) (v.channel.name ∷ []) (body_at w.lines.items v.body))
-          (served_fine v (served i d lt)) (body_fine v.body (v.channel.name ∷ []) (bodies i d lt))))
+      let v = slice_index_or w.services i d in
+      two_nothings (unknown_channel w v.channel ++ unserved (channel_of w v.channel.name) v.role) (body_faults (setting w names hosts) (v.channel.name ∷ []) (body_at w.lines.items v.body))
+      (served_fine v (served i d lt)) (body_fine v.body (v.channel.name ∷ []) (bodies i d lt))))
 
   processes_fine : faults_of_processes (setting w names hosts) ≡ []
   processes_fine =

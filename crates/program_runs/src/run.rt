@@ -1,0 +1,86 @@
+//! The transcript of a run.
+
+ghost use Rattle.std.specs.Prelude.{◌≡◌, ◌<◌, ◌≤◌, ◌^◌, IfOk, length, map};
+ghost use Rattle.chor_host.specs.Functions.{names_of};
+ghost use Rattle.chor_host.specs.Tables.{functions_of};
+ghost use Rattle.endpoint_code.specs.Faults.{IsFaultlessWith};
+ghost use Rattle.endpoint_runs.specs.Runs.{close_of};
+ghost use Rattle.transcript.specs.Text.{transcript};
+ghost use Rattle.transcript.specs.Books.{words};
+ghost use Rattle.program_runs.specs.Transcripts.{events_of, closing_text, is_stuck, IsTranscriptOf};
+
+use crate::closing::put_closing;
+use chor_base::{List, Memory, NameId};
+use chor_host::HostTable;
+use endpoint_code::{Endpoints, Process};
+use endpoint_runs::{Closed, Ran, run_endpoints};
+use std::alloc::Global;
+use transcript::{Book, print_events};
+
+/// The transcript of a run, and whether the run is stuck.
+#[derive(Drop)]
+pub struct Executed {
+    pub text: Vec<u8>,
+    pub stuck: bool,
+}
+
+/// The transcript of the run of endpoint programs by the pick rule with this seed, until every process
+/// has ended, there are as many events as asked for, or no process can step. Its last line tells which,
+/// and where the run is stuck, who waits for what.
+#[tactic(auto, using(crate::proofs::Transcripts::told))]
+pub fn execute(
+    alloc: Global,
+    endpoints: &Endpoints,
+    hosts: &HostTable,
+    seed: u64,
+    steps: u64,
+) -> Result<Executed, Memory>
+    requires faultless { IsFaultlessWith (names_of (functions_of hosts.now)) endpoints.now }
+    requires seed { seed < 2 ^ 32 }
+    requires few { steps ≤ 1000000 }
+    ensures { IfOk result (λ x. IsTranscriptOf (functions_of hosts.now) endpoints.now seed steps x.text.items x.stuck) }
+{
+    let ran = run_endpoints(alloc, endpoints, hosts, seed, steps)?;
+    let processes = names_of(alloc, endpoints.processes.as_slice())?;
+    let book = Book {
+        names: &endpoints.names,
+        texts: &endpoints.texts,
+        processes: &processes,
+    };
+    let text = print_run(alloc, &ran, &book)?;
+    Ok(Executed {
+        text,
+        stuck: is_stuck(ran.closed),
+    })
+}
+
+// The lines of a run.
+fn print_run(alloc: Global, ran: &Ran, book: &Book) -> Result<Vec<u8>, Memory>
+    ensures { IfOk result (λ text. text.items ≡ transcript (words book.now) (events_of ran.now.history) (closing_text (words book.now) (length ran.now.history) (close_of ran.now.closed))) }
+{
+    let mut text = Vec::new(alloc);
+    print_events(alloc, ran.history.as_slice(), book, &mut text)?;
+    let count = ran.history.len() as u64;
+    put_closing(&mut text, alloc, count, ran.closed, book)?;
+    text.push(b'\n')?;
+    Ok(text)
+}
+
+fn is_stuck(closed: Closed) -> bool
+    ensures { result ≡ is_stuck (close_of closed) }
+{
+    match closed {
+        Closed::Stuck(_, _) => true,
+        _ => false,
+    }
+}
+
+fn names_of(alloc: Global, processes: &[Process]) -> Result<List<NameId>, Memory>
+    ensures { IfOk result (λ list. list ≡ map (λ p. p.name) processes.now) }
+{
+    let mut list = List::new(alloc);
+    for process in processes {
+        list.push(process.name)?;
+    }
+    Ok(list)
+}
