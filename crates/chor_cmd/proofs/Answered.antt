@@ -1,12 +1,13 @@
 -- What a call answers, from what the calls below it answer.
-use Rattle.std.proofs.Common.{◌≡◌, ℕ, List, sym, subst}
+use Rattle.std.proofs.Common.{◌≡◌, ◌≢◌, ℕ, List, refl, sym, subst}
 use Rattle.std.specs.Prelude.{Result, Ok, Err, IfOk, IfErr, IsErrAnd}
 use Rattle.chor_base.specs.declared.rule.Denied.{Denied}
-use Rattle.chor_host.specs.Functions.{Function}
+use Rattle.chor_base.specs.declared.rule.Denied.TheVariants.{Refused, Memory}
 use Rattle.chor_tree.specs.declared.file.File.{File}
-use Rattle.source_check.specs.Source.{IsFileOf}
-use Rattle.chor_cmd.specs.declared.words.Command.{Command}
-use Rattle.chor_cmd.specs.Outputs.{IsAnswer, Answers}
+use Rattle.source_check.specs.Source.{IsFileOf, IsDenialOfTokens}
+use Rattle.source_check.proofs.Checked.{unread_so, broken_so}
+use Rattle.chor_cmd.specs.Words.{Reading, Source, Programs}
+use Rattle.chor_cmd.specs.Outputs.{IsFlawed, IsDenied}
 
 -- ---- results
 
@@ -22,8 +23,16 @@ pub err_is : {X : Type 0} (P : Denied → Type 0) (r : Result X Denied) (e : Den
 err_is P (Ok x) e h p = tt
 err_is P (Err d) e h p = subst P (sym h) p
 
--- ---- a file that was read
+-- ---- commands that read sources
 
-module _ (functions : List Function) (command : Command) (bytes : List ℕ) (f : File) (read : IsFileOf bytes f) where
-  pub answers : (text : List ℕ) → IsAnswer functions command f text → Answers functions command bytes text
-  answers text a = record { file = f; source = record { file = read; faultless = a.faultless }; output = a.output }
+-- bytes that are no source, for such a command
+pub unread_by : (reading : Reading) (words : List (List ℕ)) (bytes : List ℕ) (d : Denied) → reading ≢ Programs → IsDenialOfTokens bytes d → IsDenied reading words bytes d
+unread_by (Source r) words bytes (Refused x) source h = unread_so r words bytes (Refused x) h
+unread_by (Source r) words bytes Memory source h = tt
+unread_by Programs words bytes d source h = absurd (source refl)
+
+-- and a file with a fault
+pub flawed_so : (reading : Reading) (words : List (List ℕ)) (bytes : List ℕ) (f : File) (d : Denied) → IsFileOf bytes f → IsFlawed reading words f d → IsDenied reading words bytes d
+flawed_so (Source r) words bytes f (Refused x) i h = broken_so r words bytes f (Refused x) i h
+flawed_so (Source r) words bytes f Memory i h = tt
+flawed_so Programs words bytes f d i h = absurd h

@@ -1,6 +1,5 @@
 -- How a call ends, by what was fetched.
 use Rattle.std.proofs.Common.{◌≡◌, ◌<◌, ◌≤◌, ℕ, List, [], Option, Some, None, length, refl, sym, ap, subst, arith}
-use Rattle.std.specs.Option.{IfSome, IfNone}
 use Rattle.std.specs.Prelude.{Result, Ok, Err, IfErr, IsErrAnd}
 use Rattle.chor_base.specs.declared.rule.Denied.{Denied}
 use Rattle.chor_base.specs.declared.rule.Denied.TheVariants.{Memory}
@@ -9,37 +8,28 @@ use Rattle.source_check.specs.declared.rules.Class.{Class}
 use Rattle.source_check.specs.Source.{IsBroken}
 use Rattle.chor_io.specs.Outside.{FetchTells, FetchFrom, FetchGrows}
 use Rattle.chor_io.specs.declared.outside.Fetched.TheVariants as fetched
-use Rattle.chor_cmd.specs.Endings.{Told, MayTell, source_limit}
+use Rattle.chor_cmd.specs.Endings.{Told, MayTell}
 
 -- the bytes that were fetched may be those that are told
 all_from : (o : Option (List ℕ)) (new : List ℕ) (limit : ℕ) → FetchFrom o limit [] new fetched.All → o ≡ Some new
 all_from None new limit h = absurd h
 all_from (Some bytes) new limit h = ap Some (sym h.0)
 
-pub told_all : (files : Told) (name new : List ℕ) → FetchTells files name 1048576 [] new fetched.All → MayTell files name new
-told_all None name new h = tt
-told_all (Some files) name new h = all_from (files name) new 1048576 h
+pub told_all : (files : Told) (name new : List ℕ) (limit : ℕ) → FetchTells files name limit [] new fetched.All → MayTell files name new
+told_all None name new limit h = tt
+told_all (Some files) name new limit h = all_from (files name) new limit h
 
-pub few_read : (new : List ℕ) → FetchGrows 1048576 [] new fetched.All → length new ≤ source_limit
-few_read new g = omega (arith, ap length g.1, g.2)
+pub few_read : (new : List ℕ) (limit : ℕ) → FetchGrows limit [] new fetched.All → length new ≤ limit
+few_read new limit g = omega (arith, ap length g.1, g.2)
 
 long_from : (o : Option (List ℕ)) (new : List ℕ) (limit : ℕ) → FetchFrom o limit [] new fetched.TooLong → (bytes : List ℕ) × (o ≡ Some bytes) × (limit < length bytes)
 long_from None new limit h = absurd h
 long_from (Some bytes) new limit h = (bytes, refl, h.1)
 
 -- and so may more bytes than the limit
-pub told_long : (files : Told) (name new : List ℕ) → FetchGrows 1048576 [] new fetched.TooLong → FetchTells files name 1048576 [] new fetched.TooLong → (bytes : List ℕ) × MayTell files name bytes × (source_limit < length bytes)
-told_long None name new g h = (g.0, tt, omega (arith, g.2))
-told_long (Some files) name new g h = long_from (files name) new 1048576 h
-
--- what is said of the value in an option that is this one, and of an option that is empty
-pub of_some : {A : Type 0} (o : Option A) (a : A) (P : A → Type 0) → o ≡ Some a → IfSome o P → P a
-of_some None a P e h = absurd cc
-of_some (Some b) a P e h = let same : b ≡ a = cc in subst P same h
-
-pub of_none : {A : Type 0} (o : Option A) (P : Type 0) → o ≡ None → IfNone o P → P
-of_none None P e h = h
-of_none (Some b) P e h = absurd cc
+pub told_long : (files : Told) (name new : List ℕ) (limit : ℕ) → FetchGrows limit [] new fetched.TooLong → FetchTells files name limit [] new fetched.TooLong → (bytes : List ℕ) × MayTell files name bytes × (limit < length bytes)
+told_long None name new limit g h = (g.0, tt, omega (arith, g.2))
+told_long (Some files) name new limit g h = long_from (files name) new limit h
 
 -- where there was no memory, no class of rules is told
 pub no_memory_tells : {T : Type 0} (classes : List Class) (hosts : List (List ℕ)) (f : File) (r : Result T Denied) → IsErrAnd r (λ d. d ≡ Memory) → IfErr r (IsBroken classes hosts f)

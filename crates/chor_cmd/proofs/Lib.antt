@@ -7,3 +7,4 @@ pub mod SameTexts
 pub mod OptionWords
 pub mod SameWords
 pub mod Settled
+pub mod Executed

@@ -2,7 +2,7 @@
 use Rattle.std.proofs.Common.{◌≡◌, ℕ, List, [], ◌∷◌, sym, ap, ◌∙◌, arith}
 use Rattle.chor_cmd.specs.declared.words.Words.{Words}
 use Rattle.chor_cmd.specs.declared.words.Command.{Command}
-use Rattle.chor_cmd.specs.declared.words.Command.TheVariants.{Check, Fmt, Types, Project, Run}
+use Rattle.chor_cmd.specs.declared.words.Command.TheVariants.{Check, Fmt, Types, Project, Run, Exec}
 use Rattle.chor_cmd.specs.Words.{IsCommand, AreForm, IsForm, NamesFile}
 use Rattle.chor_cmd.proofs.OptionWords.{same_options}
 
@@ -29,6 +29,10 @@ same_word w rest (Run i o) (Run j p) f g =
     let file = f.index ∙ sym g.index in
     let options = same_options rest o p f.options g.options in
     λ k. Run (file k) (options k)
+same_word w rest (Exec i o) (Exec j p) f g =
+    let file = f.index ∙ sym g.index in
+    let options = same_options rest o p f.options g.options in
+    λ k. Exec (file k) (options k)
 same_word w rest c d f g = absurd (omega (arith, ap first_byte (sym f.named ∙ g.named)))
 
 same_command_in : (ws : List (List ℕ)) (c d : Command) (m n : List ℕ) → AreForm ws c m → AreForm ws d n → c ≡ d

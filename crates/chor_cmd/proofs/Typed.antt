@@ -9,20 +9,7 @@ use Rattle.chor_tree.specs.Protocols.{Protocol}
 use Rattle.global_types.specs.Views.{HasNoViewFault}
 use Rattle.local_types.specs.Reading.{IsRefusal}
 use Rattle.source_check.proofs.ViewRules.{no_view_fault}
-use Rattle.chor_tree.specs.declared.file.File.{File}
-use Rattle.source_check.specs.Classes.{classes_of, IsFaultless}
-use Rattle.chor_cmd.specs.declared.words.Command.{Command}
-use Rattle.chor_cmd.specs.declared.words.Command.TheVariants.{Check, Fmt, Types, Project, Run}
-use Rattle.chor_cmd.specs.Words.{rules_of, ShowsTypes}
-use Rattle.chor_cmd.specs.Types.{AreTexts, HasFineViews}
-
--- a file that is accepted by a command that writes its local types has views without fault
-pub shown_fine : (command : Command) (hosts : List (List ℕ)) (f : File) → IsFaultless hosts f (classes_of (rules_of command)) → ShowsTypes command → HasFineViews f
-shown_fine (Check file) hosts f h s = absurd s
-shown_fine (Fmt file) hosts f h s = absurd s
-shown_fine (Types file) hosts f h s = h.1.1.0
-shown_fine (Project file) hosts f h s = absurd s
-shown_fine (Run file options) hosts f h s = absurd s
+use Rattle.chor_cmd.specs.Types.{AreTexts}
 
 -- a view without fault isn't refused
 pub not_refused : (p : Protocol) (role : NameId) (f : Refusal) → HasNoViewFault p.states role → IsRefusal p role (Refused f) → ⊥

@@ -10,16 +10,14 @@ use Rattle.chor_io.specs.Outside.{Risen, GrowsByFront, ShelfState, SinkState}
 use Rattle.chor_print.specs.Text.{canonical_text}
 use Rattle.chor_cmd.specs.declared.words.Words.{Words}
 use Rattle.chor_cmd.specs.declared.status.Status.{Status}
-use Rattle.chor_cmd.specs.declared.status.Status.TheVariants.{Done, Refused, Usage, ReadFault, WriteFault, Memory, TooLarge}
+use Rattle.chor_cmd.specs.declared.status.Status.TheVariants.{Done, Refused, Usage, ReadFault, WriteFault, Memory, Stuck, TooLarge}
 use Rattle.chor_cmd.specs.declared.words.Command.{Command}
-use Rattle.chor_cmd.specs.declared.words.Command.TheVariants.{Fmt}
-use Rattle.chor_cmd.specs.Words.{rules_of, IsForm, NamesFile, HasNoForm}
+use Rattle.chor_cmd.specs.declared.words.Command.TheVariants.{Fmt, Exec}
+use Rattle.chor_cmd.specs.Words.{Source, reading_of, limit_of, IsForm, NamesFile, HasNoForm}
+use Rattle.chor_cmd.specs.declared.options.Options.{Options}
+use Rattle.source_check.specs.declared.rules.Rules.{Rules}
 use Rattle.source_check.specs.Source.{IsFileOf, IsAccepted, Violates}
-use Rattle.chor_cmd.specs.Outputs.{Answers, usage_line, read_fault_line, too_large_line, refused_line}
-
--- a source file has at most 1 MiB
-abbrev pub source_limit : ℕ
-source_limit = 1048576
+use Rattle.chor_cmd.specs.Outputs.{Violated, IsExecution, Answers, usage_line, read_fault_line, too_large_line, refused_line}
 
 -- the names of the host functions that a file may call
 abbrev pub host_names : {X : Type 0} {g : Mut X (ℤ × (ℤ × Unit {0})) ℤ} → HostTable X g → List (List ℕ)
@@ -46,14 +44,14 @@ pub record MayAsk (words : Words) (shelf : ShelfState) (command : Command) (byte
   pub name : List ℕ
   pub form : IsForm words command name
   pub told : MayTell shelf.files name bytes
-  pub few : length bytes ≤ source_limit
+  pub few : length bytes ≤ limit_of (reading_of command)
 
 -- the same where the file is told with these bytes
 pub record Asks (words : Words) (shelf : ShelfState) (command : Command) (bytes : List ℕ) : Type 0 where
   pub name : List ℕ
   pub form : IsForm words command name
   pub told : Tells shelf.files name bytes
-  pub few : length bytes ≤ source_limit
+  pub few : length bytes ≤ limit_of (reading_of command)
 
 -- no fetch has failed but those of the file that the words name
 abbrev pub FetchesOnly : Words → ShelfState → ShelfState → Type 0
@@ -66,9 +64,10 @@ FetchesOnly words shelf shelf' = (other : List ℕ) → (NamesFile words other �
 pub data Ends (functions : List Function) (words : Words) (shelf shelf' : ShelfState) : Status → List ℕ → Type 0 where
   usage : HasNoForm words → Ends functions words shelf shelf' Usage usage_line
   read_fault : (name : List ℕ) → NamesFile words name → Risen (shelf.faults name) (shelf'.faults name) → Ends functions words shelf shelf' ReadFault (read_fault_line name)
-  too_large : (name bytes : List ℕ) → NamesFile words name → MayTell shelf.files name bytes → source_limit < length bytes → Ends functions words shelf shelf' TooLarge (too_large_line name)
-  refused : (command : Command) (bytes : List ℕ) (r : Refusal) → MayAsk words shelf command bytes → Violates (rules_of command) (names_of functions) bytes r → Ends functions words shelf shelf' Refused (refused_line r)
+  too_large : (command : Command) (name bytes : List ℕ) → IsForm words command name → MayTell shelf.files name bytes → limit_of (reading_of command) < length bytes → Ends functions words shelf shelf' TooLarge (too_large_line name)
+  refused : (command : Command) (bytes : List ℕ) (r : Refusal) → MayAsk words shelf command bytes → Violated (reading_of command) (names_of functions) bytes r → Ends functions words shelf shelf' Refused (refused_line r)
   done : (command : Command) (bytes text : List ℕ) → MayAsk words shelf command bytes → Answers functions command bytes text → Ends functions words shelf shelf' Done text
+  stuck : (word : ℕ) (options : Options) (bytes text : List ℕ) → MayAsk words shelf (Exec word options) bytes → IsExecution functions options bytes text true → Ends functions words shelf shelf' Stuck text
 
 -- where the bytes written are told, exactly this text was added
 abbrev pub Wrote : Option (List ℕ) → Option (List ℕ) → List ℕ → Type 0
@@ -106,19 +105,19 @@ module _ (functions : List Function) (words : Words) (shelf shelf' : ShelfState)
   -- for a file that is told and too long
   abbrev pub GivesTooLarge : Type 0
   GivesTooLarge =
-      (name bytes : List ℕ) → NamesFile words name → Tells shelf.files name bytes → source_limit < length bytes
+      (command : Command) (name bytes : List ℕ) → IsForm words command name → Tells shelf.files name bytes → limit_of (reading_of command) < length bytes
       → Comes words shelf shelf' sink sink' TooLarge (λ text. text ≡ too_large_line name) result
 
-  -- for a file that is told and violates a rule that the command applies
+  -- for a source that is told and violates a rule that the command applies
   abbrev pub GivesRefusal : Type 0
   GivesRefusal =
-      (command : Command) (bytes : List ℕ) (r : Refusal) → Asks words shelf command bytes → Violates (rules_of command) (names_of functions) bytes r
+      (command : Command) (rules : Rules) (bytes : List ℕ) (r : Refusal) → reading_of command ≡ Source rules → Asks words shelf command bytes → Violates rules (names_of functions) bytes r
       → Comes words shelf shelf' sink sink' Refused (λ text. text ≡ refused_line r) result
 
-  -- for a file that is told and that the command accepts
+  -- for a source that is told and that the command accepts
   abbrev pub GivesAnswer : Type 0
   GivesAnswer =
-      (command : Command) (bytes : List ℕ) (f : File) → Asks words shelf command bytes → IsAccepted (rules_of command) (names_of functions) bytes f
+      (command : Command) (rules : Rules) (bytes : List ℕ) (f : File) → reading_of command ≡ Source rules → Asks words shelf command bytes → IsAccepted rules (names_of functions) bytes f
       → Comes words shelf shelf' sink sink' Done (Answers functions command bytes) result
 
   -- `fmt`, for a source that is told: its canonical text, whichever file of these bytes is read

@@ -2,6 +2,8 @@
 use Rattle.std.specs.Prelude.{ℕ, ◌≡◌, Bool, true, false, List, [], ◌∷◌, ◌++◌, length, map, Option, Some, None, codes}
 use Rattle.std.specs.Fmt.{decimal}
 use Rattle.chor_base.specs.declared.rule.Refusal.{Refusal}
+use Rattle.chor_base.specs.declared.rule.Denied.{Denied}
+use Rattle.chor_base.specs.declared.rule.Denied.TheVariants.{Refused, Memory}
 use Rattle.chor_base.specs.Writing.{rule_name}
 use Rattle.chor_base.specs.declared.event.Event.{Event}
 use Rattle.chor_base.specs.declared.event.Entry.{Entry}
@@ -13,13 +15,15 @@ use Rattle.endpoint_text.specs.Text.{endpoints_text}
 use Rattle.transcript.specs.Text.{Words as Book, transcript}
 use Rattle.chor_print.specs.Text.{canonical_text}
 use Rattle.chor_cmd.specs.declared.words.Command.{Command}
-use Rattle.chor_cmd.specs.declared.words.Command.TheVariants.{Check, Fmt, Types, Project, Run}
+use Rattle.chor_cmd.specs.declared.words.Command.TheVariants.{Check, Fmt, Types, Project, Run, Exec}
 use Rattle.chor_cmd.specs.declared.options.Options.{Options}
-use Rattle.chor_cmd.specs.Words.{rules_of}
+use Rattle.chor_cmd.specs.Words.{Reading, Source, Programs, reading_of}
 use Rattle.chor_host.specs.Functions.{Function, names_of, hosts_in}
 use Rattle.simulation.specs.Runs.{close_of, IsRunOf}
 use Rattle.source_check.specs.Classes.{classes_of, IsFaultless}
-use Rattle.source_check.specs.Source.{IsAccepted}
+use Rattle.source_check.specs.Source.{IsFileOf, IsBroken, Violates}
+use Rattle.endpoint_check.specs.Programs.{AreProgramsOf, ViolatesPrograms}
+use Rattle.program_runs.specs.Transcripts.{IsTranscriptOf}
 use Rattle.chor_cmd.specs.Types.{IsTypesText}
 
 -- ---- the texts
@@ -67,17 +71,48 @@ IsOutput functions (Fmt word) f text = text ≡ canonical_text f
 IsOutput functions (Types word) f text = IsTypesText f text
 IsOutput functions (Project word) f text = IsProjectionText f text
 IsOutput functions (Run word options) f text = IsRunText functions f options text
+IsOutput functions (Exec word options) f text = ⊥
+
+-- ---- judging
+
+-- a file without fault of the rules by which it is judged
+abbrev pub IsFine : Reading → List (List ℕ) → File → Type 0
+IsFine (Source rules) words f = IsFaultless words f (classes_of rules)
+IsFine Programs words f = ⊥
+
+-- a file with a fault of them
+abbrev pub IsFlawed : Reading → List (List ℕ) → File → Denied → Type 0
+IsFlawed (Source rules) words f d = IsBroken (classes_of rules) words f d
+IsFlawed Programs words f d = ⊥
+
+-- the refusal tells which of the rules the bytes violate, and where
+abbrev pub Violated : Reading → List (List ℕ) → List ℕ → Refusal → Type 0
+Violated (Source rules) words bytes r = Violates rules words bytes r
+Violated Programs words bytes r = ViolatesPrograms words bytes r
+
+-- the bytes are refused so; want of memory tells nothing
+abbrev pub IsDenied : Reading → List (List ℕ) → List ℕ → Denied → Type 0
+IsDenied reading words bytes (Refused r) = Violated reading words bytes r
+IsDenied reading words bytes Memory = Unit {0}
+
+-- ---- answers
 
 -- the file violates no rule that the command applies, and this is what the command writes for it
 pub record IsAnswer (functions : List Function) (command : Command) (f : File) (text : List ℕ) : Type 0 where
-  pub faultless : IsFaultless (names_of functions) f (classes_of (rules_of command))
+  pub faultless : IsFine (reading_of command) (names_of functions) f
   pub output : IsOutput functions command f text
 
--- what a command writes for a file with these bytes
-pub record Answers (functions : List Function) (command : Command) (bytes text : List ℕ) : Type 0 where
-  pub file : File
-  pub source : IsAccepted (rules_of command) (names_of functions) bytes file
-  pub output : IsOutput functions command file text
+-- the bytes are the text of endpoint programs without fault, and the text is the transcript of their scheduled run with the
+-- asked seed and number of steps, which is stuck or not
+pub record IsExecution (functions : List Function) (options : Options) (bytes text : List ℕ) (stuck : Bool) : Type 0 where
+  pub programs : Endpoints
+  pub are : AreProgramsOf (names_of functions) bytes programs
+  pub run : IsTranscriptOf functions programs options.seed options.steps text stuck
+
+-- What a command writes for a file with these bytes: for the source that they are, or for a run of endpoint programs that isn't stuck
+pub data Answers (functions : List Function) (command : Command) (bytes text : List ℕ) : Type 0 where
+  of_source : (file : File) → IsFileOf bytes file → IsAnswer functions command file text → Answers functions command bytes text
+  of_programs : (word : ℕ) (options : Options) → command ≡ Exec word options → IsExecution functions options bytes text false → Answers functions command bytes text
 
 -- ---- the lines
 

@@ -3,7 +3,7 @@ use Rattle.std.specs.Prelude.{ℕ, ◌≡◌, ◌≢◌, List, [], ◌∷◌, co
 use Rattle.std.specs.Str.{IsUtf8}
 use Rattle.chor_cmd.specs.declared.words.Words.{Words}
 use Rattle.chor_cmd.specs.declared.words.Command.{Command}
-use Rattle.chor_cmd.specs.declared.words.Command.TheVariants.{Check, Fmt, Types, Project, Run}
+use Rattle.chor_cmd.specs.declared.words.Command.TheVariants.{Check, Fmt, Types, Project, Run, Exec}
 use Rattle.source_check.specs.declared.rules.Rules.{Rules}
 use Rattle.source_check.specs.declared.rules.Rules.TheVariants as rules
 use Rattle.chor_cmd.specs.Options.{AreOptions}
@@ -25,14 +25,25 @@ command_word (Fmt file) = codes "fmt"
 command_word (Types file) = codes "types"
 command_word (Project file) = codes "project"
 command_word (Run file options) = codes "run"
+command_word (Exec file options) = codes "exec"
 
--- the rules that a command applies
-abbrev pub rules_of : Command → Rules
-rules_of (Check file) = rules.All
-rules_of (Fmt file) = rules.Grammar
-rules_of (Types file) = rules.Views
-rules_of (Project file) = rules.All
-rules_of (Run file options) = rules.All
+-- what a command reads: a source, which it judges by these rules, or endpoint programs
+pub data Reading : Type 0 where
+  Source : (r : Rules) → Reading
+  Programs : Reading
+
+abbrev pub reading_of : Command → Reading
+reading_of (Check file) = Source rules.All
+reading_of (Fmt file) = Source rules.Grammar
+reading_of (Types file) = Source rules.Views
+reading_of (Project file) = Source rules.All
+reading_of (Run file options) = Source rules.All
+reading_of (Exec file options) = Programs
+
+-- how many bytes a file of this kind has at most: 1 MiB, 16 MiB
+abbrev pub limit_of : Reading → ℕ
+limit_of (Source r) = 1048576
+limit_of Programs = 16777216
 
 -- the index of a command's file word
 abbrev pub file_index : Command → ℕ
@@ -41,14 +52,16 @@ file_index (Fmt file) = file
 file_index (Types file) = file
 file_index (Project file) = file
 file_index (Run file options) = file
+file_index (Exec file options) = file
 
--- the words that follow the file: the options of a run, and none for any other command
+-- the words that follow the file: the options of a run, of a source or of endpoint programs, and none for any other command
 abbrev pub AreOptionsOf : Command → List (List ℕ) → Type 0
 AreOptionsOf (Check file) rest = rest ≡ []
 AreOptionsOf (Fmt file) rest = rest ≡ []
 AreOptionsOf (Types file) rest = rest ≡ []
 AreOptionsOf (Project file) rest = rest ≡ []
 AreOptionsOf (Run file options) rest = AreOptions rest options
+AreOptionsOf (Exec file options) rest = AreOptions rest options
 
 -- the word is that of this command, whose file is the word after it, and these words follow the file
 pub record IsCommand (word : List ℕ) (rest : List (List ℕ)) (command : Command) : Type 0 where
@@ -75,8 +88,3 @@ NamesFile words name = (command : Command) × IsForm words command name
 -- the words are of no form
 abbrev pub HasNoForm : Words → Type 0
 HasNoForm words = (name : List ℕ) → NamesFile words name → ⊥
-
--- the command writes local types
-abbrev pub ShowsTypes : Command → Type 0
-ShowsTypes (Types file) = Unit {0}
-ShowsTypes _ = ⊥

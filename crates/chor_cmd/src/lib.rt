@@ -4,6 +4,7 @@
 mod canonical;
 mod command;
 mod endpoints;
+mod exec;
 mod options;
 mod output;
 mod run;

@@ -18,6 +18,8 @@ pub enum Status {
     WriteFault,
     /// There was no memory.
     Memory,
+    /// Endpoint programs can't go on.
+    Stuck,
     /// The file is longer than its limit.
     TooLarge,
 }
@@ -34,6 +36,7 @@ impl Status {
             Status::ReadFault => 3,
             Status::WriteFault => 4,
             Status::Memory => 5,
+            Status::Stuck => 7,
             Status::TooLarge => 8,
         }
     }

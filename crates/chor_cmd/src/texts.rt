@@ -1,13 +1,13 @@
 //! What the commands write for a source.
 
-ghost use Rattle.std.specs.Prelude.{◌≡◌, ◌≤◌, ◌^◌, IfOk, IfErr, OnOk, length, codes};
+ghost use Rattle.std.specs.Prelude.{◌≡◌, ◌≢◌, ◌≤◌, ◌^◌, IfOk, IfErr, OnOk, length, codes};
 ghost use Rattle.chor_host.specs.Tables.{functions_of};
 ghost use Rattle.source_check.specs.Classes.{IsFaultless, classes_of};
-ghost use Rattle.source_check.specs.Source.{IsBroken, IsDenialOf};
+ghost use Rattle.source_check.specs.Source.{IsBroken};
 ghost use Rattle.source_check.specs.declared.rules.Rules.TheVariants as rules;
-ghost use Rattle.chor_cmd.specs.Words.{rules_of};
+ghost use Rattle.chor_cmd.specs.Words.{Programs, reading_of};
 ghost use Rattle.chor_cmd.specs.Types.{IsTypesText};
-ghost use Rattle.chor_cmd.specs.Outputs.{IsProjectionText, IsAnswer, Answers};
+ghost use Rattle.chor_cmd.specs.Outputs.{IsProjectionText, IsAnswer, IsFlawed, IsDenied, Answers};
 ghost use Rattle.chor_cmd.specs.Endings.{host_names};
 
 use crate::canonical::canonical_of;
@@ -29,9 +29,10 @@ pub fn text_of(
     bytes: &[u8],
     hosts: &HostTable,
 ) -> Result<Vec<u8>, Denied>
-    requires { length bytes.now ≤ 2 ^ 20 }
+    requires few { length bytes.now ≤ 2 ^ 20 }
+    requires source { reading_of command ≢ Programs }
     ensures text { IfOk result (λ text. Answers (functions_of hosts.now) command bytes.now text.items) }
-    ensures denied { IfErr result (IsDenialOf (rules_of command) (host_names hosts.now) bytes.now) }
+    ensures denied { IfErr result (IsDenied (reading_of command) (host_names hosts.now) bytes.now) }
 {
     let file = read(alloc, bytes)?;
     file_text(alloc, command, file, hosts)
@@ -44,8 +45,9 @@ fn file_text(
     file: File,
     hosts: &HostTable,
 ) -> Result<Vec<u8>, Denied>
+    requires { reading_of command ≢ Programs }
     ensures text { IfOk result (λ text. IsAnswer (functions_of hosts.now) command file text.items) }
-    ensures broken { IfErr result (IsBroken (classes_of (rules_of command)) (host_names hosts.now) file) }
+    ensures broken { IfErr result (IsFlawed (reading_of command) (host_names hosts.now) file) }
 {
     match command {
         Command::Check(_) => check_text(alloc, file, hosts),
@@ -56,6 +58,7 @@ fn file_text(
         Command::Types(_) => types_text(alloc, file, hosts),
         Command::Project(_) => project_text(alloc, file, hosts),
         Command::Run(_, options) => run_text(alloc, file, options, hosts),
+        Command::Exec(_, _) => unreachable!(),
     }
 }
 

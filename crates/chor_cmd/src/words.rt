@@ -26,6 +26,8 @@ pub enum Command {
     Project(u32),
     /// `run FILE`, and options: writes the transcript of a run.
     Run(u32, Options),
+    /// `exec FILE`, and options: writes the transcript of a run of endpoint programs.
+    Exec(u32, Options),
 }
 
 // Whether a word names a file: it isn't empty, is UTF-8, and doesn't begin with `-`.
@@ -47,6 +49,10 @@ fn command_of(word: &[u8], rest: &[Word]) -> Option<Command>
         let options = options_of(rest)?;
         return Some(Command::Run(1, options));
     }
+    if word == b"exec".as_slice() {
+        let options = options_of(rest)?;
+        return Some(Command::Exec(1, options));
+    }
     if rest.is_empty() {
         plain_command(word)
     } else {
@@ -56,7 +62,8 @@ fn command_of(word: &[u8], rest: &[Word]) -> Option<Command>
 
 // The command of this word that takes no options.
 fn plain_command(word: &[u8]) -> Option<Command>
-    requires { word.now ≢ codes "run" }
+    requires run { word.now ≢ codes "run" }
+    requires exec { word.now ≢ codes "exec" }
     ensures { MatchOption result (IsNoCommand word.now []) (IsCommand word.now []) }
 {
     if word == b"check".as_slice() {

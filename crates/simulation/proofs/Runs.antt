@@ -1,24 +1,17 @@
 -- The run of a network of an accepted file's endpoint programs.
-use Rattle.std.proofs.Common.{◌≡◌, ℕ, Bool, true, List, [], ◌∷◌, None, inl, inr, subst}
-use Rattle.std.specs.Prelude.{All}
-use Rattle.std.specs.List.{list_all}
-use Rattle.std.proofs.lemmas.List.Elements.{All-nil, All-cons}
-use Rattle.chor_base.specs.declared.names.NameId.{NameId}
+use Rattle.std.proofs.Common.{◌≡◌, ℕ, List, None, inl, inr, subst}
 use Rattle.chor_base.specs.declared.event.Event.{Event}
 use Rattle.chor_base.specs.declared.event.Entry.{Entry}
 use Rattle.chor_base.specs.Meaning.{Hosts}
 use Rattle.chor_host.specs.Functions.{Function, hosts_in}
 use Rattle.chor_tree.specs.declared.file.File.{File}
 use Rattle.endpoint_code.specs.declared.endpoints.Endpoints.{Endpoints}
-use Rattle.endpoint_code.specs.declared.code.CodeNode.{CodeNode}
-use Rattle.endpoint_code.specs.Faults.{AsksKnown, asks_known}
 use Rattle.endpoint_code.specs.Network.{NetworkState, first_state}
 use Rattle.endpoint_code.specs.NetworkRuns.{IsNetworkRun}
 use Rattle.endpoint_code.specs.Scheduled.{Close, IsScheduled}
 use Rattle.endpoint_code.proofs.Chosen.{scheduled_leads}
 use Rattle.endpoint_code.proofs.Fifo.{network_fifo}
 use Rattle.well_formed.specs.Asked.{IsAnswered}
-use Rattle.well_formed.proofs.References.{and_first, and_second}
 use Rattle.type_check.specs.Typed.{IsFine}
 use Rattle.endpoint_runs.specs.declared.run.Closed.{Closed}
 use Rattle.endpoint_runs.specs.Runs.{IsRun, close_of as closing_of}
@@ -35,16 +28,6 @@ checked words f e fine a = record {
   guarded = λ x h. a.linear x (inl h);
   ordered = λ x h. a.linear x (inr h);
 }
-
--- each function that the code asks is known
-pub asked : (known : NameId → Bool) (e : Endpoints) → list_all (asks_known known) e.code.nodes ≡ true → AsksKnown known e
-asked known e h = go e.code.nodes h
-  where
-    go : (ns : List CodeNode) → list_all (asks_known known) ns ≡ true → All (λ n. asks_known known n ≡ true) ns
-    go [] p = All-nil (λ n. asks_known known n ≡ true)
-    go (n ∷ ns) p =
-        All-cons (λ n. asks_known known n ≡ true) n ns (and_first (asks_known known n) (list_all (asks_known known) ns) p)
-        (go ns (and_second (asks_known known n) (list_all (asks_known known) ns) p))
 
 -- ---- the run
 

@@ -2,7 +2,6 @@
 #![tactic(auto)]
 
 mod accepted;
-mod asking;
 mod running;
 
 pub use accepted::{Accepted, accept};

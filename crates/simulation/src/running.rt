@@ -10,10 +10,10 @@ ghost use Rattle.scheduled_runs.specs.Laws.{ScheduledRunsClose};
 ghost use Rattle.simulation.specs.Runs.{IsOutcomeOf};
 
 use crate::accepted::Accepted;
-use crate::asking::asks_known;
 use chor_base::{Entry, List, Memory};
 use chor_host::HostTable;
 use endpoint_runs::{Closed, run_endpoints};
+use known_functions::asks_known;
 use std::alloc::Global;
 
 /// The events of a run.

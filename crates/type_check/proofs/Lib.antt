@@ -1,5 +1,4 @@
 mod Begins
-mod HostNames
 mod Names
 mod Procedures
 mod Turns

@@ -12,7 +12,7 @@ ghost use Rattle.type_check.specs.Typed.{HasFineNames, HasFineViews};
 
 use crate::bodies::first_in_body;
 use crate::heads::first_in_head;
-use crate::hosts::host_names;
+use known_functions::host_names;
 use crate::typed::Typed;
 use chor_base::{Denied, Fault, Memory, earlier};
 use chor_host::HostTable;

@@ -4,7 +4,6 @@
 mod bodies;
 mod checking;
 mod heads;
-mod hosts;
 mod typed;
 
 pub use checking::{check_types, first_type_fault};

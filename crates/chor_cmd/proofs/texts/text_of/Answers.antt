@@ -1,30 +1,27 @@
 use Rattle.chor_host.specs.Tables.{functions_of}
-use Rattle.source_check.specs.Classes.{classes_of}
-use Rattle.source_check.specs.Source.{IsBroken, IsDenialOf}
-use Rattle.source_check.proofs.Checked.{unread_so, broken_so}
 use Rattle.chor_cmd.specs.Endings.{host_names}
-use Rattle.chor_cmd.specs.Outputs.{IsAnswer, Answers}
-use Rattle.chor_cmd.specs.Words.{rules_of}
-use Rattle.chor_cmd.proofs.Answered.{ok_so, err_so, err_is, answers}
+use Rattle.chor_cmd.specs.Outputs.{IsAnswer, IsFlawed, IsDenied, Answers, of_source}
+use Rattle.chor_cmd.specs.Words.{reading_of}
+use Rattle.chor_cmd.proofs.Answered.{ok_so, err_so, err_is, unread_by, flawed_so}
 use Rattle.chor_cmd.proofs.texts.text_of.Goals as goal
 
 pub returns-in_err-file-clause-denied : goal.returns-in_err-file-clause-denied
 returns-in_err-file-clause-denied g c =
-    let hosts = host_names c.args.hosts.now in
-    let rules = rules_of c.args.command in
+    let words = host_names c.args.hosts.now in
+    let reading = reading_of c.args.command in
     let bytes = c.args.bytes.now in
     let denied = c.in_err-file.field-0.0 in
-    err_is (IsDenialOf rules hosts bytes) c.from_residual.result denied c.from_residual.ensures.1 (unread_so rules hosts bytes denied c.in_err-file.ensures.denied)
+    err_is (IsDenied reading words bytes) c.from_residual.result denied c.from_residual.ensures.1 (unread_by reading words bytes denied c.requires.source c.in_err-file.ensures.denied)
 
 pub returns-clause-text : goal.returns-clause-text
 returns-clause-text g c =
     let functions = functions_of c.args.hosts.now in
     ok_so (λ t. IsAnswer functions c.args.command c.in_ok-file.file t.items) (λ t. Answers functions c.args.command c.args.bytes.now t.items)
-    (λ t. answers functions c.args.command c.args.bytes.now c.in_ok-file.file c.in_ok-file.ensures.file t.items) c.file_text.result c.file_text.ensures.text
+    (λ t. of_source c.in_ok-file.file c.in_ok-file.ensures.file) c.file_text.result c.file_text.ensures.text
 
 pub returns-clause-denied : goal.returns-clause-denied
 returns-clause-denied g c =
-    let hosts = host_names c.args.hosts.now in
-    let rules = rules_of c.args.command in
-    err_so (IsBroken (classes_of rules) hosts c.in_ok-file.file) (IsDenialOf rules hosts c.args.bytes.now)
-    (λ d. broken_so rules hosts c.args.bytes.now c.in_ok-file.file d c.in_ok-file.ensures.file) c.file_text.result c.file_text.ensures.broken
+    let words = host_names c.args.hosts.now in
+    let reading = reading_of c.args.command in
+    err_so (IsFlawed reading words c.in_ok-file.file) (IsDenied reading words c.args.bytes.now)
+    (λ d. flawed_so reading words c.args.bytes.now c.in_ok-file.file d c.in_ok-file.ensures.file) c.file_text.result c.file_text.ensures.broken

@@ -3,7 +3,8 @@ use Rattle.type_check.specs.declared.typed.Typed.{Typed}
 use Rattle.endpoint_code.specs.Faults.{AsksKnown, is_listed}
 use Rattle.chor_host.specs.Tables.{functions_of}
 use Rattle.endpoint_runs.specs.declared.run.Closed.TheVariants.{Ended, Limit, Stuck}
-use Rattle.simulation.proofs.Runs.{checked, asked, outcome_of}
+use Rattle.known_functions.proofs.Asked.{asked}
+use Rattle.simulation.proofs.Runs.{checked, outcome_of}
 use Rattle.simulation.proofs.running.run_accepted.Goals as goal
 
 pub run_endpoints-requires-clause-faultless : goal.run_endpoints-requires-clause-faultless

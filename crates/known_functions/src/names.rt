@@ -8,7 +8,7 @@ use chor_base::{List, Memory, Word};
 use chor_host::HostTable;
 use std::alloc::Global;
 
-// The names of the functions of a table, in their order.
+/// The names of the functions of a table, in their order.
 pub fn host_names(alloc: Global, hosts: &HostTable) -> Result<List<Word>, Memory>
     ensures { IfOk result (λ names. names ≡ names_of (functions_of hosts.now)) }
 {

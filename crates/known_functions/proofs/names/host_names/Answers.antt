@@ -1,7 +1,7 @@
 use Rattle.chor_host.specs.Functions.{function_of}
 use Rattle.chor_host.specs.Tables.{functions_of}
-use Rattle.type_check.proofs.HostNames.{names_turn}
-use Rattle.type_check.proofs.hosts.host_names.Goals as goal
+use Rattle.known_functions.proofs.HostNames.{names_turn}
+use Rattle.known_functions.proofs.names.host_names.Goals as goal
 
 pub loop-place-preserved : goal.loop-place-preserved
 loop-place-preserved g c =

@@ -9,7 +9,7 @@ use chor_base::{NameId, Names, Word};
 use endpoint_code::{CodeNode, Endpoints};
 
 /// Whether each host function that the code asks has one of these names. So it is for the projection
-/// of each file that is accepted with these functions.
+/// of each file that is accepted with these functions, and for programs that are read without fault.
 pub fn asks_known(endpoints: &Endpoints, known: &[Word]) -> bool
     ensures { result ≡ list_all (asks_known (is_listed known.now endpoints.now)) endpoints.now.code.nodes }
 {

@@ -1,10 +1,10 @@
 use Rattle.std.proofs.Common.{ℕ, List, sym, subst}
 use Rattle.chor_host.specs.Tables.{functions_of}
-use Rattle.source_check.specs.Source.{IsDenialOf}
 use Rattle.chor_cmd.specs.declared.status.Status.TheVariants.{Done}
-use Rattle.chor_cmd.specs.Words.{rules_of}
+use Rattle.chor_cmd.specs.Words.{reading_of}
+use Rattle.chor_cmd.specs.Outputs.{IsDenied}
 use Rattle.chor_cmd.specs.Endings.{Ends, host_names, refused, done}
-use Rattle.chor_cmd.proofs.command.answer_bytes.Goals as goal
+use Rattle.chor_cmd.proofs.command.answer_source.Goals as goal
 
 pub returns-in-Ok : goal.returns-in-Ok
 returns-in-Ok g c = λ words before after asked.
@@ -18,4 +18,4 @@ returns-in-Err g c = λ words before after asked.
     let hosts = host_names c.args.hosts.now in
     let bytes = c.args.bytes.now in
     c.finish_denying.ensures (functions_of c.args.hosts.now) words before after asked.name (c.args.command, asked.form)
-    (λ r e. refused c.args.command bytes r asked (subst (IsDenialOf (rules_of c.args.command) hosts bytes) e c.in-Err.ensures.denied))
+    (λ r e. refused c.args.command bytes r asked (subst (IsDenied (reading_of c.args.command) hosts bytes) e c.in-Err.ensures.denied))

@@ -1,0 +1,2 @@
+mod HostNames
+pub mod Asked
