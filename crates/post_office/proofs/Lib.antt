@@ -10,4 +10,7 @@ pub mod Reached
 pub mod Begins
 pub mod Held
 pub mod Sound
+pub mod Placed
 pub mod HeldOnce
+pub mod Waiting
+pub mod Acted
