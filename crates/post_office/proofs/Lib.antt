@@ -14,3 +14,4 @@ pub mod Placed
 pub mod HeldOnce
 pub mod Waiting
 pub mod Acted
+pub mod Callers
