@@ -111,42 +111,27 @@ acted_at v vars m End is = absurd cc
 
 -- ---- answers
 
-pub place_answers : (hosts : Hosts) (vars : Variables) (m : Sessions) (node : CodeNode) (v : ℤ) → NodeAnswers hosts vars node v → PlaceAnswers hosts vars (Some (record { node = node; sessions = m })) v
-place_answers hosts vars m (Join c r k next) v h = tt
-place_answers hosts vars m (Send k b x next) v h = tt
-place_answers hosts vars m (Recv k a x next) v h = tt
-place_answers hosts vars m (Pick k b l next) v h = tt
-place_answers hosts vars m (Branch k a arms) v h = tt
-place_answers hosts vars m (Throw k b g next) v h = tt
-place_answers hosts vars m (Catch k a g next) v h = tt
-place_answers hosts vars m (Set x w next) v h = tt
-place_answers hosts vars m (Show w next) v h = tt
-place_answers hosts vars m (Host x f u w next) v h = h
-place_answers hosts vars m (If w c d) v h = tt
-place_answers hosts vars m (Call f o ns) v h = tt
-place_answers hosts vars m End v h = tt
-
-pub answers_place : (hosts : Hosts) (vars : Variables) (m : Sessions) (node : CodeNode) (v : ℤ) → PlaceAnswers hosts vars (Some (record { node = node; sessions = m })) v → NodeAnswers hosts vars node v
-answers_place hosts vars m (Join c r k next) v h = tt
-answers_place hosts vars m (Send k b x next) v h = tt
-answers_place hosts vars m (Recv k a x next) v h = tt
-answers_place hosts vars m (Pick k b l next) v h = tt
-answers_place hosts vars m (Branch k a arms) v h = tt
-answers_place hosts vars m (Throw k b g next) v h = tt
-answers_place hosts vars m (Catch k a g next) v h = tt
-answers_place hosts vars m (Set x w next) v h = tt
-answers_place hosts vars m (Show w next) v h = tt
-answers_place hosts vars m (Host x f u w next) v h = h
-answers_place hosts vars m (If w c d) v h = tt
-answers_place hosts vars m (Call f o ns) v h = tt
-answers_place hosts vars m End v h = tt
+pub answers_alike : (hosts : Hosts) (vars : Variables) (m : Sessions) (node : CodeNode) (v : ℤ) → (NodeAnswers hosts vars node v → PlaceAnswers hosts vars (Some (record { node = node; sessions = m })) v) × (PlaceAnswers hosts vars (Some (record { node = node; sessions = m })) v → NodeAnswers hosts vars node v)
+answers_alike hosts vars m (Join c r k next) v = (λ h. tt, λ h. tt)
+answers_alike hosts vars m (Send k b x next) v = (λ h. tt, λ h. tt)
+answers_alike hosts vars m (Recv k a x next) v = (λ h. tt, λ h. tt)
+answers_alike hosts vars m (Pick k b l next) v = (λ h. tt, λ h. tt)
+answers_alike hosts vars m (Branch k a arms) v = (λ h. tt, λ h. tt)
+answers_alike hosts vars m (Throw k b g next) v = (λ h. tt, λ h. tt)
+answers_alike hosts vars m (Catch k a g next) v = (λ h. tt, λ h. tt)
+answers_alike hosts vars m (Set x w next) v = (λ h. tt, λ h. tt)
+answers_alike hosts vars m (Show w next) v = (λ h. tt, λ h. tt)
+answers_alike hosts vars m (Host x f u w next) v = (λ h. h, λ h. h)
+answers_alike hosts vars m (If w c d) v = (λ h. tt, λ h. tt)
+answers_alike hosts vars m (Call f o ns) v = (λ h. tt, λ h. tt)
+answers_alike hosts vars m End v = (λ h. tt, λ h. tt)
 
 -- ---- a process that has acted
 
 pub acted_there : (e : Endpoints) (hosts : Hosts) (p : ℕ) (m : Machine) (node : CodeNode) (ss : Sessions) (v : ℤ) (x : Event) (new : Machine) → StandsAt e m node ss → acts_alone node ≡ true → NodeAnswers hosts m.vars node v → node_event p v m.vars node ≡ Some x → node_acted v m.vars ss node ≡ Some new → HasActed e hosts p m x new
 acted_there e hosts p m node ss v x new st is answers h k = record {
   answer = v;
-  allowed = subst (λ (o : Option Place). PlaceAnswers hosts m.vars o v) (sym st.place) (place_answers hosts m.vars ss node v answers);
+  allowed = subst (λ (o : Option Place). PlaceAnswers hosts m.vars o v) (sym st.place) ((answers_alike hosts m.vars ss node v).0 answers);
   made = λ cap n. ap (place_makes cap n p v m.vars) st.place ∙ node_made n p v m.vars ss node x new cap is h k;
 }
 
@@ -157,7 +142,7 @@ makes_there e hosts p m node ss v x st is answers h = let a = acted_at v m.vars 
 pub makes_only : (e : Endpoints) (hosts : Hosts) (p : ℕ) (m : Machine) (node : CodeNode) (ss : Sessions) (x y : Event) → StandsAt e m node ss → acts_alone node ≡ true → ((v : ℤ) → NodeAnswers hosts m.vars node v → node_event p v m.vars node ≡ Some x) → CanMake e hosts p m y → x ≡ y
 makes_only e hosts p m node ss x y st is all (new, a) =
     let n : NetworkState = record { machines = []; queues = []; sid = 0 } in
-    let answers = answers_place hosts m.vars ss node a.answer (subst (λ (o : Option Place). PlaceAnswers hosts m.vars o a.answer) st.place a.allowed) in
+    let answers = (answers_alike hosts m.vars ss node a.answer).1 (subst (λ (o : Option Place). PlaceAnswers hosts m.vars o a.answer) st.place a.allowed) in
     let made = sym (ap (place_makes None n p a.answer m.vars) st.place) ∙ a.made None n in
     let event = made_event n p a.answer m.vars ss node y (moved n p new.at new.vars new.sessions) is made in
     let same : Some x ≡ Some y = sym (all a.answer answers) ∙ event in cc

@@ -1,5 +1,5 @@
 -- What a process sends and takes, and what it does by itself.
-use Rattle.std.specs.Prelude.{ℕ, ℤ, ◌&&◌, Bool, true, false, Option, Some, None, is_some, if◌then◌else◌}
+use Rattle.std.specs.Prelude.{ℕ, ℤ, ◌≡◌, ◌&&◌, Bool, true, false, Option, Some, None, is_some, if◌then◌else◌}
 use Rattle.std.specs.FinMap as fin
 use Rattle.chor_base.specs.declared.value.Value.TheVariants.{Int}
 use Rattle.chor_base.specs.declared.value.Load.{Load}
@@ -101,6 +101,10 @@ node_event p v vars (Show e next) = Some (event.Show p (value_of (term_of e) var
 node_event p v vars (Host x f a b next) = Some (event.Host p x f (number_of (value_of (term_of a) vars)) (number_of (value_of (term_of b) vars)) v)
 node_event p v vars (If e c d) = Some (event.Test p (truth_of (value_of (term_of e) vars)))
 node_event p v vars _ = None
+
+-- whatever answer a process gets at a node, it makes the event that this one makes
+abbrev pub IsOnlyAnswer : Hosts → Variables → CodeNode → ℤ → Type 0
+IsOnlyAnswer hosts vars node w = (p : ℕ) (v : ℤ) → NodeAnswers hosts vars node v → node_event p v vars node ≡ node_event p w vars node
 
 -- a process that has acted by itself at a node
 abbrev pub node_acted : ℤ → Variables → Sessions → CodeNode → Option Machine

@@ -1,6 +1,6 @@
 //! What a process sends, takes and joins at a node.
 
-ghost use Rattle.std.specs.Prelude.{◌≡◌, ◌<◌, ℕ, Some, None, true, false, is_some, Option, List};
+ghost use Rattle.std.specs.Prelude.{◌≡◌, ◌<◌, Some, true, false, is_some};
 ghost use Rattle.std.specs.FinMap as fin;
 ghost use Rattle.chor_base.specs.declared.names.NameId.{NameId as AnyName};
 ghost use Rattle.chor_base.specs.NameMap.{Variables};

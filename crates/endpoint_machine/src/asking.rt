@@ -1,6 +1,6 @@
 //! What a process is answered that asks a host function.
 
-ghost use Rattle.std.specs.Prelude.{◌≡◌, ◌<◌, ℕ, ℤ, Some, true, length, slice_get};
+ghost use Rattle.std.specs.Prelude.{◌≡◌, ◌<◌, ℤ, Some, true, length, slice_get};
 ghost use Rattle.chor_base.specs.Meaning.{meaning_named, MayAnswer};
 ghost use Rattle.chor_base.specs.Words.{AllDistinct};
 ghost use Rattle.chor_base.specs.Writing.{name_in};
@@ -8,7 +8,7 @@ ghost use Rattle.chor_host.specs.Functions.{hosts_in, is_named, names_of};
 ghost use Rattle.chor_host.specs.Tables.{functions_of};
 ghost use Rattle.endpoint_code.specs.Faults.{asks_known, is_listed};
 ghost use Rattle.endpoint_code.specs.Kept.{has_name, has_text, node_there};
-ghost use Rattle.endpoint_machine.specs.Acts.{NodeAnswers, node_event};
+ghost use Rattle.endpoint_machine.specs.Acts.{NodeAnswers, IsOnlyAnswer};
 
 use crate::locals::number_of;
 use crate::machine::Machine;
@@ -49,7 +49,7 @@ impl Machine {
         requires there { node_there (has_name endpoints.now.names) (has_text endpoints.now.texts) node.now ≡ true }
         requires known { asks_known (is_listed (names_of (functions_of hosts.now)) endpoints.now) node.now ≡ true }
         ensures answers { NodeAnswers (hosts_in endpoints.now.names (functions_of hosts.now)) self.now.machine.vars node.now result }
-        ensures only { (p : ℕ) (v : ℤ) → NodeAnswers (hosts_in endpoints.now.names (functions_of hosts.now)) self.now.machine.vars node.now v → node_event p v self.now.machine.vars node.now ≡ node_event p result self.now.machine.vars node.now }
+        ensures only { IsOnlyAnswer (hosts_in endpoints.now.names (functions_of hosts.now)) self.now.machine.vars node.now result }
     {
         match node {
             CodeNode::Host(_, name, left, right, _) => {

@@ -1,5 +1,5 @@
 -- Names and texts of what was read are in the tables.
-use Rattle.std.proofs.Common.{◌≡◌, ℕ, Option, Some, IfSome, List, [], ◌∷◌, ◌++◌, All, Result, Ok, Err, OnOk, sym, subst}
+use Rattle.std.proofs.Common.{◌≡◌, ℕ, Option, Some, IfSome, List, [], ◌∷◌, ◌++◌, Result, Ok, Err, OnOk, sym, subst}
 use Rattle.std.proofs.lemmas.List.Elements.{All-nil, All-push, All-pop, All-same}
 use Rattle.chor_base.specs.declared.expr.UnOp.{UnOp}
 use Rattle.chor_base.specs.declared.expr.BinOp.{BinOp}

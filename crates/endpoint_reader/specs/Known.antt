@@ -1,5 +1,5 @@
 -- What was read has its names and texts in the tables, and no endpoint as a literal (this project's own).
-use Rattle.std.specs.Prelude.{◌<◌, ℕ, List, All, length}
+use Rattle.std.specs.Prelude.{◌<◌, List, All, length}
 use Rattle.chor_base.specs.declared.value.Value.TheVariants.{Int, Bool as Truth, Text, Part}
 use Rattle.chor_base.specs.declared.expr.Expr.{Expr}
 use Rattle.chor_base.specs.Expr.{Term, Constant, Variable, Unary, Binary, term_of}

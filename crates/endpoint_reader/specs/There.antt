@@ -1,5 +1,5 @@
 -- Tokens whose words and texts have their numbers in the tables (this project's own).
-use Rattle.std.specs.Prelude.{◌<◌, ◌&&◌, ℕ, Bool, true, List, [], ◌∷◌, length, nat_lt}
+use Rattle.std.specs.Prelude.{◌&&◌, ℕ, Bool, true, List, [], ◌∷◌, length, nat_lt}
 use Rattle.chor_lexer.specs.declared.token.Kind.{Kind}
 use Rattle.chor_lexer.specs.declared.token.Kind.TheVariants as kind
 use Rattle.chor_lexer.specs.declared.token.Token.{Token}

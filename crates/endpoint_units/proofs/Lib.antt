@@ -3,3 +3,4 @@ pub mod Words
 pub mod Units
 pub mod Insides
 pub mod Wholes
+pub mod Known

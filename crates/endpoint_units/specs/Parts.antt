@@ -7,6 +7,7 @@ use Rattle.endpoint_grammar.specs.Grammar.{Part, units_of}
 use Rattle.endpoint_grammar.specs.Values.{rules, Derived, units_from}
 use Rattle.endpoint_reader.specs.declared.input.Input.{Input}
 use Rattle.endpoint_reader.specs.Tokens.{from}
+use Rattle.endpoint_reader.specs.Known.{AreUnitsThere}
 use Rattle.endpoint_reader.specs.Units.{AreInside, channel_unit, procedure_unit, service_unit, process_unit}
 use Rattle.endpoint_units.specs.declared.parts.Parts.{Parts}
 use Rattle.endpoint_units.specs.declared.word.UnitWord.{UnitWord}
@@ -18,6 +19,9 @@ left p = 64 - length p.processes
 
 abbrev pub ArePartsInside : Parts → Type 0
 ArePartsInside p = AreInside p.lines.items p.procedures p.services p.processes
+
+abbrev pub ArePartsThere : Input → Parts → Type 0
+ArePartsThere i p = AreUnitsThere i p.lines.items p.channels p.procedures p.services p.processes
 
 abbrev pub units_in : Input → Parts → Units
 units_in i p = record {

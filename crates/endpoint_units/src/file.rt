@@ -5,6 +5,7 @@ ghost use Rattle.grammar_laws.specs.Readers.{Reads, Halts, Tells};
 ghost use Rattle.endpoint_grammar.specs.Grammar.{units_of, endpoints};
 ghost use Rattle.endpoint_grammar.specs.Values.{rules, units_from};
 ghost use Rattle.endpoint_reader.specs.Tokens.{lexeme_of, from};
+ghost use Rattle.endpoint_reader.specs.Known.{IsWrittenThere};
 ghost use Rattle.endpoint_reader.specs.Files.{units_written};
 ghost use Rattle.endpoint_units.specs.Wholes.{IsWritten, IsRefusal, nameless};
 
@@ -23,6 +24,7 @@ use std::alloc::Global;
 /// path or processes.
 pub fn read_endpoints(alloc: Global, input: &Input) -> Result<Written, Denied>
     ensures found { IfOk result (λ w. IsWritten (map (lexeme_of input.now) input.now.tokens.now.items) (units_written input.now w)) }
+    ensures known { IfOk result (IsWrittenThere input.now) }
     ensures denied { IfErr result (IsRefusal (map (lexeme_of input.now) input.now.tokens.now.items)) }
 {
     match read_file(alloc, input) {
@@ -48,6 +50,7 @@ fn nameless(denied: Denied) -> Denied
 // "endpoints" "1" ";" units
 fn read_file(alloc: Global, input: &Input) -> Result<Written, Denied>
     ensures reads { IfOk result (λ w. Reads rules endpoints (from input.now 0) (tt, (tt, units_written input.now w)) []) }
+    ensures known { IfOk result (IsWrittenThere input.now) }
     ensures halts { IfErr result (Halts rules endpoints (from input.now 0)) }
 {
     let at = input.take_word(0, b"endpoints")?;
@@ -59,6 +62,7 @@ fn read_file(alloc: Global, input: &Input) -> Result<Written, Denied>
 // { channel | procedure | service | process }, and then the end of the file
 fn read_units(alloc: Global, input: &Input, at: usize) -> Result<Written, Denied>
     ensures reads { IfOk result (λ w. Tells rules (units_of 64) (units_from 64) (from input.now at) (units_written input.now w) []) }
+    ensures known { IfOk result (IsWrittenThere input.now) }
     ensures halts { IfErr result (Halts rules (units_of 64) (from input.now at)) }
 {
     let mut parts = Parts::new(alloc);

@@ -19,6 +19,7 @@ pub struct Parts {
 impl Parts {
     /// No units. It takes no memory.
     pub fn new(alloc: Global) -> Self
+        ensures lines { result.lines.items ≡ [] }
         ensures channels { result.channels ≡ [] }
         ensures procedures { result.procedures ≡ [] }
         ensures services { result.services ≡ [] }

@@ -5,7 +5,7 @@ ghost use Rattle.grammar_laws.specs.Readers.{Halts};
 ghost use Rattle.endpoint_grammar.specs.Values.{rules};
 ghost use Rattle.endpoint_reader.specs.Tokens.{from};
 ghost use Rattle.endpoint_units.specs.Words.{rest_of};
-ghost use Rattle.endpoint_units.specs.Parts.{left, ArePartsInside, IsUnit};
+ghost use Rattle.endpoint_units.specs.Parts.{left, ArePartsInside, ArePartsThere, IsUnit};
 
 use crate::parts::Parts;
 use crate::word::UnitWord;
@@ -34,9 +34,11 @@ pub fn read_unit(
     word: UnitWord,
     parts: &mut Parts,
 ) -> Result<usize, Denied>
-    requires { ArePartsInside parts.old }
+    requires inside { ArePartsInside parts.old }
+    requires known { ArePartsThere input.now parts.old }
     ensures goes { IfOk result (IsUnit input.now word at parts.old parts.new) }
     ensures inside { OnOk result (ArePartsInside parts.new) }
+    ensures known { OnOk result (ArePartsThere input.now parts.new) }
     ensures further { IfOk result (λ end. length (from input.now end) ≤ length (from input.now at)) }
     ensures halts { IfErr result (Halts rules (rest_of word (left parts.old)) (from input.now at)) }
 {
@@ -50,9 +52,11 @@ pub fn read_unit(
 
 // NAME "(" names [ "|" names ] ")" ";"
 fn read_channel(alloc: Global, input: &Input, at: usize, parts: &mut Parts) -> Result<usize, Denied>
-    requires { ArePartsInside parts.old }
+    requires inside { ArePartsInside parts.old }
+    requires known { ArePartsThere input.now parts.old }
     ensures goes { IfOk result (IsUnit input.now UnitWord.Channel at parts.old parts.new) }
     ensures inside { OnOk result (ArePartsInside parts.new) }
+    ensures known { OnOk result (ArePartsThere input.now parts.new) }
     ensures further { IfOk result (λ end. length (from input.now end) ≤ length (from input.now at)) }
     ensures halts { IfErr result (Halts rules (rest_of UnitWord.Channel (left parts.old)) (from input.now at)) }
 {
@@ -71,9 +75,11 @@ fn read_procedure(
     at: usize,
     parts: &mut Parts,
 ) -> Result<usize, Denied>
-    requires { ArePartsInside parts.old }
+    requires inside { ArePartsInside parts.old }
+    requires known { ArePartsThere input.now parts.old }
     ensures goes { IfOk result (IsUnit input.now UnitWord.Procedure at parts.old parts.new) }
     ensures inside { OnOk result (ArePartsInside parts.new) }
+    ensures known { OnOk result (ArePartsThere input.now parts.new) }
     ensures further { IfOk result (λ end. length (from input.now end) ≤ length (from input.now at)) }
     ensures halts { IfErr result (Halts rules (rest_of UnitWord.Procedure (left parts.old)) (from input.now at)) }
 {
@@ -85,9 +91,11 @@ fn read_procedure(
 
 // NAME "[" NAME "]" body
 fn read_service(alloc: Global, input: &Input, at: usize, parts: &mut Parts) -> Result<usize, Denied>
-    requires { ArePartsInside parts.old }
+    requires inside { ArePartsInside parts.old }
+    requires known { ArePartsThere input.now parts.old }
     ensures goes { IfOk result (IsUnit input.now UnitWord.Service at parts.old parts.new) }
     ensures inside { OnOk result (ArePartsInside parts.new) }
+    ensures known { OnOk result (ArePartsThere input.now parts.new) }
     ensures further { IfOk result (λ end. length (from input.now end) ≤ length (from input.now at)) }
     ensures halts { IfErr result (Halts rules (rest_of UnitWord.Service (left parts.old)) (from input.now at)) }
 {
@@ -103,9 +111,11 @@ fn read_service(alloc: Global, input: &Input, at: usize, parts: &mut Parts) -> R
 
 // NAME body
 fn read_process(alloc: Global, input: &Input, at: usize, parts: &mut Parts) -> Result<usize, Denied>
-    requires { ArePartsInside parts.old }
+    requires inside { ArePartsInside parts.old }
+    requires known { ArePartsThere input.now parts.old }
     ensures goes { IfOk result (IsUnit input.now UnitWord.Process at parts.old parts.new) }
     ensures inside { OnOk result (ArePartsInside parts.new) }
+    ensures known { OnOk result (ArePartsThere input.now parts.new) }
     ensures further { IfOk result (λ end. length (from input.now end) ≤ length (from input.now at)) }
     ensures halts { IfErr result (Halts rules (rest_of UnitWord.Process (left parts.old)) (from input.now at)) }
 {

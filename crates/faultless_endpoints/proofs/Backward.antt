@@ -1,6 +1,6 @@
 -- Code that uses its session names well is written without a fault.
-use Rattle.std.proofs.Common.{◌≡◌, ◌==◌, ◌&&◌, ◌||◌, ◌<◌, ℕ, Bool, true, false, not, List, [], ◌∷◌, ◌++◌, length, map, refl, ap, sym, ◌∙◌, subst, Some, None, is_some}
-use Rattle.std.specs.Prelude.{Option, All, slice_get, slice_index_or, if◌then◌else◌}
+use Rattle.std.proofs.Common.{◌≡◌, ◌==◌, ◌&&◌, ◌||◌, ℕ, Bool, true, false, not, List, [], ◌∷◌, ◌++◌, length, map, refl, ap, sym, ◌∙◌, subst, Some, None, is_some}
+use Rattle.std.specs.Prelude.{Option, if◌then◌else◌}
 use Rattle.std.specs.List.{flat_map}
 use Rattle.std.proofs.lemmas.List.{length-map}
 use Rattle.std.proofs.lemmas.Option.{slice_get_within, get_or_from_slice_get}
@@ -18,19 +18,19 @@ use Rattle.endpoint_code.specs.declared.code.CodeNode.{CodeNode}
 use Rattle.endpoint_code.specs.declared.endpoints.Channel.{Channel as CodeChannel}
 use Rattle.endpoint_code.specs.declared.endpoints.Procedure.{Procedure as CodeProcedure}
 use Rattle.endpoint_code.specs.declared.endpoints.Endpoints.{Endpoints}
-use Rattle.endpoint_code.specs.Faults.{is_among, AreDistinct, no_name, one_more, IsActive, all_among, asks_known, AsksKnown, is_listed, IsScoped, joins, sends, receives, picks, offers, gives, gains, sets, shows, asks, tests, calls, ends, AllScoped, no_arm, one_arm}
+use Rattle.endpoint_code.specs.Faults.{is_among, AreDistinct, one_more, all_among, asks_known, AsksKnown, IsScoped, joins, sends, receives, picks, offers, gives, gains, sets, shows, asks, tests, calls, ends, AllScoped, no_arm, one_arm}
 use Rattle.endpoint_code.specs.Labels.{has_label, HasDistinctLabels, AreDistinctArms}
 use Rattle.endpoint_code.specs.Network as network
-use Rattle.endpoint_code.specs.Trees.{Action, Joins, Sends, Receives, Selects, Gives, Gains, Sets, Shows, Asks, CodeTree, Does, Offers, Tests, Calls, Ends, Arms, NoArms, Arm, arms_in, tree_in, trees_of, code_at}
+use Rattle.endpoint_code.specs.Trees.{Action, Asks, CodeTree, Does, Offers, Tests, Calls, Ends, Arms, NoArms, Arm, arms_in, trees_of, code_at}
 use Rattle.endpoint_code.proofs.CodeTables.{code_at-node}
-use Rattle.scoped_codes.specs.Scoped.{IsScopedAction, IsScopedTree, AreScopedArms, IsScopedCall, bound_after as passed}
-use Rattle.endpoint_names.specs.Keys.{alone, both, same_key, is_known, sign_of_name, sign_of_channel, sign_of_procedure, first_by}
+use Rattle.scoped_codes.specs.Scoped.{IsScopedAction, IsScopedTree, AreScopedArms, IsScopedCall}
+use Rattle.endpoint_names.specs.Keys.{alone, both, same_key, sign_of_name, sign_of_channel, sign_of_procedure, first_by}
 use Rattle.endpoint_names.specs.Bodies as body
-use Rattle.endpoint_names.specs.Faults.{fault_at, names_in, repeated, channel_of, procedure_of, unknown_channel, inactive, unbound, bound_again, bound_after, wrong_call, Setting, setting, action_faults, call_faults, body_faults, arms_faults}
+use Rattle.endpoint_names.specs.Faults.{fault_at, names_in, repeated, channel_of, procedure_of, unknown_channel, inactive, unbound, bound_again, bound_after, wrong_call, setting, action_faults, call_faults, body_faults, arms_faults}
 use Rattle.endpoint_names.proofs.Keys.{number_turned, left_true, right_true}
 use Rattle.endpoint_making.specs.Codes.{code_id, action_of, code_of, arms_of}
 use Rattle.endpoint_making.specs.Making.{channel_made, procedure_made, IsMadeOf}
-use Rattle.faultless_endpoints.proofs.Lists.{two_nothings, all_nothings, faultless, faultless_so, count_same}
+use Rattle.faultless_endpoints.proofs.Lists.{two_nothings, faultless, faultless_so, count_same}
 use Rattle.faultless_endpoints.proofs.Once.{keys_in, AreOnce, not_again, names_distinct, same_alone}
 use Rattle.faultless_endpoints.proofs.Bodies.{found_channel, procedures_found, bound_same, label_known, code_same}
 

@@ -25,7 +25,7 @@ use Rattle.scoped_codes.specs.Scoped as scoped
 use Rattle.scoped_codes.proofs.Tables.{tree_tells}
 use Rattle.endpoint_names.specs.Keys.{alone, both, same_key, is_known, sign_of_name, sign_of_channel, sign_of_procedure, first_by}
 use Rattle.endpoint_names.specs.Bodies.{Body, Does, Offers, Tests, Calls, Ends, Arms, NoArms, Arm, labels_of, line_body, grown, bodies_of, body_at}
-use Rattle.endpoint_names.specs.Faults.{fault_at, names_in, repeated, channel_of, procedure_of, unknown_channel, unlisted, inactive, unbound, bound_again, bound_after, wrong_call, setting, unknown_function, action_faults, call_faults, body_faults, arms_faults}
+use Rattle.endpoint_names.specs.Faults.{fault_at, names_in, repeated, channel_of, procedure_of, unknown_channel, inactive, unbound, bound_again, bound_after, wrong_call, setting, action_faults, call_faults, body_faults, arms_faults}
 use Rattle.endpoint_names.proofs.Keys.{number_turned}
 use Rattle.endpoint_making.specs.Codes.{code_id, action_of, code_of, arms_of}
 use Rattle.endpoint_making.specs.Making.{channel_made, procedure_made, IsMadeOf}

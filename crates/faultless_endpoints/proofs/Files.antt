@@ -1,6 +1,6 @@
 -- Files without a fault.
 use Rattle.std.proofs.Common.{◌≡◌, ◌<◌, ℕ, true, false, List, [], ◌∷◌, ◌++◌, length, map, refl, ap, sym, ◌∙◌, subst, Some, None}
-use Rattle.std.specs.Prelude.{Option, All, slice_get, slice_index_or}
+use Rattle.std.specs.Prelude.{Option, All, slice_index_or}
 use Rattle.std.specs.List.{flat_map}
 use Rattle.std.proofs.lemmas.List.{map-append}
 use Rattle.std.proofs.lemmas.Simd.{map-map}
@@ -9,7 +9,6 @@ use Rattle.chor_base.specs.declared.names.NameId.{NameId}
 use Rattle.endpoint_reader.specs.declared.written.Channel.{Channel}
 use Rattle.endpoint_reader.specs.declared.written.Procedure.{Procedure}
 use Rattle.endpoint_reader.specs.declared.written.Service.{Service}
-use Rattle.endpoint_reader.specs.declared.written.Process.{Process}
 use Rattle.endpoint_reader.specs.declared.written.Written.{Written}
 use Rattle.endpoint_code.specs.declared.code.CodeNode.{CodeNode}
 use Rattle.endpoint_code.specs.declared.code.CodeNode.TheVariants as node

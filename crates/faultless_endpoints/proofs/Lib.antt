@@ -5,3 +5,4 @@ pub mod Files
 pub mod Asked
 pub mod Backward
 pub mod Unmade
+pub mod Trees

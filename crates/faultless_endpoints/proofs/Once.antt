@@ -1,6 +1,5 @@
 -- Keys that stand once.
-use Rattle.std.proofs.Common.{◌≡◌, ◌==◌, ◌&&◌, ◌||◌, ℕ, Bool, true, false, List, [], ◌∷◌, ◌++◌, map, refl, ap, sym, ◌∙◌, subst, Some, None}
-use Rattle.std.specs.Prelude.{Option, if◌then◌else◌}
+use Rattle.std.proofs.Common.{◌≡◌, ◌==◌, ◌&&◌, ◌||◌, Bool, true, false, List, [], ◌∷◌, ◌++◌, map, refl, ap, sym, ◌∙◌}
 use Rattle.std.proofs.lemmas.List.Folds.{list_any-append}
 use Rattle.chor_base.specs.declared.names.NameId.{NameId}
 use Rattle.endpoint_reader.specs.declared.input.Named.{Named}
@@ -10,7 +9,7 @@ use Rattle.endpoint_code.specs.Faults.{is_among, AreDistinct, no_name, one_more,
 use Rattle.endpoint_names.specs.declared.key.Key.{Key}
 use Rattle.endpoint_names.specs.declared.key.Sign.{Sign}
 use Rattle.endpoint_names.specs.Keys.{alone, both, same_key, is_known, sign_of_name, sign_of_procedure, sign_of_service, keys_of}
-use Rattle.endpoint_names.specs.Faults.{fault_at, repeated, names_in}
+use Rattle.endpoint_names.specs.Faults.{fault_at, repeated}
 use Rattle.endpoint_names.proofs.Keys.{key_turned}
 use Rattle.endpoint_making.specs.Making.{procedure_made, service_made}
 use Rattle.faultless_endpoints.proofs.Lists.{nothing_of_two, no_fault, two_nothings, faultless}

@@ -1,6 +1,6 @@
 -- Files of which what is made has no fault.
-use Rattle.std.proofs.Common.{◌≡◌, ◌<◌, ℕ, true, false, not, is_some, List, [], ◌∷◌, ◌++◌, length, map, refl, ap, sym, ◌∙◌, subst, Some, None}
-use Rattle.std.specs.Prelude.{All, bytes_eq, slice_get, slice_index_or}
+use Rattle.std.proofs.Common.{◌≡◌, ◌<◌, ℕ, true, false, not, is_some, List, [], ◌∷◌, ◌++◌, length, map, refl, ap, sym, ◌∙◌, subst, Some}
+use Rattle.std.specs.Prelude.{All, bytes_eq, slice_index_or}
 use Rattle.std.specs.List.{flat_map, list_any}
 use Rattle.std.proofs.lemmas.List.{map-append}
 use Rattle.std.proofs.lemmas.Simd.{map-map}

@@ -15,7 +15,9 @@ use Rattle.endpoint_making.specs.Making.{IsMadeOf}
 
 -- what is made of units without a fault of names and beginnings has none
 abbrev pub MadeIsFaultless : Type 0
-MadeIsFaultless = (w : Written) (names texts hosts : List (List ℕ)) (e : Endpoints) → IsMadeOf w names texts e → IsFaultless (setting w names hosts) → IsFaultlessCode e
+MadeIsFaultless =
+    (w : Written) (names texts hosts : List (List ℕ)) (e : Endpoints) → IsMadeOf w names texts e → IsFaultless (setting w names hosts)
+    → IsFaultlessCode e
 
 -- a line with which a unit's body begins, or that follows another
 pub data IsUsed (w : Written) (id : LineId) : Type 0 where
@@ -36,4 +38,6 @@ MadeAsksKnown =
 
 -- and back: where what is made has no fault, the units have none
 abbrev pub FaultlessIsMade : Type 0
-FaultlessIsMade = (w : Written) (names texts hosts : List (List ℕ)) (e : Endpoints) → IsMadeOf w names texts e → IsFaultlessWith hosts e → IsFaultless (setting w names hosts)
+FaultlessIsMade =
+    (w : Written) (names texts hosts : List (List ℕ)) (e : Endpoints) → IsMadeOf w names texts e → IsFaultlessWith hosts e
+    → IsFaultless (setting w names hosts)

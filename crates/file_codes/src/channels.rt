@@ -1,13 +1,12 @@
 //! The channels that a file starts.
 
 ghost use Rattle.std.specs.Prelude.{◌≡◌, IfOk, map};
-ghost use Rattle.projection.specs.Projects.{starts_of, is_some_start, started_services, channel_from, names_of};
-ghost use Rattle.service_codes.specs.Starts.{AreAllStarts};
+ghost use Rattle.projection.specs.Projects.{started_services, channel_from, names_of};
 
 use chor_base::{List, Memory, NameId};
 use chor_tree::{File, Named, Service};
 use endpoint_code::Channel;
-use service_codes::{Started, all_starts, starts_of};
+use service_codes::{Started, all_starts, is_started};
 use std::alloc::Global;
 
 /// The channels that a start in the file names, in the order in which the file declares them.
@@ -21,20 +20,11 @@ pub fn channels(alloc: Global, file: &File) -> Result<List<Channel>, Memory>
     };
     let mut channels = List::new(alloc);
     for service in file.services.as_slice() {
-        if is_started(alloc, &started, service.name.name)? {
+        if is_started(&started, service.name.name) {
             channels.push(channel(alloc, service)?)?;
         }
     }
     Ok(channels)
-}
-
-// Whether a start in the file names this channel.
-fn is_started(alloc: Global, started: &Started<'_>, channel: NameId) -> Result<bool, Memory>
-    requires { AreAllStarts started.now.file.now started.now.starts.now }
-    ensures { IfOk result (λ is. is ≡ is_some_start (starts_of started.now.file.now channel)) }
-{
-    let starts = starts_of(alloc, started, channel)?;
-    Ok(!starts.is_empty())
 }
 
 fn channel(alloc: Global, service: &Service) -> Result<Channel, Memory>

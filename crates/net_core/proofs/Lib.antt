@@ -6,6 +6,7 @@ pub mod Heads
 pub mod Fields
 pub mod Rooms
 pub mod Places
+pub mod Asked
 pub mod Moves
 pub mod Alone
 pub mod Makers

@@ -22,7 +22,7 @@ use Rattle.endpoint_machine.specs.Heads.{node_head, place_head, head_of, sends_o
 use Rattle.endpoint_machine.specs.Acts.{node_load, place_load, load_of, node_takes, place_takes, taking_of}
 use Rattle.endpoint_machine.specs.Places.{StandsAt}
 use Rattle.endpoint_machine.specs.Steps.{CanMake}
-use Rattle.endpoint_machine.proofs.Actings.{alone_there, answers_place, made_event, makes_there}
+use Rattle.endpoint_machine.proofs.Actings.{alone_there, answers_alike, made_event, makes_there}
 use Rattle.net_core.specs.Follows.{IsStep, HasFollowed, MayMake, maker_of}
 use Rattle.net_core.specs.Heads.{Shows}
 use Rattle.net_core.specs.Steps.{HasStepped}
@@ -172,7 +172,7 @@ may_acting e hosts n p m node ss x there st h = (
   λ may.
       let is = alone_there e m node ss st h in
       let here : MachineAnswers hosts e (Some m) may.answer = subst (λ (o : Option Machine). MachineAnswers hosts e o may.answer) there may.allowed in
-      let answers = answers_place hosts m.vars ss node may.answer (subst (λ (o : Option Place). PlaceAnswers hosts m.vars o may.answer) st.place here) in
+      let answers = (answers_alike hosts m.vars ss node may.answer).1 (subst (λ (o : Option Place). PlaceAnswers hosts m.vars o may.answer) st.place here) in
       let made : node_makes None n p may.answer m.vars ss node ≡ Some (Makes x may.after) = sym (ap (machine_makes e None n p may.answer) there ∙ ap (place_makes None n p may.answer m.vars) st.place) ∙ may.made in
       makes_there e hosts p m node ss may.answer x st is answers (made_event n p may.answer m.vars ss node x may.after is made),
 )

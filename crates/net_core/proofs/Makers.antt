@@ -21,7 +21,7 @@ use Rattle.endpoint_code.specs.Network.{Sessions, Machine, NetworkState, Place, 
 use Rattle.endpoint_code.specs.NetworkRuns.{ends_there, node_waits, place_waits, waits_for, waits_to_send, waits_to_receive, waits_for_first}
 use Rattle.endpoint_code.specs.Scheduled.{chosen, chosen_at}
 use Rattle.endpoint_machine.specs.Acts.{NodeAnswers}
-use Rattle.endpoint_machine.proofs.Actings.{answers_place}
+use Rattle.endpoint_machine.proofs.Actings.{answers_alike}
 use Rattle.net_core.specs.Follows.{MayMake, maker_of}
 use Rattle.net_core.specs.Heads.{steps_at, steps_of, joins_at_all, is_joining}
 use Rattle.net_core.specs.Machines.{is_join}
@@ -49,7 +49,7 @@ same_made e hosts n p v w one h i = at_machine (slice_get n.machines p) h i
   where
     at_place : (vars : Variables) (o : Option Place) → PlaceAnswers hosts vars o v → PlaceAnswers hosts vars o w → place_makes None n p v vars o ≡ place_makes None n p w vars o
     at_place vars None h i = refl
-    at_place vars (Some q) h i = node_same hosts n p v w vars q.sessions q.node one (answers_place hosts vars q.sessions q.node v h) (answers_place hosts vars q.sessions q.node w i)
+    at_place vars (Some q) h i = node_same hosts n p v w vars q.sessions q.node one ((answers_alike hosts vars q.sessions q.node v).1 h) ((answers_alike hosts vars q.sessions q.node w).1 i)
 
     at_machine : (o : Option Machine) → MachineAnswers hosts e o v → MachineAnswers hosts e o w → machine_makes e None n p v o ≡ machine_makes e None n p w o
     at_machine None h i = refl

@@ -12,7 +12,7 @@ use Rattle.endpoint_machine.specs.declared.head.Head.TheVariants as head
 use Rattle.endpoint_machine.specs.Acts.{NodeAnswers}
 use Rattle.endpoint_machine.specs.Heads.{node_head, place_head, head_of}
 use Rattle.endpoint_machine.specs.Views.{MachineView}
-use Rattle.endpoint_machine.proofs.Actings.{place_answers}
+use Rattle.endpoint_machine.proofs.Actings.{answers_alike}
 use Rattle.net_core.specs.Lanes.{QueuesView}
 use Rattle.net_core.specs.Machines.{MovesWith, ActsWith}
 
@@ -37,7 +37,7 @@ free_answers e hosts m h v is other = go (place_of e m) is
   where
     go : (o : Option Place) → place_head o ≡ Some h → PlaceAnswers hosts m.vars o v
     go None i = absurd cc
-    go (Some q) i = place_answers hosts m.vars q.sessions q.node v (free_node hosts m.vars q.sessions q.node h v i other)
+    go (Some q) i = (answers_alike hosts m.vars q.sessions q.node v).0 (free_node hosts m.vars q.sessions q.node h v i other)
 
 -- a process moves with any answer: it acts with one
 pub acts_moving : (e : Endpoints) (hosts : Hosts) (q r : QueuesView) (m k : MachineView) (x : Event) (h : Head) → head_of e m.machine ≡ Some h → (head.Local ≡ h → ⊥) → ((v : ℤ) → MovesWith e v q m x r k) → ActsWith e hosts q m x r k

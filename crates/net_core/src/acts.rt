@@ -1,6 +1,6 @@
 //! What a process of a network does by itself.
 
-ghost use Rattle.std.specs.Prelude.{◌≡◌, ◌≤◌, Some, true, false, OnOk, IsOk, slice_get, ℤ};
+ghost use Rattle.std.specs.Prelude.{◌≡◌, ◌≤◌, Some, true, OnOk, IsOk, slice_get, ℤ};
 ghost use Rattle.chor_base.specs.Events.{Triple};
 ghost use Rattle.chor_host.specs.Functions.{hosts_in, names_of};
 ghost use Rattle.chor_host.specs.Tables.{functions_of};

@@ -1,6 +1,6 @@
 //! Following a start of a session.
 
-ghost use Rattle.std.specs.Prelude.{◌≡◌, ◌≢◌, ◌<◌, ◌+◌, ◌^◌, ◌++◌, ◌↔◌, ◌&&◌, ◌==◌, [], IsTrue, Some, length, take, OnOk, OnErr, true};
+ghost use Rattle.std.specs.Prelude.{◌≡◌, ◌<◌, ◌+◌, ◌^◌, ◌↔◌, ◌&&◌, ◌==◌, IsTrue, Some, length, take, OnOk, OnErr, true};
 ghost use Rattle.chor_base.specs.Meaning.{Hosts};
 ghost use Rattle.chor_base.specs.declared.event.Event.TheVariants as event;
 ghost use Rattle.endpoint_code.specs.Network.{channel_of};

@@ -1,6 +1,6 @@
 //! Following events that were made elsewhere.
 
-ghost use Rattle.std.specs.Prelude.{◌≡◌, ◌<◌, ◌+◌, ◌^◌, ◌++◌, ◌↔◌, ℕ, IsTrue, Some, None, length, take, OnOk, OnErr, true, ◌≢◌, [], drop};
+ghost use Rattle.std.specs.Prelude.{◌≡◌, ◌<◌, ◌↔◌, IsTrue, Some, length};
 ghost use Rattle.chor_base.specs.Meaning.{Hosts};
 ghost use Rattle.chor_base.specs.declared.event.Event.TheVariants as made;
 ghost use Rattle.chor_host.specs.Functions.{hosts_in, names_of};

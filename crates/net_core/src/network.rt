@@ -1,7 +1,6 @@
 //! The network.
 
-ghost use Rattle.std.specs.Prelude.{◌≡◌, ◌<◌, ◌^◌, [], length, All, IfOk, OnOk, OnErr, IsTrue, ◌↔◌, Some, None, slice_get, IfSome, vec_len, vec_capacity, ◌++◌, ◌∷◌, true, false, ℕ, IsOk, not, ◌||◌, ◌==◌, ◌+◌};
-ghost use Rattle.std.specs.Prelude.{map};
+ghost use Rattle.std.specs.Prelude.{◌≡◌, ◌<◌, [], length, IfOk, OnOk, OnErr, Some, None, true, false, ℕ, IsOk, not, ◌||◌, ◌==◌};
 ghost use Rattle.chor_base.specs.Meaning.{Hosts};
 ghost use Rattle.chor_host.specs.Functions.{hosts_in, names_of};
 ghost use Rattle.chor_host.specs.Tables.{functions_of};

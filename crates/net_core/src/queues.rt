@@ -1,6 +1,6 @@
 //! The queues of a network.
 
-ghost use Rattle.std.specs.Prelude.{◌≡◌, ◌≤◌, ◌<◌, ◌∷◌, ◌++◌, [], length, drop, OnOk, OnErr, IsOk, IfSome, IfNone, slice_get, IsTrue, ◌↔◌, true, None, ◌≢◌};
+ghost use Rattle.std.specs.Prelude.{◌≡◌, ◌≤◌, ◌<◌, ◌∷◌, ◌++◌, [], length, drop, OnOk, IsOk, IfSome, slice_get, None, ◌≢◌};
 ghost use Rattle.chor_base.specs.Events.{Triple};
 ghost use Rattle.endpoint_code.specs.Network.{loads_for, with_loads};
 ghost use Rattle.net_core.specs.Lanes.{loads_in, room_on, lane_from};

@@ -1,28 +1,29 @@
--- An office after an event of one process.
-use Rattle.std.proofs.Common.{◌≡◌, ◌≢◌, ℕ, zero, suc, ◌<◌, ◌==◌, ◌^◌, Bool, true, false, List, [], ◌∷◌, ◌++◌, length, refl, sym, ap, ◌∙◌, subst, Option, Some, None, arith, drop, if◌then◌else◌}
+-- What an event of one process changes in an office.
+use Rattle.std.proofs.Common.{◌≡◌, ◌≢◌, ℕ, zero, suc, ◌==◌, Bool, true, false, List, [], ◌∷◌, ◌++◌, refl, sym, ap, ◌∙◌, subst, Option, Some, None, arith, drop, if◌then◌else◌}
 use Rattle.std.specs.Prelude.{slice_get, slice_set, not}
-use Rattle.std.proofs.lemmas.List.{length-set, map-append, append_cancel_left, append-nil}
+use Rattle.std.proofs.lemmas.List.{map-append, append-nil}
 use Rattle.std.proofs.lemmas.Bool.Decides.{nat_tests}
 use Rattle.chor_base.specs.declared.value.Load.{Load}
+use Rattle.chor_base.specs.declared.names.NameId.{NameId}
+use Rattle.chor_base.specs.declared.event.Why.TheVariants.{Empty, Wrong, Full, Absent}
 use Rattle.chor_base.specs.declared.event.Entry.{Entry}
 use Rattle.chor_base.specs.declared.event.Event.{Event}
 use Rattle.chor_base.specs.declared.event.Event.TheVariants as event
 use Rattle.chor_base.specs.Meaning.{Hosts}
-use Rattle.chor_base.specs.Events.{Triple, triple_eq, actors_of, load_on, sent_by, received_by}
+use Rattle.chor_base.specs.Events.{Triple, triple_eq, load_on, sent_by, received_by}
 use Rattle.endpoint_code.specs.declared.endpoints.Endpoints.{Endpoints}
 use Rattle.endpoint_code.specs.Network.{Machine, NetworkState, queue_of, has_room, NetworkSteps, first_state}
-use Rattle.endpoint_code.specs.NetworkRuns.{NetworkLeads}
-use Rattle.endpoint_code.proofs.Fifo.{step_keeps, same_triple}
+use Rattle.endpoint_code.specs.NetworkRuns.{NetworkLeads, waits_for}
+use Rattle.endpoint_code.proofs.Fifo.{same_triple}
 use Rattle.endpoint_code.proofs.Queues.{triple_same}
 use Rattle.post_office.specs.declared.desk.Desk.{Desk}
 use Rattle.post_office.specs.declared.post.Post.{Post}
-use Rattle.post_office.specs.declared.post.Post.TheVariants.{Busy}
+use Rattle.post_office.specs.declared.post.Post.TheVariants.{Busy, Joining, Waiting, Ended}
 use Rattle.post_office.specs.Queues.{QueueTable, loads_at, HasPut, HasTaken}
-use Rattle.post_office.specs.Views.{OfficeView, events_of, IsAfter, CanMake, post_at, joined_at, made_busy}
-use Rattle.post_office.specs.Posts.{IsPostOf, IsTrueIn}
-use Rattle.post_office.specs.Kept.{IsKept}
+use Rattle.post_office.specs.Views.{OfficeView, events_of, IsAfter, post_at, joined_at, made_busy}
+use Rattle.post_office.specs.Posts.{holding, IsPostOf, IsTrueIn}
 use Rattle.post_office.specs.Answers.{is_local}
-use Rattle.post_office.proofs.Steps.{ActsAlone, step_alone, is_start, sends_on, FindsRoom, step_capped, get-set_other}
+use Rattle.post_office.proofs.Steps.{ActsAlone, is_start, sends_on, get-set_other}
 
 -- ---- the run
 
@@ -40,9 +41,26 @@ after_more v n m x worker history more run step =
 
 -- ---- what was posted
 
-pub busy_true : (e : Endpoints) (o : Option Machine) → IsPostOf e o Busy
-busy_true e None = tt
-busy_true e (Some m) = tt
+pub busy_true : (e : Endpoints) (n : NetworkState) (o : Option Machine) → IsPostOf e n o Busy
+busy_true e n None = tt
+busy_true e n (Some m) = tt
+
+-- the first load for which a process is posted as waiting is still the first
+abbrev pub StaysFirst : Endpoints → NetworkState → NetworkState → Option Machine → Type 0
+StaysFirst e n k o = (m : Machine) → o ≡ Some m → (s : ℕ) (a b : NameId) (l : Load) → waits_for e None (holding (s, a, b) l) m ≡ Some (Wrong s a b) → slice_get (queue_of n (s, a, b)) 0 ≡ Some l → slice_get (queue_of k (s, a, b)) 0 ≡ Some l
+
+pub post_stays : (e : Endpoints) (n k : NetworkState) (o : Option Machine) (post : Post) → StaysFirst e n k o → IsPostOf e n o post → IsPostOf e k o post
+post_stays e n k None Busy first h = tt
+post_stays e n k None (Joining c r) first h = absurd h
+post_stays e n k None (Waiting why) first h = absurd h
+post_stays e n k None Ended first h = absurd h
+post_stays e n k (Some m) Busy first h = tt
+post_stays e n k (Some m) (Joining c r) first h = h
+post_stays e n k (Some m) Ended first h = h
+post_stays e n k (Some m) (Waiting (Empty s a b)) first h = h
+post_stays e n k (Some m) (Waiting (Full s a b)) first h = h
+post_stays e n k (Some m) (Waiting (Wrong s a b)) first h = (h.0, first m refl s a b h.0 h.2 h.1, h.2)
+post_stays e n k (Some m) (Waiting (Absent c r)) first h = absurd h
 
 pub busy_own : (ds : List Desk) (p : ℕ) (j : Option ℕ) → post_at (slice_set ds p (record { post = Busy; joined = j })) p ≡ Busy
 busy_own [] p j = refl
@@ -62,16 +80,17 @@ same_number a b h = grind (arith, nat_tests)
 pub other_number : (a b : ℕ) → (a == b) ≡ false → a ≢ b
 other_number a b h = grind (arith, nat_tests)
 
-pub posts_after : (e : Endpoints) (n m : NetworkState) (x : Event) (p : ℕ) (ds : List Desk) → ActsAlone p x n m → ((q : ℕ) → IsTrueIn e n q (post_at ds q)) → (q : ℕ) → IsTrueIn e m q (post_at (made_busy (p ∷ []) ds) q)
-posts_after e n m x p ds alone posts q = go (q == p) refl
+pub posts_after : (e : Endpoints) (n m : NetworkState) (x : Event) (p : ℕ) (ds : List Desk) → ActsAlone p x n m → ((q : ℕ) → q ≢ p → StaysFirst e n m (slice_get n.machines q)) → ((q : ℕ) → IsTrueIn e n q (post_at ds q)) → (q : ℕ) → IsTrueIn e m q (post_at (made_busy (p ∷ []) ds) q)
+posts_after e n m x p ds alone first posts q = go (q == p) refl
   where
     go : (b : Bool) → (q == p) ≡ b → IsTrueIn e m q (post_at (made_busy (p ∷ []) ds) q)
     go true h =
         let own : post_at (made_busy (p ∷ []) ds) q ≡ Busy = subst (λ i. post_at (made_busy (p ∷ []) ds) i ≡ Busy) (sym (same_number q p h)) (busy_own ds p (joined_at ds p)) in
-        subst (λ (w : Post). IsTrueIn e m q w) (sym own) (busy_true e (slice_get m.machines q))
+        subst (λ (w : Post). IsTrueIn e m q w) (sym own) (busy_true e m (slice_get m.machines q))
     go false h =
         let apart = other_number q p h in
-        subst (λ (w : Post). IsTrueIn e m q w) (sym (post_other ds p q _ apart)) (subst (λ (o : Option Machine). IsPostOf e o (post_at ds q)) (sym (alone.others q apart)) (posts q))
+        subst (λ (w : Post). IsTrueIn e m q w) (sym (post_other ds p q _ apart))
+        (subst (λ (o : Option Machine). IsPostOf e m o (post_at ds q)) (sym (alone.others q apart)) (post_stays e n m (slice_get n.machines q) (post_at ds q) (first q apart) (posts q)))
 
 -- ---- the queues
 
@@ -108,41 +127,12 @@ module _ (old new : QueueTable) (u : Triple) (l : Load) where
           rw (e, back) (first_and_rest (loads_at old u) first ∙ ap (λ (w : Triple). loads_at old w) (sym is))
       go false e = let back : triple_eq u t ≡ false = turned t u e in rw (e, back) refl
 
--- ---- the office
+-- ---- the three kinds of events
 
 -- where an event sends, its queue has room
 abbrev pub HasPlace : Option ℕ → QueueTable → Option Triple → Type 0
 HasPlace cap qs None = Unit {0}
 HasPlace cap qs (Some t) = has_room cap (loads_at qs t) ≡ true
-
-module _ {v : OfficeView} (kept : IsKept v) (x : Event) (p : ℕ) (alone : is_start x ≡ false) (actor : actors_of x ≡ p ∷ []) (can : CanMake v x) where
-  pub actor_within : p < length v.desks
-  actor_within = let s = can kept.state kept.after in let k : p < length kept.state.machines = (step_alone v.endpoints v.hosts None kept.state s.0 x p alone actor s.1).1 in let l = kept.processes in omega arith
-
-  finds_room : (o : Option Triple) → HasPlace v.capacity v.queues o → FindsRoom v.capacity kept.state o
-  finds_room None h = tt
-  finds_room (Some t) h = sym (ap (has_room v.capacity) (kept.queues t)) ∙ h
-
-  pub acted_kept : HasPlace v.capacity v.queues (sends_on x) → (worker : ℕ) (history : List Entry) (queues : QueueTable) (desks : List Desk) (room : ℕ)
-      → history ≡ v.history ++ record { worker = worker; event = x } ∷ [] → Flows v.queues x queues → desks ≡ made_busy (p ∷ []) v.desks
-      → IsKept (record { endpoints = v.endpoints; hosts = v.hosts; capacity = v.capacity; history = history; queues = queues; sid = v.sid; desks = desks; room = room })
-  acted_kept place worker history queues desks room more flows busy =
-      let made = can kept.state kept.after in
-      let step = step_capped v.capacity x made.0 v.endpoints v.hosts kept.state (finds_room (sends_on x) place) made.1 in
-      let by = step_alone v.endpoints v.hosts v.capacity kept.state made.0 x p alone actor step in
-      let long : length desks ≡ length v.desks = ap length busy ∙ length-set v.desks p (record { post = Busy; joined = joined_at v.desks p }) in
-      record {
-        faultless = kept.faultless;
-        state = made.0;
-        after = after_more v kept.state made.0 x worker history more kept.after step;
-        queues = λ t. append_cancel_left (received_by t x) (loads_at queues t) (queue_of made.0 t) (flows t ∙ ap (λ ls. ls ++ sent_by t x) (kept.queues t) ∙ sym (step_keeps v.endpoints v.hosts v.capacity kept.state x made.0 t step));
-        sid = by.0.sid ∙ kept.sid;
-        processes = by.0.long ∙ kept.processes ∙ sym long;
-        few = subst (λ n. n < 2 ^ 32) (sym long) kept.few;
-        posts = λ q. subst (λ (ds : List Desk). IsTrueIn v.endpoints made.0 q (post_at ds q)) (sym busy) (posts_after v.endpoints kept.state made.0 x p v.desks by.0 kept.posts q);
-      }
-
--- ---- the three kinds of events
 
 pub not_full : (cap : Option ℕ) (ls : List Load) → not (has_room cap ls) ≡ false → has_room cap ls ≡ true
 not_full cap ls h = go (has_room cap ls) h

@@ -31,7 +31,7 @@ module _ (v : OfficeView) (kept : IsKept v) (p : ℕ) (c own : NameId) (is : pos
   pub own_active : IsActive v.endpoints c own
   own_active =
       reached_active v.endpoints kept.faultless v.hosts v.capacity (events_of v.history) kept.state kept.after p c own
-      (post_joins v.endpoints (slice_get kept.state.machines p) (post_at v.desks p) c own (kept.posts p) (own_role (post_at v.desks p) c own is))
+      (post_joins v.endpoints kept.state (slice_get kept.state.machines p) (post_at v.desks p) c own (kept.posts p) (own_role (post_at v.desks p) c own is))
 
   module _ (k : Channel) (found : channel_of v.endpoints.channels c ≡ Some k) where
     named : k.name ≡ c

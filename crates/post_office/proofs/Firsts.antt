@@ -117,5 +117,5 @@ first_kept e hosts capacity history queues desks room faultless few no_history n
       sid = refl;
       processes = as_many e.processes ∙ sym many;
       few = subst (λ n. n < 2 ^ 32) (sym many) few;
-      posts = λ q. subst (λ (p : Post). IsTrueIn e (first_state e) q p) (sym (ap (λ (ds : List Desk). post_at ds q) all_idle ∙ idle_post (length e.processes) q)) (busy_true e (slice_get (standing_all e.processes) q));
+      posts = λ q. subst (λ (p : Post). IsTrueIn e (first_state e) q p) (sym (ap (λ (ds : List Desk). post_at ds q) all_idle ∙ idle_post (length e.processes) q)) (busy_true e (first_state e) (slice_get (standing_all e.processes) q));
     }

@@ -1,5 +1,5 @@
 -- Each role of a session is held at most once, under a name of a process or by a message in transit.
-use Rattle.std.proofs.Common.{◌≡◌, ◌≢◌, ℕ, zero, suc, ◌+◌, ◌<◌, ◌==◌, ◌&&◌, ◌||◌, ◌⊎◌, inl, inr, Bool, true, false, cond, List, [], ◌∷◌, ◌++◌, length, refl, sym, ap, ◌∙◌, subst, Option, Some, None, arith, if◌then◌else◌}
+use Rattle.std.proofs.Common.{◌≡◌, ◌≢◌, ℕ, zero, suc, ◌==◌, ◌||◌, ◌⊎◌, inl, inr, Bool, true, false, cond, List, [], ◌∷◌, ◌++◌, length, refl, sym, ap, ◌∙◌, subst, Option, Some, None, arith, if◌then◌else◌}
 use Rattle.std.specs.Prelude.{slice_get, slice_set}
 use Rattle.std.specs.FinMap as fin
 use Rattle.std.specs.Ordering.{nat_cmp, eq_by_cmp}
@@ -8,12 +8,10 @@ use Rattle.std.proofs.lemmas.Bool.Decides.{nat_tests}
 use Rattle.chor_base.specs.declared.names.NameId.{NameId}
 use Rattle.chor_base.specs.declared.value.Value.TheVariants.{Part as Endpoint}
 use Rattle.chor_base.specs.declared.value.Load.{Load}
-use Rattle.chor_base.specs.declared.value.Load.TheVariants.{Value as Carries, Label as Picks}
-use Rattle.chor_base.specs.NameMap.{Variables}
+use Rattle.chor_base.specs.declared.value.Load.TheVariants.{Value as Carries}
 use Rattle.chor_base.specs.Events.{Triple, triple_eq}
-use Rattle.endpoint_code.specs.declared.code.CodeId.{CodeId}
-use Rattle.endpoint_code.specs.Faults.{AreDistinct, no_name, one_more, is_among}
-use Rattle.endpoint_code.specs.Network.{Sessions, Machine, NetworkState, queue_of, moved, with_queue, passed, passed_one}
+use Rattle.endpoint_code.specs.Faults.{AreDistinct, one_more, is_among}
+use Rattle.endpoint_code.specs.Network.{Sessions, Machine, NetworkState, queue_of, with_queue, passed, passed_one}
 use Rattle.endpoint_code.proofs.Fifo.{same_triple}
 use Rattle.endpoint_code.proofs.Queues.{loads-same, loads-other}
 use Rattle.post_office.proofs.Steps.{get-set_other}
@@ -123,7 +121,7 @@ IsUnique n = (v : ℕ × NameId) (l m : Holder) → HoldsAt n v l → HoldsAt n 
 abbrev pub IsNowhere : NetworkState → ℕ × NameId → Type 0
 IsNowhere n v = (l : Holder) → HoldsAt n v l → ⊥
 
-process_same : (p q k j : ℕ) → Process p k ≡ Process q j → (p ≡ q) × (k ≡ j)
+pub process_same : (p q k j : ℕ) → Process p k ≡ Process q j → (p ≡ q) × (k ≡ j)
 process_same p q k j h = (cc, cc)
 
 pub once_in : (n : NetworkState) (p : ℕ) (m : Machine) → IsUnique n → slice_get n.machines p ≡ Some m → AreOnce m.sessions

@@ -10,4 +10,8 @@ pub mod Reached
 pub mod Begins
 pub mod Held
 pub mod Sound
+pub mod Placed
 pub mod HeldOnce
+pub mod Waiting
+pub mod Acted
+pub mod Callers

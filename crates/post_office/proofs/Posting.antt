@@ -40,7 +40,7 @@ module _ {v : OfficeView} (kept : IsKept v) (p : ℕ) (post : Post) (can : CanPo
           own : IsTrueIn v.endpoints kept.state p (post_at (slice_set v.desks p desk) p)
           own = elim (own_post v.desks p desk) [
             | inl e ↦ subst (λ (w : Post). IsTrueIn v.endpoints kept.state p w) (sym e) (can kept.state kept.after)
-            | inr e ↦ subst (λ (w : Post). IsTrueIn v.endpoints kept.state p w) (sym e) (busy_true v.endpoints (slice_get kept.state.machines p))
+            | inr e ↦ subst (λ (w : Post). IsTrueIn v.endpoints kept.state p w) (sym e) (busy_true v.endpoints kept.state (slice_get kept.state.machines p))
           ]
 
           go : (b : Bool) → (q == p) ≡ b → IsTrueIn v.endpoints kept.state q (post_at (slice_set v.desks p desk) q)

@@ -1,10 +1,8 @@
 -- What a step of one process does to the holders of roles.
-use Rattle.std.proofs.Common.{◌≡◌, ◌≢◌, ℕ, zero, suc, ◌+◌, ◌<◌, ◌==◌, ◌&&◌, ◌||◌, ◌⊎◌, inl, inr, Bool, true, false, cond, List, [], ◌∷◌, ◌++◌, length, refl, sym, ap, ◌∙◌, subst, Option, Some, None, ℤ, arith, if◌then◌else◌}
-use Rattle.std.specs.Prelude.{slice_get, slice_set, unwrap_or, pos, All}
+use Rattle.std.proofs.Common.{◌≡◌, ℕ, ◌<◌, ◌==◌, ◌&&◌, ◌⊎◌, inl, inr, Bool, true, false, cond, List, [], ◌∷◌, ◌++◌, length, refl, sym, ap, ◌∙◌, subst, Option, Some, None, ℤ, if◌then◌else◌}
+use Rattle.std.specs.Prelude.{slice_get, slice_set, unwrap_or, pos}
 use Rattle.std.specs.FinMap as fin
-use Rattle.std.specs.Ordering.{nat_cmp, eq_by_cmp}
 use Rattle.std.proofs.lemmas.Cmp.{nat_cmp_total}
-use Rattle.std.proofs.lemmas.Option.{get_or_from_slice_get, slice_get_within}
 use Rattle.chor_base.specs.declared.names.NameId.{NameId}
 use Rattle.chor_base.specs.declared.value.Value.{Value}
 use Rattle.chor_base.specs.declared.value.Value.TheVariants.{Int, Bool as Truth, Text, Part as Endpoint}
@@ -17,7 +15,7 @@ use Rattle.chor_base.specs.declared.expr.BinOp.{BinOp}
 use Rattle.chor_base.specs.declared.expr.BinOp.TheVariants.{Add, Sub, Mul, Div, Eq, Ne, Lt, Le, And, Or}
 use Rattle.chor_base.specs.Expr.{Term, Constant, Variable, Unary, Binary, term_of, value_of, truth_of, unary, binary}
 use Rattle.chor_base.specs.NameMap.{Variables}
-use Rattle.chor_base.specs.Events.{Triple, triple_eq}
+use Rattle.chor_base.specs.Events.{Triple}
 use Rattle.endpoint_code.specs.declared.code.CodeId.{CodeId}
 use Rattle.endpoint_code.specs.declared.code.CodeNode.{CodeNode}
 use Rattle.endpoint_code.specs.declared.code.CodeNode.TheVariants.{Join, Send, Recv, Pick, Branch, Throw, Catch, Set, Show, Host, If, Call, End}
@@ -26,7 +24,7 @@ use Rattle.endpoint_code.specs.Network.{Sessions, Machine, NetworkState, Makes, 
 use Rattle.post_office.proofs.Acting.{same_number, other_number}
 use Rattle.post_office.proofs.Steps.{get-set_other}
 use Rattle.post_office.proofs.Reached.{get-set_own}
-use Rattle.post_office.proofs.Held.{keyed, get_bound, get_unbound, AreOnce, AreFrom, Holder, Process, Transit, held_by, HoldsAt, IsUnique, IsNowhere, fewer_unique, added_unique, replaced, own_held, held_own, other_held, was_held, replaced_unique, put, put_split, taken, before, taken_before, taken_unique, taken_nowhere}
+use Rattle.post_office.proofs.Held.{keyed, get_bound, get_unbound, AreOnce, AreFrom, Holder, Process, Transit, held_by, HoldsAt, IsUnique, IsNowhere, fewer_unique, added_unique, own_held, held_own, other_held, was_held, replaced_unique, put, put_split, before, taken_before, taken_unique, taken_nowhere}
 
 -- ---- values that are no endpoints
 

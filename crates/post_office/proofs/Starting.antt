@@ -23,20 +23,20 @@ use Rattle.post_office.specs.Views.{OfficeView, post_at, idle, all_joined}
 use Rattle.post_office.specs.Posts.{IsPostOf, IsTrueIn}
 use Rattle.post_office.specs.Kept.{IsKept}
 use Rattle.post_office.specs.Starts.{joins_as, AllPosted, most_served}
-use Rattle.post_office.proofs.Acting.{busy_true, busy_own, post_other, same_number, other_number, after_more}
+use Rattle.post_office.proofs.Acting.{busy_true, post_stays, busy_own, post_other, same_number, other_number, after_more}
 use Rattle.post_office.proofs.Casts.{name_same, both_true, parts_paired}
 use Rattle.post_office.proofs.Steps.{get-set_other}
 
 -- ---- who is posted as joining joins
 
-pub post_joins : (e : Endpoints) (o : Option Machine) (post : Post) (c r : NameId) → IsPostOf e o post → joins_as post c r ≡ true → joins_there (place_at e o) c r ≡ true
-post_joins e None (Joining d q) c r t h = absurd t
-post_joins e (Some m) (Joining d q) c r t h =
+pub post_joins : (e : Endpoints) (n : NetworkState) (o : Option Machine) (post : Post) (c r : NameId) → IsPostOf e n o post → joins_as post c r ≡ true → joins_there (place_at e o) c r ≡ true
+post_joins e n None (Joining d q) c r t h = absurd t
+post_joins e n (Some m) (Joining d q) c r t h =
     let parts = both_true (d.0 == c.0) (q.0 == r.0) h in
     subst (λ (x : NameId). joins_there (place_of e m) x r ≡ true) (name_same d c parts.0) (subst (λ (x : NameId). joins_there (place_of e m) d x ≡ true) (name_same q r parts.1) t)
-post_joins e o Busy c r t h = absurd cc
-post_joins e o (Waiting why) c r t h = absurd cc
-post_joins e o Ended c r t h = absurd cc
+post_joins e n o Busy c r t h = absurd cc
+post_joins e n o (Waiting why) c r t h = absurd cc
+post_joins e n o Ended c r t h = absurd cc
 
 node_joined : (node : CodeNode) (ss : Sessions) (vars : Variables) (c r : NameId) (s : ℕ) → joins_there (Some (record { node = node; sessions = ss })) c r ≡ true → (m : Machine) × (node_joins node vars ss c r s ≡ Some m)
 node_joined (Join d q k next) ss vars c r s h =
@@ -74,7 +74,7 @@ all_join : (e : Endpoints) (n : NetworkState) (ds : List Desk) (c : NameId) (s :
 all_join e n ds c s [] posts all = record { machines = []; made = refl; same = refl }
 all_join e n ds c s (q ∷ ps) posts all =
     let P : NameId × ℕ → Type 0 = λ x. joins_as (post_at ds x.1) c x.0 ≡ true in
-    let one = has_joined e (slice_get n.machines q.1) c q.0 s (post_joins e (slice_get n.machines q.1) (post_at ds q.1) c q.0 (posts q.1) (All-head P q ps all)) in
+    let one = has_joined e (slice_get n.machines q.1) c q.0 s (post_joins e n (slice_get n.machines q.1) (post_at ds q.1) c q.0 (posts q.1) (All-head P q ps all)) in
     let more = all_join e n ds c s ps posts (All-tail P q ps all) in
     record {
       machines = (q.1, one.0) ∷ more.machines;
@@ -198,14 +198,14 @@ module _ {v : OfficeView} (kept : IsKept v) (k : Channel) (parts : List (NameId 
   posts_after i = go (joined_post v.sid (parts ++ served_parts k.serve (length v.desks)) (v.desks ++ replicate (length k.serve) idle) i)
     where
       busy : post_at desks_after i ≡ Busy → IsTrueIn v.endpoints after i (post_at desks_after i)
-      busy h = subst (λ (w : Post). IsTrueIn v.endpoints after i w) (sym h) (busy_true v.endpoints (slice_get after.machines i))
+      busy h = subst (λ (w : Post). IsTrueIn v.endpoints after i w) (sym h) (busy_true v.endpoints after (slice_get after.machines i))
 
       go : (post_at desks_after i ≡ Busy) ⊎ ((post_at desks_after i ≡ post_at (v.desks ++ replicate (length k.serve) idle) i) × NotIn i (map (λ q. q.1) (parts ++ served_parts k.serve (length v.desks)))) → IsTrueIn v.endpoints after i (post_at desks_after i)
       go (inl h) = busy h
       go (inr h) = elim (appended_post v.desks (length k.serve) i) [
         | inl b ↦ busy (h.0 ∙ b)
         | inr b ↦ subst (λ (w : Post). IsTrueIn v.endpoints after i w) (sym (h.0 ∙ b.0))
-            (subst (λ (o : Option Machine). IsPostOf v.endpoints o (post_at v.desks i)) (sym (kept_machine i b.1 h.1)) (kept.posts i))
+            (subst (λ (o : Option Machine). IsPostOf v.endpoints after o (post_at v.desks i)) (sym (kept_machine i b.1 h.1)) (post_stays v.endpoints kept.state after (slice_get kept.state.machines i) (post_at v.desks i) (λ m f s a b l g first. first) (kept.posts i)))
       ]
 
   pub begun_kept : length v.desks + length k.serve < 2 ^ 32 → (x : Event) (worker sid : ℕ) (history : List Entry) (desks : List Desk) (room : ℕ)

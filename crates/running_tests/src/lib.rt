@@ -1,5 +1,5 @@
-//! Tests of endpoint code, of how it and events are written, and of how lines are read as events, by public
-//! calls alone. They say what no clause says: that the calls succeed where there is memory, that a wide
+//! Tests of endpoint code, of how it and events are written, of how lines are read as events, and of replays, by
+//! public calls alone. They say what no clause says: that the calls succeed where there is memory, that a wide
 //! branch takes no more stack than a narrow one, and what is written and read, worked out by hand.
 #![tactic(auto)]
 
@@ -11,3 +11,5 @@ mod events;
 mod names;
 #[cfg(test)]
 mod reading;
+#[cfg(test)]
+mod replays;

@@ -1,5 +1,5 @@
 -- The starts of a channel, node by node.
-use Rattle.std.proofs.Common.{◌≡◌, ℕ, ◌+◌, ◌<◌, ◌≤◌, Bool, true, false, ◌==◌, List, [], ◌∷◌, ◌++◌, length, take, get_or, map, refl, sym, ap, ◌∙◌, subst, Some, append_assoc}
+use Rattle.std.proofs.Common.{◌≡◌, ℕ, zero, suc, arith, ◌+◌, ◌<◌, ◌≤◌, Bool, true, false, ◌==◌, List, [], ◌∷◌, ◌++◌, length, take, get_or, map, refl, sym, ap, ◌∙◌, subst, Some, append_assoc}
 use Rattle.std.specs.Prelude.{Contains, slice_get, if◌then◌else◌}
 use Rattle.std.specs.List.{flat_map, filter}
 use Rattle.std.proofs.lemmas.List.{take_more, take_all, map-append}
@@ -16,11 +16,11 @@ use Rattle.chor_tree.specs.Children.{children_of}
 use Rattle.chor_tree.specs.Names.{scope_of_main, scope_of_procedure, scope_after}
 use Rattle.chor_semantics.specs.Choreography.{Choreography}
 use Rattle.chor_semantics.specs.Sources.{tree_in, form_tree, trees_of}
-use Rattle.projection.specs.Projects.{Started, starts_in, starts_in_procs, body_at}
+use Rattle.projection.specs.Projects.{Started, starts_in, starts_in_procs, starts_of, is_some_start, body_at}
 use Rattle.projection.proofs.TreeTables.{tree_at-node}
 use Rattle.service_codes.proofs.Names.{child_below}
 use Rattle.service_codes.specs.declared.starts.StartNode.{StartNode}
-use Rattle.service_codes.specs.Starts.{start_at, nodes_of, IsStanding, main_begins, procedure_begins, follows, starts_channel, IsStartOf, first_start, start_in, AddsStarts, AreStartsOf}
+use Rattle.service_codes.specs.Starts.{start_at, nodes_of, IsStanding, main_begins, procedure_begins, follows, starts_channel, IsStartOf, first_start, start_in, AddsStarts, AreStartsOf, AreAllStarts}
 
 pub end_nil : {X : Type 0} (xs : List X) → xs ++ [] ≡ xs
 end_nil [] = refl
@@ -91,6 +91,24 @@ nodes_placed a id (Show p v next) old mid e = same a old mid e
 nodes_placed a id (If p v first second) old mid e = same a old mid e
 nodes_placed a id (Call g ps ks) old mid e = same a old mid e
 nodes_placed a id End old mid e = same a old mid e
+
+-- one of these starts is the channel's
+module _ (f : File) (a : NameId) (xs : List StartNode) (all : AreAllStarts f xs) where
+  pub some_started : (i : ℕ) (d : StartNode) → i < length xs → starts_it a (get_or xs i d) ≡ true → true ≡ is_some_start (starts_of f a)
+  some_started i d lt e = sym (go xs i lt e) ∙ ap is_some_start (all.of a).same
+    where
+      go : (ys : List StartNode) (i : ℕ) → i < length ys → starts_it a (get_or ys i d) ≡ true → is_some_start (map (start_in f) (nodes_of a ys)) ≡ true
+      go [] i lt e = absurd (omega arith)
+      go (y ∷ ys) zero lt e = here (starts_it a y) refl
+        where
+          here : (b : Bool) → starts_it a y ≡ b → is_some_start (map (start_in f) (nodes (if b then y ∷ filter (starts_it a) ys else filter (starts_it a) ys))) ≡ true
+          here true h = refl
+          here false h = absurd cc
+      go (y ∷ ys) (suc i) lt e = later (starts_it a y) (go ys i (omega arith) e)
+        where
+          later : (b : Bool) → is_some_start (map (start_in f) (nodes_of a ys)) ≡ true → is_some_start (map (start_in f) (nodes (if b then y ∷ filter (starts_it a) ys else filter (starts_it a) ys))) ≡ true
+          later true h = refl
+          later false h = h
 
 module _ (f : File) (a : NameId) where
   pub adds_none : (ids : List NodeId) → AddsStarts f a [] ids ids

@@ -11,4 +11,4 @@ mod starts;
 
 pub use all::services;
 pub use fault::ServiceFault;
-pub use starts::{StartNode, Started, all_starts, starts_of};
+pub use starts::{StartNode, Started, all_starts, is_started, starts_of};

@@ -2,6 +2,7 @@
 
 ghost use Rattle.std.specs.Prelude.{◌≡◌, ◌++◌, IfOk, OnOk};
 ghost use Rattle.chor_tree.specs.Children.{children_of};
+ghost use Rattle.projection.specs.Projects.{starts_of, is_some_start};
 ghost use Rattle.service_codes.specs.Starts.{nodes_in, IsStanding, start_at, AddsAllStarts, AreAllStarts, AreStartsOf};
 
 use chor_base::{List, Memory, NameId};
@@ -51,6 +52,19 @@ pub fn starts_of(
         }
     }
     Ok(nodes)
+}
+
+/// Whether a start names a channel.
+pub fn is_started(started: &Started<'_>, channel: NameId) -> bool
+    requires { AreAllStarts started.now.file.now started.now.starts.now }
+    ensures { result ≡ is_some_start (starts_of started.now.file.now channel) }
+{
+    for start in started.starts {
+        if start.channel == channel {
+            return true;
+        }
+    }
+    false
 }
 
 // Adds the starts from a node on.

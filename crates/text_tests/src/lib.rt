@@ -1,6 +1,6 @@
 //! Tests of what lies below the commands and speaks of text: values and tables, tokens, expressions,
-//! sources and their canonical text, endpoint files, by public calls alone. They say what no clause says: that the
-//! calls succeed where there is memory, and what comes of sources, worked out by hand.
+//! sources and their canonical text, endpoint files, by public calls alone. They say what no clause
+//! says: that the calls succeed where there is memory, and what comes of sources, worked out by hand.
 #![tactic(auto)]
 
 #[cfg(test)]

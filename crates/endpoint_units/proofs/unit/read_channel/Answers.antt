@@ -6,6 +6,7 @@ use Rattle.grammar_laws.proofs.Sequences.{then_halts, now_halts}
 use Rattle.grammar_laws.proofs.Ways.{one_is, not_entered}
 use Rattle.endpoint_grammar.specs.Grammar.{roles, units}
 use Rattle.endpoint_units.proofs.Units.{channel_goes}
+use Rattle.endpoint_units.proofs.Known.{channel_there}
 use Rattle.endpoint_units.proofs.unit.read_channel.Goals as goal
 
 pub returns-in_err-name-clause-halts : goal.returns-in_err-name-clause-halts
@@ -25,3 +26,6 @@ returns-clause-goes c = channel_goes c.args.input.now c.args.parts.now _ _ c.in_
 
 pub returns-clause-further : goal.returns-clause-further
 returns-clause-further c = omega (arith, read_no_longer c.in_ok-name.ensures.reads, read_no_longer c.in_ok-at.ensures.reads, read_no_longer c.in_ok-roles.ensures.reads.reads, read_no_longer c.in_ok-at-2.ensures.reads)
+
+pub returns-clause-known : goal.returns-clause-known
+returns-clause-known c = channel_there c.args.input.now _ _ c.requires.known (c.in_ok-name.ensures.known, c.in_ok-roles.ensures.known) c.in_ok-push.ensures.ok

@@ -1,6 +1,7 @@
 use Rattle.std.proofs.Common.{sym, subst}
 use Rattle.post_office.specs.Views.{OfficeView, CanMake}
-use Rattle.post_office.proofs.Acting.{acted_kept, local_alone, local_place, local_flows}
+use Rattle.post_office.proofs.Acting.{local_alone, local_place, local_flows}
+use Rattle.post_office.proofs.Acted.{acted_kept}
 use Rattle.post_office.proofs.office.Office.note.Goals as goal
 
 pub invariant_of-self : goal.invariant_of-self

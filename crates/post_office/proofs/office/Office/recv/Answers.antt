@@ -1,11 +1,10 @@
-use Rattle.std.proofs.Common.{sym, subst, refl, ap, ◌∙◌, ◌≡◌, Some}
-use Rattle.std.specs.Prelude.{slice_get}
-use Rattle.chor_base.specs.declared.value.Load.{Load}
+use Rattle.std.proofs.Common.{sym, subst, refl, ap, ◌∙◌}
 use Rattle.chor_base.specs.Events.{Triple}
 use Rattle.chor_base.specs.declared.event.Event.TheVariants as event
 use Rattle.post_office.specs.Queues.{loads_at}
 use Rattle.post_office.specs.Views.{OfficeView, CanReceive}
-use Rattle.post_office.proofs.Acting.{acted_kept, none_first, take_flows}
+use Rattle.post_office.proofs.Acting.{none_first, take_flows}
+use Rattle.post_office.proofs.Acted.{acted_kept}
 use Rattle.post_office.proofs.office.Office.recv.Goals as goal
 
 pub invariant_of-self : goal.invariant_of-self

@@ -3,7 +3,8 @@ use Rattle.chor_base.specs.Events.{Triple}
 use Rattle.chor_base.specs.declared.event.Event.TheVariants as event
 use Rattle.post_office.specs.Queues.{loads_at}
 use Rattle.post_office.specs.Views.{OfficeView, CanMake, is_full}
-use Rattle.post_office.proofs.Acting.{acted_kept, not_full, put_flows}
+use Rattle.post_office.proofs.Acting.{not_full, put_flows}
+use Rattle.post_office.proofs.Acted.{acted_kept}
 use Rattle.post_office.proofs.office.Office.send.Goals as goal
 
 pub invariant_of-self : goal.invariant_of-self
