@@ -1,5 +1,6 @@
 use Rattle.chor_host.specs.Functions.{names_of}
 use Rattle.chor_host.specs.Tables.{functions_of}
+use Rattle.endpoint_reader.proofs.Spelled.{spelled_there}
 use Rattle.endpoint_check.specs.Programs.{IsDenialOfPrograms}
 use Rattle.endpoint_check.proofs.Denials.{err_is, refused_so, programs_so}
 use Rattle.endpoint_check.proofs.programs.read_programs.Goals as goal
@@ -15,3 +16,6 @@ returns-in_err-written-clause-denied g c =
 pub returns-clause-programs : goal.returns-clause-programs
 returns-clause-programs g c =
     programs_so (names_of (functions_of c.args.hosts.now)) c.args.bytes.now c.in_ok-written.ensures.fine c.new-names.ensures c.new-texts.ensures c.in_ok-list.ensures.found c.in_ok-programs.ensures
+
+pub invariant_of-input : goal.invariant_of-input
+invariant_of-input g c = record { known = spelled_there _ _ _ _ c.in_ok-list.ensures.found.spelled }
