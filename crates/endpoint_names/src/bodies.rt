@@ -6,8 +6,8 @@ ghost use Rattle.chor_base.specs.Faults.{first_of_all};
 ghost use Rattle.endpoint_reader.specs.Lines.{nexts_of};
 ghost use Rattle.endpoint_names.specs.Keys.{sign_of_arm};
 ghost use Rattle.endpoint_names.specs.Bodies.{body_at, bodies_of, line_body};
-ghost use Rattle.endpoint_names.specs.Faults.{unbound, action_faults, call_faults, body_faults};
-ghost use Rattle.endpoint_names.specs.Functions.{setting_of, faults_in_arms};
+ghost use Rattle.endpoint_names.specs.Faults.{unbound, action_faults, call_faults};
+ghost use Rattle.endpoint_names.specs.Functions.{setting_of, faults_at, faults_in_arms};
 
 use crate::bound::Bound;
 use crate::declared::Declared;
@@ -21,7 +21,7 @@ impl<'a> Declared<'a> {
     #[tactic(auto, using(chor_base::proofs::Faults::first_append, crate::proofs::Tables::labels_are))]
     pub fn first_in_body(&self, mut bound: Bound, id: LineId) -> Result<Option<Fault>, Memory>
         requires { id.0 < length self.now.written.now.lines.items }
-        ensures { let s = setting_of self.now.written.now self.now.functions in IfOk result (λ o. o ≡ first_of_all (body_faults s bound (body_at s.written.lines.items id))) }
+        ensures { IfOk result (λ o. o ≡ first_of_all (faults_at (setting_of self.now.written.now self.now.functions) bound id)) }
     {
         match line_at(self.written, id) {
             Line::Act(action, next) => {
