@@ -12,11 +12,11 @@ ghost use Rattle.type_check.specs.Typed.{HasFineNames, HasFineViews};
 
 use crate::bodies::first_in_body;
 use crate::heads::first_in_head;
-use known_functions::host_names;
 use crate::typed::Typed;
 use chor_base::{Denied, Fault, Memory, earlier};
 use chor_host::HostTable;
 use chor_tree::{File, Proc};
+use known_functions::host_names;
 use std::alloc::Global;
 use typing_steps::Known;
 
