@@ -3,11 +3,10 @@
 ghost use Rattle.std.specs.Prelude.{◌≤◌, ◌^◌, IfOk, IfErr, length};
 ghost use Rattle.chor_host.specs.Functions.{names_of};
 ghost use Rattle.chor_host.specs.Tables.{functions_of};
-ghost use Rattle.endpoint_making.specs.Making.{IsMadeOf};
+ghost use Rattle.endpoint_making.specs.Making.{AreNumbered};
 ghost use Rattle.endpoint_check.specs.Programs.{AreProgramsOf, IsWrittenWithoutFault, IsDenialOfInput, IsDenialOfPrograms};
 
-use crate::units::are_numbered;
-use chor_base::{Denied, Memory, Names, Texts};
+use chor_base::{Denied, Names, Texts};
 use chor_host::HostTable;
 use chor_lexer::tokens;
 use endpoint_code::Endpoints;
@@ -36,32 +35,18 @@ pub fn read_programs(alloc: Global, bytes: &[u8], hosts: &HostTable) -> Result<E
         texts: &texts,
     };
     let written = written_of(alloc, &input, hosts)?;
-    let programs = programs_of(alloc, &written, names, texts)?;
+    let programs = endpoints_of(alloc, &written, names, texts)?;
     Ok(programs)
 }
 
-// What is written, where it has no fault.
+// What is written, where it has no fault. Its names and texts are in the tables.
 #[tactic(auto, using(crate::proofs::Denials::unread_so, crate::proofs::Denials::broken_so))]
 fn written_of(alloc: Global, input: &Input, hosts: &HostTable) -> Result<Written, Denied>
     ensures fine { IfOk result (IsWrittenWithoutFault (names_of (functions_of hosts.now)) input.now) }
+    ensures numbered { IfOk result (AreNumbered input.now.names.now input.now.texts.now) }
     ensures denied { IfErr result (IsDenialOfInput (names_of (functions_of hosts.now)) input.now) }
 {
     let written = read_endpoints(alloc, input)?;
     check_written(alloc, &written, input.names, hosts)?;
     Ok(written)
-}
-
-// The endpoint programs that are written.
-fn programs_of(
-    alloc: Global,
-    written: &Written,
-    names: Names,
-    texts: Texts,
-) -> Result<Endpoints, Memory>
-    ensures { IfOk result (IsMadeOf written.now names texts) }
-{
-    if !are_numbered(written, &names, &texts) {
-        return Err(Memory);
-    }
-    endpoints_of(alloc, written, names, texts)
 }
