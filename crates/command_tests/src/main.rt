@@ -13,6 +13,7 @@
 use crate::cases::answer_cases;
 use crate::hosts::host_names;
 use crate::made::answer_made;
+use crate::programs::answer_programs;
 use chor_base::{HostOp, Meaning};
 use chor_host::{HostFn, HostTable, host_gap, host_max, host_min};
 use std::fs;
@@ -22,6 +23,7 @@ mod cases;
 mod changes;
 mod hosts;
 mod made;
+mod programs;
 
 fn main(rt: HostRuntime) -> anyhow::Result<()> {
     let names = host_names(rt.alloc())?;
@@ -36,5 +38,7 @@ fn main(rt: HostRuntime) -> anyhow::Result<()> {
         answer_cases(&rt, rt.alloc(), &hosts, text.as_str())?;
     }
     println!(rt; "##### made")?;
-    answer_made(&rt, rt.alloc(), &hosts)
+    answer_made(&rt, rt.alloc(), &hosts)?;
+    println!(rt; "##### programs")?;
+    answer_programs(&rt, rt.alloc(), &hosts)
 }
