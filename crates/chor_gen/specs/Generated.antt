@@ -86,13 +86,41 @@ module _ (at : List ℕ → Named) where
   abbrev pub variable : List ℕ → Term
   variable x = Variable (at x).name
 
-  -- from[..].e -> to[..].x : k;
+  -- start channel(k): p[A], q[B] new ..
+  abbrev pub starts : List ℕ → List Part → Statement
+  starts channel serve = Starts (at channel) (at (codes "k")) (part (codes "p") (codes "A") ∷ part (codes "q") (codes "B") ∷ []) serve
+
+  abbrev pub start_round : Statement
+  start_round = starts (codes "a") (part (codes "r") (codes "C") ∷ [])
+
+  abbrev pub start_fork : Statement
+  start_fork = starts (codes "b") []
+
+  -- from[..].e -> to[..].x : k
   abbrev pub sends : Part → Term → Part → List ℕ → Statement
   sends from e to x = Sends from e to (at x).name (at (codes "k"))
 
-  -- p[A] -> q[B] : k.l;
-  abbrev pub selects : List ℕ → Statement
-  selects l = Selects (part (codes "p") (codes "A")) (part (codes "q") (codes "B")) (at (codes "k")) (at l).name
+  -- p[A].i -> q[B].x : k
+  abbrev pub p_sends : ℕ → Statement
+  p_sends i = sends (part (codes "p") (codes "A")) (literal i) (part (codes "q") (codes "B")) (codes "x")
+
+  abbrev pub one_more : Term
+  one_more = Binary Add (variable (codes "x")) (literal 1)
+
+  -- q[B].x + 1 -> r[C].y : k
+  abbrev pub q_sends : Statement
+  q_sends = sends (part (codes "q") (codes "B")) one_more (part (codes "r") (codes "C")) (codes "y")
+
+  -- r[C].y -> p[A].z : k
+  abbrev pub r_sends : Statement
+  r_sends = sends (part (codes "r") (codes "C")) (variable (codes "y")) (part (codes "p") (codes "A")) (codes "z")
+
+  abbrev pub is_less : Term
+  is_less = Binary Lt (variable (codes "z")) (literal 2)
+
+  -- p[A] -> q[B] : k.l
+  abbrev pub tells : List ℕ → Statement
+  tells l = Selects (part (codes "p") (codes "A")) (part (codes "q") (codes "B")) (at (codes "k")) (at l).name
 
   -- call Fi(p, q)
   abbrev pub call : ℕ → Block
@@ -102,29 +130,24 @@ module _ (at : List ℕ → Named) where
   abbrev pub after_round : (count i : ℕ) → Block
   after_round count i = if i == count then Ends beginning else call (suc i)
 
-  -- the parts of p and q in a start
-  abbrev pub both_start : List Part
-  both_start = part (codes "p") (codes "A") ∷ part (codes "q") (codes "B") ∷ []
-
-  -- p sends i to q, which sends one more to r, which sends that to p
+  -- p sends i to q, which sends one more to the new process r, which sends that to p
   abbrev pub odd_round : (count i : ℕ) → Block
   odd_round count i =
-      Then beginning (Starts (at (codes "a")) (at (codes "k")) both_start (part (codes "r") (codes "C") ∷ []))
-      (Then beginning (sends (part (codes "p") (codes "A")) (literal i) (part (codes "q") (codes "B")) (codes "x"))
-      (Then beginning (sends (part (codes "q") (codes "B")) (Binary Add (variable (codes "x")) (literal 1)) (part (codes "r") (codes "C")) (codes "y"))
-      (Then beginning (sends (part (codes "r") (codes "C")) (variable (codes "y")) (part (codes "p") (codes "A")) (codes "z"))
+      Then beginning start_round
+      (Then beginning (p_sends i)
+      (Then beginning q_sends
+      (Then beginning r_sends
       (after_round count i))))
 
-  -- p tells q a label, and the next round follows either way
-  abbrev pub told_round : List ℕ → (count i : ℕ) → Block
-  told_round l count i = Then beginning (selects l) (after_round count i)
+  -- p tells q a label, and the next round follows
+  abbrev pub told : List ℕ → (count i : ℕ) → Block
+  told l count i = Then beginning (tells l) (after_round count i)
 
+  -- p tells whether z is less than 2
   abbrev pub even_round : (count i : ℕ) → Block
   even_round count i =
-      Then beginning (Starts (at (codes "b")) (at (codes "k")) both_start [])
-      (Either beginning (at (codes "p")) (Binary Lt (variable (codes "z")) (literal 2))
-      (told_round (codes "more") count i)
-      (told_round (codes "less") count i))
+      Then beginning start_fork
+      (Either beginning (at (codes "p")) is_less (told (codes "more") count i) (told (codes "less") count i))
 
   abbrev pub body_of_round : (count i : ℕ) → Block
   body_of_round count i = if is_odd i then odd_round count i else even_round count i

@@ -3,12 +3,11 @@
 ghost use Rattle.std.specs.Prelude.{◌≡◌, ◌<◌, ◌++◌, ◌∷◌, [], All, IfOk, codes, length, true};
 ghost use Rattle.std.specs.List.{list_all};
 ghost use Rattle.chor_tree.specs.Children.{children_of};
-ghost use Rattle.chor_base.specs.Expr.{term_of, Binary};
-ghost use Rattle.chor_base.specs.declared.expr.BinOp.TheVariants.{Add, Lt};
+ghost use Rattle.chor_base.specs.Expr.{term_of};
 ghost use Rattle.chor_tree.specs.Kept.{has_name, has_text, names_there, part_there, term_there};
 ghost use Rattle.chor_gen.specs.Words.{named_in, beginning};
-ghost use Rattle.chor_gen.specs.Generated.{part, both_start, variable, literal, sends, selects, p_and_q, call, after_round, odd_round, told_round, even_round, body_of_round};
-ghost use Rattle.chor_tree.specs.Source.{Starts};
+ghost use Rattle.chor_gen.specs.Generated.{part, p_and_q, literal, starts, start_round, start_fork, p_sends, q_sends, r_sends, tells, one_more, is_less};
+ghost use Rattle.chor_gen.specs.Generated.{call, after_round, odd_round, told, even_round, body_of_round};
 ghost use Rattle.chor_gen.specs.Making.{Says, Adds};
 
 use crate::words::Words;
@@ -90,7 +89,7 @@ fn start(
     next: NodeId,
 ) -> Result<Form, Memory>
     requires { list_all (part_there (has_name words.now.names)) serve ≡ true }
-    ensures { IfOk result (λ form. Says words.now.names form (Starts (named_in words.now.names channel.now) (named_in words.now.names (codes "k")) (both_start (named_in words.now.names)) serve) next) }
+    ensures { IfOk result (λ form. Says words.now.names form (starts (named_in words.now.names) channel.now serve) next) }
 {
     let active = [part(words, b"p", b"A"), part(words, b"q", b"B")];
     Ok(Form::Start {
@@ -104,7 +103,7 @@ fn start(
 
 // start a(k): p[A], q[B] new r[C]
 fn start_round(alloc: Global, words: &Words, next: NodeId) -> Result<Form, Memory>
-    ensures { IfOk result (λ form. Says words.now.names form (Starts (named_in words.now.names (codes "a")) (named_in words.now.names (codes "k")) (both_start (named_in words.now.names)) (part (named_in words.now.names) (codes "r") (codes "C") ∷ [])) next) }
+    ensures { IfOk result (λ form. Says words.now.names form (start_round (named_in words.now.names)) next) }
 {
     let serve = List::from_slice(alloc, [part(words, b"r", b"C")].as_slice())?;
     start(alloc, words, b"a", serve, next)
@@ -112,7 +111,7 @@ fn start_round(alloc: Global, words: &Words, next: NodeId) -> Result<Form, Memor
 
 // start b(k): p[A], q[B]
 fn start_fork(alloc: Global, words: &Words, next: NodeId) -> Result<Form, Memory>
-    ensures { IfOk result (λ form. Says words.now.names form (Starts (named_in words.now.names (codes "b")) (named_in words.now.names (codes "k")) (both_start (named_in words.now.names)) []) next) }
+    ensures { IfOk result (λ form. Says words.now.names form (start_fork (named_in words.now.names)) next) }
 {
     start(alloc, words, b"b", List::new(alloc), next)
 }
@@ -126,7 +125,7 @@ fn literal(number: u32) -> Expr
 
 // x + 1
 fn one_more(alloc: Global, words: &Words) -> Result<Expr, Memory>
-    ensures is { IfOk result (λ expr. term_of expr ≡ Binary Add (variable (named_in words.now.names) (codes "x")) (literal 1)) }
+    ensures is { IfOk result (λ expr. term_of expr ≡ one_more (named_in words.now.names)) }
     ensures there { IfOk result (λ expr. term_there (has_name words.now.names) (has_text []) (term_of expr) ≡ true) }
 {
     let left = Box::new(alloc, Expr::Var(words.at(b"x").name))?;
@@ -136,7 +135,7 @@ fn one_more(alloc: Global, words: &Words) -> Result<Expr, Memory>
 
 // p[A].number -> q[B].x : k
 fn p_sends(words: &Words, number: u32, next: NodeId) -> Form
-    ensures { Says words.now.names result (sends (named_in words.now.names) (part (named_in words.now.names) (codes "p") (codes "A")) (literal number) (part (named_in words.now.names) (codes "q") (codes "B")) (codes "x")) next }
+    ensures { Says words.now.names result (p_sends (named_in words.now.names) number) next }
 {
     Form::Value {
         from: part(words, b"p", b"A"),
@@ -150,7 +149,7 @@ fn p_sends(words: &Words, number: u32, next: NodeId) -> Form
 
 // q[B].x + 1 -> r[C].y : k
 fn q_sends(alloc: Global, words: &Words, next: NodeId) -> Result<Form, Memory>
-    ensures { IfOk result (λ form. Says words.now.names form (sends (named_in words.now.names) (part (named_in words.now.names) (codes "q") (codes "B")) (Binary Add (variable (named_in words.now.names) (codes "x")) (literal 1)) (part (named_in words.now.names) (codes "r") (codes "C")) (codes "y")) next) }
+    ensures { IfOk result (λ form. Says words.now.names form (q_sends (named_in words.now.names)) next) }
 {
     Ok(Form::Value {
         from: part(words, b"q", b"B"),
@@ -164,7 +163,7 @@ fn q_sends(alloc: Global, words: &Words, next: NodeId) -> Result<Form, Memory>
 
 // r[C].y -> p[A].z : k
 fn r_sends(words: &Words, next: NodeId) -> Form
-    ensures { Says words.now.names result (sends (named_in words.now.names) (part (named_in words.now.names) (codes "r") (codes "C")) (variable (named_in words.now.names) (codes "y")) (part (named_in words.now.names) (codes "p") (codes "A")) (codes "z")) next }
+    ensures { Says words.now.names result (r_sends (named_in words.now.names)) next }
 {
     Form::Value {
         from: part(words, b"r", b"C"),
@@ -178,7 +177,7 @@ fn r_sends(words: &Words, next: NodeId) -> Form
 
 // p[A] -> q[B] : k.label
 fn tells(words: &Words, label: &[u8], next: NodeId) -> Form
-    ensures { Says words.now.names result (selects (named_in words.now.names) label.now) next }
+    ensures { Says words.now.names result (tells (named_in words.now.names) label.now) next }
 {
     Form::Label {
         from: part(words, b"p", b"A"),
@@ -191,7 +190,7 @@ fn tells(words: &Words, label: &[u8], next: NodeId) -> Form
 
 // p.z < 2
 fn is_less(alloc: Global, words: &Words) -> Result<Expr, Memory>
-    ensures is { IfOk result (λ expr. term_of expr ≡ Binary Lt (variable (named_in words.now.names) (codes "z")) (literal 2)) }
+    ensures is { IfOk result (λ expr. term_of expr ≡ is_less (named_in words.now.names)) }
     ensures there { IfOk result (λ expr. term_there (has_name words.now.names) (has_text []) (term_of expr) ≡ true) }
 {
     let left = Box::new(alloc, Expr::Var(words.at(b"z").name))?;
@@ -220,7 +219,7 @@ fn push_told(
     label: &[u8],
 ) -> Result<NodeId, Memory>
     requires { round.number < 4001 }
-    ensures { IfOk result (λ id. Adds words.now.names tree.old.nodes tree.new.nodes id (told_round (named_in words.now.names) label.now round.count round.number)) }
+    ensures { IfOk result (λ id. Adds words.now.names tree.old.nodes tree.new.nodes id (told (named_in words.now.names) label.now round.count round.number)) }
 {
     let next = push_next(alloc, words, tree, round)?;
     push(tree, tells(words, label, next))
