@@ -1,27 +1,65 @@
 -- Names in their table.
-use Rattle.std.proofs.Common.{◌≡◌, ◌<◌, ◌+◌, ◌||◌, ℕ, zero, suc, Bool, true, false, List, [], ◌∷◌, ◌++◌, length, Option, Some, None, refl, sym, ap, ◌∙◌, subst, nat_lt, arith, add-one}
-use Rattle.std.specs.Prelude.{slice_get, bytes_eq, option_map, unwrap_or, Decides, IfSome, IfNone, if◌then◌else◌}
-use Rattle.std.specs.List.{list_any}
+use Rattle.std.proofs.Common.{◌≡◌, ◌<◌, ◌+◌, ◌^◌, ◌||◌, ◌&&◌, ◌==◌, ℕ, zero, suc, Bool, true, false, List, [], ◌∷◌, ◌++◌, length, map, Option, Some, None, refl, sym, ap, ◌∙◌, subst, nat_lt, arith, add-one, append_assoc}
+use Rattle.std.specs.Prelude.{slice_get, bytes_eq, codes, option_map, unwrap_or, Decides, IfSome, IfNone, if◌then◌else◌}
+use Rattle.std.specs.List.{list_any, AllByRecursion}
 use Rattle.std.proofs.lemmas.Bool.{lt-ltb}
 use Rattle.std.proofs.lemmas.Slice.Eq.{bytes_eq-Decides}
 use Rattle.chor_base.specs.declared.names.NameId.{NameId}
 use Rattle.chor_base.specs.Words.{with_word, AllDistinct, Lacks}
 use Rattle.chor_tree.specs.Kept.{has_name}
-use Rattle.chor_gen.specs.Words.{tabled, procedure_word, procedure_words, found_at, number_in}
+use Rattle.chor_base.proofs.WordTables.{put_absent}
+use Rattle.chor_gen.specs.Words.{declared_words, used_words, generated_names, procedure_word, procedure_words, found_at, number_in}
+use Rattle.std.specs.Fmt.{decimal}
+use Rattle.std.specs.Int.Digits.{digits_of}
+use Rattle.std.proofs.lemmas.Fmt.{decimal_injective, decimal-digits_of}
+use Rattle.std.proofs.lemmas.Int.Digits.{all_below_base_digits_of}
+use Rattle.std.proofs.lemmas.Bool.Decides.{nat_tests}
 
 -- ---- words one after another
 
-pub tabled-append : (names ws us : List (List ℕ)) → tabled names (ws ++ us) ≡ tabled (tabled names ws) us
-tabled-append names [] us = refl
-tabled-append names (w ∷ ws) us = tabled-append (with_word names w) ws us
-
-pub next_word : (start names : List (List ℕ)) (i : ℕ) → names ≡ tabled start (procedure_words i) → with_word names (procedure_word (i + 1)) ≡ tabled start (procedure_words (i + 1))
-next_word start names i e = rw add-one (ap (λ (t : List (List ℕ)). with_word t (procedure_word (suc i))) e ∙ sym (tabled-append start (procedure_words i) (procedure_word (suc i) ∷ [])))
-
--- ---- the place of a word
-
 same_bytes : (xs ys : List ℕ) → bytes_eq xs ys ≡ true → xs ≡ ys
 same_bytes xs ys h = (subst (λ b. Decides b (xs ≡ ys)) h (bytes_eq-Decides xs ys)).0 refl
+
+any_append : {A : Type 0} (p : A → Bool) (xs ys : List A) → list_any p xs ≡ false → list_any p ys ≡ false → list_any p (xs ++ ys) ≡ false
+any_append p [] ys h k = k
+any_append p (x ∷ xs) ys h k = go (p x) h (any_append p xs ys)
+  where
+    go : (b : Bool) → (b || list_any p xs) ≡ false → (list_any p xs ≡ false → list_any p ys ≡ false → list_any p (xs ++ ys) ≡ false) → (b || list_any p (xs ++ ys)) ≡ false
+    go true h more = absurd cc
+    go false h more = more h k
+
+-- a word of letters is no number
+not_letters : (n : ℕ) → 0 < n → n < 2 ^ 64 → bytes_eq (decimal n) (codes "ork") ≡ false
+not_letters n some fits = ap (λ (l : List ℕ). bytes_eq l (codes "ork")) (decimal-digits_of n some fits) ∙ go (digits_of 10 n) (all_below_base_digits_of 10 n (omega arith))
+  where
+    go : (ds : List ℕ) → AllByRecursion (λ d. d < 10) ds → bytes_eq (map (λ d. 48 + d) ds) (codes "ork") ≡ false
+    go [] h = refl
+    go (d ∷ ds) h =
+        let small = h.0 in
+        let first : (48 + d == 111) ≡ false = grind (arith, nat_tests) in
+        ap (λ b. b && bytes_eq (map (λ d. 48 + d) ds) (codes "rk")) first
+
+-- no procedure has a word of the rounds
+no_common : (n : ℕ) → 0 < n → n < 2 ^ 64 → Lacks (declared_words ++ used_words) (procedure_word n)
+no_common n some fits = ap (λ b. b || false) (not_letters n some fits)
+
+no_other : (n i : ℕ) → i < n → n < 2 ^ 64 → Lacks (procedure_words i) (procedure_word n)
+no_other n zero lt fits = refl
+no_other n (suc i) lt fits =
+    any_append (bytes_eq (procedure_word n)) (procedure_words i) (procedure_word (suc i) ∷ []) (no_other n i (omega arith) fits)
+    (ap (λ b. b || false) (apart (bytes_eq (decimal n) (decimal (suc i))) refl))
+  where
+    apart : (b : Bool) → bytes_eq (decimal n) (decimal (suc i)) ≡ b → b ≡ false
+    apart true e = let same = decimal_injective n (suc i) fits (omega arith) (same_bytes _ _ e) in absurd (omega arith)
+    apart false e = refl
+
+pub next_word : (names : List (List ℕ)) (i : ℕ) → i < 4000 → names ≡ generated_names i → with_word names (procedure_word (i + 1)) ≡ generated_names (i + 1)
+next_word names i lt e =
+    let common = declared_words ++ used_words in
+    let lacks : Lacks (generated_names i) (procedure_word (suc i)) = any_append (bytes_eq (procedure_word (suc i))) common (procedure_words i) (no_common (suc i) (omega arith) (omega arith)) (no_other (suc i) i (omega arith) (omega arith)) in
+    rw add-one (ap (λ (t : List (List ℕ)). with_word t (procedure_word (suc i))) e ∙ put_absent (generated_names i) (procedure_word (suc i)) lacks ∙ append_assoc common (procedure_words i) (procedure_word (suc i) ∷ []))
+
+-- ---- the place of a word
 
 other_bytes : (xs ys : List ℕ) → bytes_eq xs ys ≡ false → xs ≡ ys → ⊥
 other_bytes xs ys h e = let t : false ≡ true = (subst (λ b. Decides b (xs ≡ ys)) h (bytes_eq-Decides xs ys)).1 e in cc

@@ -1,6 +1,7 @@
 -- How the nodes of a generated file come into their table (this project's own).
 use Rattle.std.specs.Prelude.{ℕ, Bool, true, ◌≡◌, ◌<◌, ◌+◌, ◌&&◌, List, [], ◌∷◌, ◌++◌, length, map, nat_lt, cond}
 use Rattle.std.specs.List.{AllByRecursion, list_all}
+use Rattle.chor_base.specs.Words.{with_word}
 use Rattle.chor_tree.specs.declared.file.Proc.{Proc}
 use Rattle.chor_tree.specs.declared.tree.Form.{Form}
 use Rattle.chor_tree.specs.declared.tree.Node.{Node}
@@ -10,6 +11,11 @@ use Rattle.chor_tree.specs.Kept.{has_name, has_text, proc_there, proc_filled, fo
 use Rattle.chor_tree.specs.Source.{Statement, Block, Then, block_in, block_of, blocks_of, procedure_of}
 use Rattle.chor_gen.specs.Words.{beginning, named_in, procedure_word}
 use Rattle.chor_gen.specs.Generated.{parameters, body_of_round, procedures}
+
+-- a table to which these words are added, each where it isn't there yet
+abbrev pub tabled : List (List ℕ) → List (List ℕ) → List (List ℕ)
+tabled names [] = names
+tabled names (w ∷ ws) = tabled (with_word names w) ws
 
 -- the names of a node are in the table, it has no text, and its lists have the items that they need
 abbrev pub form_kept : List (List ℕ) → Form → Bool

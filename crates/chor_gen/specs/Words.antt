@@ -3,7 +3,6 @@ use Rattle.std.specs.Prelude.{ℕ, List, [], ◌∷◌, ◌++◌, suc, zero, cod
 use Rattle.std.specs.Fmt.{decimal}
 use Rattle.chor_base.specs.declared.names.NameId.{NameId}
 use Rattle.chor_base.specs.declared.rule.Place.{Place}
-use Rattle.chor_base.specs.Words.{with_word}
 use Rattle.chor_tree.specs.declared.file.Named.{Named}
 
 -- ---- the words
@@ -21,11 +20,6 @@ used_words = codes "p" ∷ codes "q" ∷ codes "k" ∷ codes "r" ∷ codes "x" �
 abbrev pub procedure_word : ℕ → List ℕ
 procedure_word i = codes "F" ++ decimal i
 
--- a table to which these words are added, each where it isn't there yet
-abbrev pub tabled : List (List ℕ) → List (List ℕ) → List (List ℕ)
-tabled names [] = names
-tabled names (w ∷ ws) = tabled (with_word names w) ws
-
 -- the names of the procedures up to this number
 abbrev pub procedure_words : ℕ → List (List ℕ)
 procedure_words zero = []
@@ -33,7 +27,7 @@ procedure_words (suc i) = procedure_words i ++ procedure_word (suc i) ∷ []
 
 -- The names of the file with so many rounds
 abbrev pub generated_names : ℕ → List (List ℕ)
-generated_names count = tabled (tabled [] (declared_words ++ used_words)) (procedure_words count)
+generated_names count = (declared_words ++ used_words) ++ procedure_words count
 
 -- ---- a name by its bytes
 

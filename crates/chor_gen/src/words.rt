@@ -2,8 +2,9 @@
 
 ghost use Rattle.std.specs.Prelude.{◌≡◌, ◌<◌, ◌≤◌, IfOk, OnOk, length, true};
 ghost use Rattle.chor_base.specs.Words.{AllDistinct};
-ghost use Rattle.chor_gen.specs.Words.{generated_names, tabled, declared_words, used_words, procedure_word, named_in};
+ghost use Rattle.chor_gen.specs.Words.{generated_names, declared_words, used_words, procedure_word, named_in};
 ghost use Rattle.chor_tree.specs.Kept.{has_name};
+ghost use Rattle.chor_gen.specs.Making.{tabled};
 
 use chor_base::{Memory, NameId, Names, Place};
 use chor_tree::Named;
