@@ -22,7 +22,7 @@ use Rattle.chor_tree.specs.Kept.{followers_in, times}
 use Rattle.chor_tree.specs.Source.{Statement, Block, Then, Either, Ends, nowhere, block_in, block_of, grown, blocks_of}
 use Rattle.chor_tree.proofs.Blocks.{grown_length}
 use Rattle.chor_gen.specs.Words.{beginning}
-use Rattle.chor_gen.specs.Making.{form_kept, nodes_kept, Says, below, Adds}
+use Rattle.chor_gen.specs.Making.{form_kept, nodes_kept, node_of, Says, below, Adds}
 
 -- ---- blocks
 
@@ -96,18 +96,18 @@ pub adds_tail : {names : List (List ℕ)} {a c : List Node} {id : NodeId} {blk :
 adds_tail {a = a} n none is good made at = adds_node [] n (sym (append-nil a)) refl (λ i. omega (arith, ap (times i) none)) is good made at
 
 -- a statement
-pub adds_line : {names : List (List ℕ)} {a b c : List Node} {next id : NodeId} {s : Statement} {f : Form} {blk : Block} → Adds names a b next blk → Says names f s next → c ≡ b ++ record { place = beginning; form = f } ∷ [] → id.0 ≡ length b → Adds names a c id (Then beginning s blk)
+pub adds_line : {names : List (List ℕ)} {a b c : List Node} {next id : NodeId} {s : Statement} {f : Form} {blk : Block} → Adds names a b next blk → Says names f s next → c ≡ b ++ node_of f ∷ [] → id.0 ≡ length b → Adds names a c id (Then beginning s blk)
 adds_line {b = b} {next = next} {s = s} {f = f} d says made at =
-    adds_node d.added (record { place = beginning; form = f }) d.parts d.kept
+    adds_node d.added (node_of f) d.parts d.kept
     (λ i. omega (arith, d.once i, times_first i next (followers_in d.added), ap (times i) says.follows, times_first i next []))
     (says.block (blocks_of b) ∙ ap (λ (x : Block). Then beginning s x) d.block) says.kept made at
 
 -- a conditional
 pub adds_branch : {names : List (List ℕ)} {a b c d : List Node} {first second id : NodeId} {q p : Named} (e : Expr) {t : Term} {x y : Block} → Adds names a b first x → Adds names b c second y → q ≡ p → term_of e ≡ t
-    → form_kept names (If q e first second) ≡ true → d ≡ c ++ record { place = beginning; form = If q e first second } ∷ [] → id.0 ≡ length c → Adds names a d id (Either beginning p t x y)
+    → form_kept names (If q e first second) ≡ true → d ≡ c ++ node_of (If q e first second) ∷ [] → id.0 ≡ length c → Adds names a d id (Either beginning p t x y)
 adds_branch {names} {a} {b} {c} {d} {first} {second} {id} {q} {p} e {t} {x} {y} f g same term good made at =
     let stays : block_in (blocks_of c) first ≡ x = block_stays b c g.added first g.parts f.there ∙ f.block in
-    adds_node (f.added ++ g.added) (record { place = beginning; form = If q e first second })
+    adds_node (f.added ++ g.added) (node_of (If q e first second))
     (g.parts ∙ ap (λ (l : List Node). l ++ g.added) f.parts ∙ append_assoc a f.added g.added)
     (list_all-append (λ (o : Node). form_kept names o.form) f.added g.added ∙ and_from _ _ f.kept g.kept)
     (λ i. once i)

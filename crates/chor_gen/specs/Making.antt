@@ -24,6 +24,10 @@ form_kept names f = form_there (has_name names) (has_text []) f && form_filled f
 abbrev pub nodes_kept : List (List ℕ) → List Node → Bool
 nodes_kept names nodes = list_all (λ o. form_kept names o.form) nodes
 
+-- the node of a form
+abbrev pub node_of : Form → Node
+node_of f = record { place = beginning; form = f }
+
 -- a form that is this statement, before that node
 pub record Says (names : List (List ℕ)) (f : Form) (s : Statement) (next : NodeId) : Type 0 where
   pub block : (bs : List Block) → block_of bs beginning f ≡ Then beginning s (block_in bs next)

@@ -5,10 +5,10 @@ ghost use Rattle.std.specs.List.{list_all};
 ghost use Rattle.chor_tree.specs.Children.{children_of};
 ghost use Rattle.chor_base.specs.Expr.{term_of};
 ghost use Rattle.chor_tree.specs.Kept.{has_name, has_text, names_there, part_there, term_there};
-ghost use Rattle.chor_gen.specs.Words.{named_in, beginning};
+ghost use Rattle.chor_gen.specs.Words.{named_in};
 ghost use Rattle.chor_gen.specs.Generated.{part, p_and_q, literal, starts, start_round, start_fork, p_sends, q_sends, r_sends, tells, one_more, is_less};
 ghost use Rattle.chor_gen.specs.Generated.{call, after_round, odd_round, told, even_round, body_of_round};
-ghost use Rattle.chor_gen.specs.Making.{Says, Adds};
+ghost use Rattle.chor_gen.specs.Making.{Says, Adds, node_of};
 
 use crate::words::Words;
 use chor_base::{BinOp, Expr, List, Memory, Place, Value};
@@ -25,7 +25,7 @@ pub struct Round {
 // Adds a node of this form after those that follow it.
 fn push(tree: &mut Tree, form: Form) -> Result<NodeId, Memory>
     requires { All (λ c. c.0 < length tree.old.nodes) (children_of form) }
-    ensures { IfOk result (λ id. (id.0 ≡ length tree.old.nodes) × (tree.new.nodes ≡ tree.old.nodes ++ record { place = beginning; form = form } ∷ [])) }
+    ensures { IfOk result (λ id. (id.0 ≡ length tree.old.nodes) × (tree.new.nodes ≡ tree.old.nodes ++ node_of form ∷ [])) }
 {
     let place = Place { line: 1, col: 1 };
     tree.push(Node { place, form })
