@@ -10,6 +10,8 @@ mod endpoint_files;
 #[cfg(test)]
 mod expressions;
 #[cfg(test)]
+mod generated;
+#[cfg(test)]
 mod limits;
 #[cfg(test)]
 mod sameness;
