@@ -21,7 +21,7 @@ pub fn answer_programs(rt: &impl Print, alloc: Global, hosts: &HostTable) -> any
     answer_bytes(rt, alloc, hosts)?;
     answer_full_sinks(rt, alloc, hosts)?;
     answer_without_functions(rt, alloc)?;
-    answer_long_files(rt, alloc, hosts)?;
+    answer_long_file(rt, alloc, hosts)?;
     answer_paths(rt, alloc, hosts)
 }
 
@@ -68,21 +68,16 @@ fn answer_without_functions(rt: &impl Print, alloc: Global) -> anyhow::Result<()
     answer(rt, alloc, call)
 }
 
-// Files of 16,777,216 bytes, which is the limit, and of one byte more.
-fn answer_long_files(rt: &impl Print, alloc: Global, hosts: &HostTable) -> anyhow::Result<()> {
-    let mut source = PROGRAMS.to_vec(alloc)?;
-    for _ in source.len()..16_777_216 {
-        source.push(b' ')?;
+// A file of one byte more than there may be.
+fn answer_long_file(rt: &impl Print, alloc: Global, hosts: &HostTable) -> anyhow::Result<()> {
+    let mut source = Vec::new(alloc);
+    let line = [b' '; 256];
+    while source.len() < 16_777_216 {
+        source.extend_from_slice(line.as_slice())?;
     }
-    let call = Call {
-        title: "exec FILE: programs and spaces up to the limit",
-        source: source.as_slice(),
-        hosts,
-    };
-    answer(rt, alloc, call)?;
     source.push(b' ')?;
     let call = Call {
-        title: "exec FILE: programs and one space beyond the limit",
+        title: "exec FILE: one byte beyond the limit",
         source: source.as_slice(),
         hosts,
     };
