@@ -72,7 +72,7 @@ fn answer_without_functions(rt: &impl Print, alloc: Global) -> anyhow::Result<()
 fn answer_long_file(rt: &impl Print, alloc: Global, hosts: &HostTable) -> anyhow::Result<()> {
     let mut source = Vec::new(alloc);
     let line = [b' '; 256];
-    while source.len() < 16_777_216 {
+    for _ in 0..65_536 {
         source.extend_from_slice(line.as_slice())?;
     }
     source.push(b' ')?;
