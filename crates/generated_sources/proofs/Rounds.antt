@@ -63,7 +63,7 @@ module _ (count : ℕ) where
             ∙ alone m j true (omega arith) (grind (arith, nat_tests))
             ∙ ap (λ (k : ℕ). Some (procedure at count (suc k))) same
 
-    among_rounds : (m : ℕ) (p : Procedure) → Contains (procedures at count m) p → (i : ℕ) × (i < m) × (p ≡ procedure at count (suc i))
+    pub among_rounds : (m : ℕ) (p : Procedure) → Contains (procedures at count m) p → (i : ℕ) × (i < m) × (p ≡ procedure at count (suc i))
     among_rounds zero p h = absurd (no_member p h)
     among_rounds (suc m) p h = go (Contains-append_cases (procedures at count m) (procedure at count (suc m) ∷ []) p h) (among_rounds m p)
       where
