@@ -1,0 +1,5 @@
+pub mod Stated
+pub mod Marks
+pub mod RoundViews
+pub mod ForkViews
+pub mod Views
