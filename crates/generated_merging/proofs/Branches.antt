@@ -16,10 +16,10 @@ use Rattle.projection.proofs.Branches.{both}
 use Rattle.projection.proofs.OneCode.{code_distinct, of_then}
 use Rattle.generated_sources.specs.Generated.{IsGenerated}
 use Rattle.generated_sources.proofs.Rounds.{at, among_rounds}
-use Rattle.generated_sources.proofs.Shape.{Place, IsKept, file_at, Holds, by_shape}
+use Rattle.generated_sources.proofs.Shape.{Bodies, IsKept, file_at, AreRounds, by_shape}
 use Rattle.generated_merging.proofs.Lists.{one_item, all_parts}
 
-module _ (count : ℕ) (few : count ≤ 4000) (w : Place) (kept : IsKept count w) (holds : Holds count w) where
+module _ (count : ℕ) (few : count ≤ 4000) (w : Bodies) (kept : IsKept count w) (holds : AreRounds count w) where
   abbrev f : File
   f = file_at count w kept
 
@@ -67,7 +67,7 @@ module _ (count : ℕ) (few : count ≤ 4000) (w : Place) (kept : IsKept count w
   merge : All NoClash (sites_of f)
   merge =
       All-append NoClash (flat_map of_procedure (map (procedure_of w.tree.nodes) w.procs)) (sites_in (map (λ p. p.name) f.processes) (block_in (blocks_of w.tree.nodes) w.body))
-      (subst (λ (ps : List Procedure). All NoClash (flat_map of_procedure ps)) (sym holds.bodies)
+      (subst (λ (ps : List Procedure). All NoClash (flat_map of_procedure ps)) (sym holds.procedures)
       (all_parts NoClash of_procedure (procedures (at count) count count) (λ h m.
       let d = among_rounds count few count h m in
       subst (λ (x : Procedure). All NoClash (of_procedure x)) (sym d.2) (in_round (suc d.0)))))

@@ -24,11 +24,12 @@ use Rattle.projection.specs.MergeFaults.{services_of, HasServiceClash}
 use Rattle.projection.specs.Projects.{Started, starts_in, body_at, starts_in_procs, starts_of, session_as, IsStartCode, is_some_start}
 use Rattle.projection.proofs.OneCode.{of_then, of_calls, of_stops}
 use Rattle.generated_sources.specs.Generated.{IsGenerated}
+use Rattle.generated_sources.proofs.Lists.{later_member}
 use Rattle.generated_sources.proofs.Rounds.{at, IsRound, declared}
-use Rattle.generated_sources.proofs.Shape.{Place, IsKept, file_at, Holds, by_shape}
+use Rattle.generated_sources.proofs.Shape.{Bodies, IsKept, file_at, AreRounds, by_shape}
 use Rattle.generated_merging.proofs.Lists.{one_item, all_partners}
 
-module _ (count : ℕ) (few : count ≤ 4000) (w : Place) (kept : IsKept count w) (holds : Holds count w) where
+module _ (count : ℕ) (few : count ≤ 4000) (w : Bodies) (kept : IsKept count w) (holds : AreRounds count w) where
   abbrev f : File
   f = file_at count w kept
 
@@ -69,15 +70,12 @@ module _ (count : ℕ) (few : count ≤ 4000) (w : Place) (kept : IsKept count w
       let r = d.2 in
       All-append IsStart (starts_in (n (codes "a")) (body_at f p.body)) (starts_in_procs f (n (codes "a")) ps)
       (in_body p.body (body_of_round (at count) count (suc d.0)) r.body (in_round (suc d.0)))
-      (in_procs ps (λ q m. h q (later q m)))
-    where
-      later : (q : Proc) → Contains ps q → Contains (p ∷ ps) q
-      later q (i, l, e) = (suc i, omega (arith, l), e)
+      (in_procs ps (λ q m. h q (later_member ps p q m)))
 
   all_starts : All IsStart (starts_of f (n (codes "a")))
   all_starts =
       All-append IsStart (starts_in_procs f (n (codes "a")) w.procs) (starts_in (n (codes "a")) (body_at f w.body))
-      (in_procs w.procs (declared count few w.tree.nodes w.procs holds.bodies))
+      (in_procs w.procs (declared count few w.tree.nodes w.procs holds.procedures))
       (in_body w.body (call (at count) 1) holds.main (All-nil IsStart))
 
   -- ---- the code of r

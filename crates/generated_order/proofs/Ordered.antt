@@ -1,6 +1,7 @@
 -- In a generated file p and q are in the sets of both channels, and start each session themselves.
 use Rattle.std.proofs.Common.{◌≡◌, ◌<◌, ◌≤◌, ◌==◌, ◌∙◌, ℕ, zero, suc, Bool, true, false, List, [], ◌∷◌, map, refl, sym, ap, subst, arith}
 use Rattle.std.specs.Prelude.{All, Contains, codes, if◌then◌else◌}
+use Rattle.std.proofs.lemmas.Bool.{both_ways}
 use Rattle.std.proofs.lemmas.List.Elements.{All-nil, All-cons}
 use Rattle.chor_base.specs.declared.fault.Fault.{Fault}
 use Rattle.chor_base.specs.declared.names.NameId.{NameId}
@@ -19,15 +20,13 @@ use Rattle.well_formed.specs.Linear.{Members, ParameterSets, everyone, given}
 use Rattle.linearity.specs.Linear.{AreOrdered, ArePassed, set_of, MeetsCalls, IsGreatest}
 use Rattle.linearity.specs.OrderFaults.{IsUnorderedStart, here, after, first, second, IsUnorderedIn, in_main, in_a_procedure, main_of, IsOrderFault}
 use Rattle.generated_sources.specs.Generated.{IsGenerated}
+use Rattle.generated_sources.proofs.Lists.{later_member}
 use Rattle.generated_sources.proofs.Rounds.{at, IsRound, declared}
-use Rattle.generated_sources.proofs.Shape.{Place, IsKept, file_at, Holds, by_shape}
-
-clash : (b : Bool) → b ≡ true → b ≡ false → ⊥
-clash b h i = cc
+use Rattle.generated_sources.proofs.Shape.{Bodies, IsKept, file_at, AreRounds, by_shape}
 
 -- where all starts are ordered none isn't
 no_start : {a : NameId} {x : Fault} {m : Members} {b : Block} → AreOrdered a m (choreography_of b) → IsUnorderedStart a x m b → ⊥
-no_start o (here h e) = clash _ o.0 h
+no_start o (here h e) = both_ways _ h o.0
 no_start o (after u) = no_start o.1 u
 no_start o (first u) = no_start o.0 u
 no_start o (second u) = no_start o.1 u
@@ -36,7 +35,7 @@ no_start o (second u) = no_start o.1 u
 abbrev all_sets : ParameterSets
 all_sets = λ g i. true
 
-module _ (count : ℕ) (few : count ≤ 4000) (w : Place) (kept : IsKept count w) (holds : Holds count w) where
+module _ (count : ℕ) (few : count ≤ 4000) (w : Bodies) (kept : IsKept count w) (holds : AreRounds count w) where
   abbrev f : File
   f = file_at count w kept
 
@@ -102,14 +101,11 @@ module _ (count : ℕ) (few : count ≤ 4000) (w : Place) (kept : IsKept count w
   passed_in_all c (p ∷ ps) h =
       let d = h p (0, omega arith, refl) in
       All-cons (λ g. ArePassed (channel c) all_sets (set_of all_sets g) g.body) (procedure_from w.tree.nodes p) (map (procedure_from w.tree.nodes) ps)
-      (passed_by c p d.0 d.2) (passed_in_all c ps (λ q m. h q (later q m)))
-    where
-      later : (q : Proc) → Contains ps q → Contains (p ∷ ps) q
-      later q (i, l, e) = (suc i, omega (arith, l), e)
+      (passed_by c p d.0 d.2) (passed_in_all c ps (λ q m. h q (later_member ps p q m)))
 
   all_meet : (c : Bool) → MeetsCalls (procedures_of f) (main_of f) (channel c) all_sets
   all_meet c = record {
-    in_procs = passed_in_all c w.procs (declared count few w.tree.nodes w.procs holds.bodies);
+    in_procs = passed_in_all c w.procs (declared count few w.tree.nodes w.procs holds.procedures);
     in_main = subst (ArePassed (channel c) all_sets everyone) (ap choreography_of (sym holds.main) ∙ block_choreography w.tree.nodes w.body) refl;
   }
 
@@ -124,7 +120,7 @@ module _ (count : ℕ) (few : count ≤ 4000) (w : Place) (kept : IsKept count w
   no_unordered : (c : Bool) (x : Fault) → IsUnorderedIn f (channel c) all_sets x → ⊥
   no_unordered c x (in_main u) = no_start {b = call (at count) 1} tt (subst (IsUnorderedStart (channel c) x everyone) holds.main u)
   no_unordered c x (in_a_procedure {h = p} m u) =
-      let d = declared count few w.tree.nodes w.procs holds.bodies p m in
+      let d = declared count few w.tree.nodes w.procs holds.procedures p m in
       ordered_by c x p d.0 d.2 u
 
   of_channel : (c : Bool) (x : Fault) (sets : ParameterSets) → IsGreatest (procedures_of f) (main_of f) (channel c) sets → IsUnorderedIn f (channel c) sets x → ⊥

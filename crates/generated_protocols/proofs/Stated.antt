@@ -8,15 +8,15 @@ use Rattle.global_types.specs.Faults.{faults_of, unknown_state_in, procedure_fau
 use Rattle.generated_sources.specs.Generated.{IsGenerated}
 use Rattle.generated_sources.proofs.Lists.{none_of}
 use Rattle.generated_sources.proofs.Rounds.{declared}
-use Rattle.generated_sources.proofs.Shape.{Place, IsKept, file_at, Holds, by_shape}
+use Rattle.generated_sources.proofs.Shape.{Bodies, IsKept, file_at, AreRounds, by_shape}
 
-module _ (count : ℕ) (few : count ≤ 4000) (w : Place) (kept : IsKept count w) (holds : Holds count w) where
+module _ (count : ℕ) (few : count ≤ 4000) (w : Bodies) (kept : IsKept count w) (holds : AreRounds count w) where
   abbrev f : File
   f = file_at count w kept
 
   fine : faults_of f ≡ []
   fine = none_of (procedure_faults f.protocols) w.procs (λ p m.
-      let d = declared count few w.tree.nodes w.procs holds.bodies p m in
+      let d = declared count few w.tree.nodes w.procs holds.procedures p m in
       let r = d.2 in
       ap (λ (ks : List SessionParam). flat_map (λ k. unknown_state_in (protocol_named f.protocols k.protocol.name) k.state) ks) r.sessions)
 

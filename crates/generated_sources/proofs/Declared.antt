@@ -19,7 +19,7 @@ use Rattle.chor_tree.specs.Source.{Procedure, procedure_of}
 use Rattle.chor_gen.specs.Generated.{is_odd, parameters, procedure, procedures}
 use Rattle.generated_sources.proofs.Lists.{none_of}
 use Rattle.generated_sources.proofs.Rounds.{at, called, name_is, IsRound, declared}
-use Rattle.generated_sources.proofs.Shape.{Place, IsKept, file_at, Holds}
+use Rattle.generated_sources.proofs.Shape.{Bodies, IsKept, file_at, AreRounds}
 
 -- ---- names in a list, one after another
 
@@ -66,13 +66,13 @@ module _ (count : ℕ) (few : count ≤ 4000) where
 
   -- ---- the file
 
-  module _ (w : Place) (kept : IsKept count w) (holds : Holds count w) where
+  module _ (w : Bodies) (kept : IsKept count w) (holds : AreRounds count w) where
     abbrev f : File
     f = file_at count w kept
 
     names_apart : repeated [] (map (λ p. p.name) w.procs) ≡ []
     names_apart =
-        ap (repeated []) (names_kept w.tree.nodes w.procs ∙ ap (map (λ (q : Procedure). q.name)) holds.bodies)
+        ap (repeated []) (names_kept w.tree.nodes w.procs ∙ ap (map (λ (q : Procedure). q.name)) holds.procedures)
         ∙ each_once count (omega arith)
 
     abbrev head_of : List ProcParam → List SessionParam → List Fault
@@ -89,7 +89,7 @@ module _ (count : ℕ) (few : count ≤ 4000) where
         go false = refl
 
     heads_fine : flat_map (procedure_faults f) w.procs ≡ []
-    heads_fine = none_of (procedure_faults f) w.procs (λ p m. let d = declared count few w.tree.nodes w.procs holds.bodies p m in one p d.0 d.2)
+    heads_fine = none_of (procedure_faults f) w.procs (λ p m. let d = declared count few w.tree.nodes w.procs holds.procedures p m in one p d.0 d.2)
       where
         one : (p : Proc) (i : ℕ) → IsRound count w.tree.nodes p i → procedure_faults f p ≡ []
         one p i r = (λ j. head_of (r.params j) (r.sessions j)) ∙ fine_head (suc i)

@@ -26,6 +26,9 @@ mapped_member g xs x (i, l, e) = (i, below xs i l, at xs i ∙ ap g e)
     at (y ∷ ys) zero = refl
     at (y ∷ ys) (suc j) = at ys j
 
+pub later_member : {A : Type 0} (xs : List A) (x y : A) → Contains xs y → Contains (x ∷ xs) y
+later_member xs x y (i, l, e) = (suc i, omega (arith, l), e)
+
 -- ---- the first of a name
 
 module _ {A : Type 0} (name : A → Named) (x : NameId) where
@@ -60,7 +63,4 @@ first_mapped g name x (a ∷ as') = go ((name (g a)).name.0 == x.0) (first_mappe
 
 pub none_of : {A B : Type 0} (g : A → List B) (xs : List A) → ((x : A) → Contains xs x → g x ≡ []) → flat_map g xs ≡ []
 none_of g [] h = refl
-none_of g (x ∷ xs) h = ap (λ l. l ++ flat_map g xs) (h x (0, omega arith, refl)) ∙ none_of g xs (λ y m. h y (later y m))
-  where
-    later : (y : _) → Contains xs y → Contains (x ∷ xs) y
-    later y (i, l, e) = (suc i, omega (arith, l), e)
+none_of g (x ∷ xs) h = ap (λ l. l ++ flat_map g xs) (h x (0, omega arith, refl)) ∙ none_of g xs (λ y m. h y (later_member xs x y m))

@@ -17,7 +17,7 @@ use Rattle.chor_gen.specs.Generated.{p_and_q, call, after_round, odd_round, even
 use Rattle.generated_sources.specs.Generated.{IsGenerated}
 use Rattle.generated_sources.proofs.Lists.{no_member}
 use Rattle.generated_sources.proofs.Rounds.{at, called, name_is, IsRound, declared, found}
-use Rattle.generated_sources.proofs.Shape.{Place, IsKept, file_at, Holds, by_shape}
+use Rattle.generated_sources.proofs.Shape.{Bodies, IsKept, file_at, AreRounds, by_shape}
 use Rattle.generated_sources.proofs.Clear.{IsClear, call_faults, no_fault}
 use Rattle.generated_sources.proofs.Declared.{no_declaration_fault}
 
@@ -30,7 +30,7 @@ found_among name x (b ∷ xs) a h = go ((name b).name.0 == x.0) h (found_among n
     go true h more = refl
     go false h more = more h
 
-module _ (count : ℕ) (few : count ≤ 4000) (hosts : List (List ℕ)) (w : Place) (kept : IsKept count w) (holds : Holds count w) where
+module _ (count : ℕ) (few : count ≤ 4000) (hosts : List (List ℕ)) (w : Bodies) (kept : IsKept count w) (holds : AreRounds count w) where
   abbrev f : File
   f = file_at count w kept
 
@@ -44,7 +44,7 @@ module _ (count : ℕ) (few : count ≤ 4000) (hosts : List (List ℕ)) (w : Pla
 
   call_fine : (s : Scope) (i : ℕ) → i < count → HasBoth s → call_faults f hosts s (at count (procedure_word (suc i))) (p_and_q (at count)) [] ≡ []
   call_fine s i lt both =
-      let d = found count few w.tree.nodes w.procs holds.bodies i lt in
+      let d = found count few w.tree.nodes w.procs holds.procedures i lt in
       let r = d.2 in
       let P = unknown_process s (at count (codes "p")) in
       let Q = unknown_process s (at count (codes "q")) in
@@ -90,7 +90,7 @@ module _ (count : ℕ) (few : count ≤ 4000) (hosts : List (List ℕ)) (w : Pla
   no_names some x (in_main h) =
       no_fault f hosts x (subst (IsClear f hosts (scope_of_main f)) (sym holds.main) (call_fine (scope_of_main f) 0 (omega arith) (record { first = refl; second = refl }))) h
   no_names some x (in_a_procedure {p = p} m h) =
-      let d = declared count few w.tree.nodes w.procs holds.bodies p m in
+      let d = declared count few w.tree.nodes w.procs holds.procedures p m in
       no_fault f hosts x (procedure_fine p d.0 d.1 d.2) h
 
 pub all_resolved : (f : File) (count : ℕ) (hosts : List (List ℕ)) → IsGenerated f count → (x : Fault) → ¬ IsNameFault f hosts x

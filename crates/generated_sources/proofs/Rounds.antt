@@ -3,7 +3,7 @@ use Rattle.std.proofs.Common.{◌≡◌, ◌<◌, ◌≤◌, ◌+◌, ◌==◌, 
 use Rattle.std.specs.Prelude.{Contains, option_map, if◌then◌else◌}
 use Rattle.std.proofs.lemmas.Bool.{cases_lt}
 use Rattle.std.proofs.lemmas.Bool.Decides.{nat_tests}
-use Rattle.std.proofs.lemmas.List.Elements.{Contains-append_cases}
+use Rattle.std.proofs.lemmas.List.Elements.{Contains-push_cases}
 use Rattle.chor_tree.specs.declared.file.Named.{Named}
 use Rattle.chor_tree.specs.declared.file.Proc.{Proc}
 use Rattle.chor_tree.specs.declared.tree.Node.{Node}
@@ -12,7 +12,7 @@ use Rattle.chor_tree.specs.Source.{Procedure, block_in, blocks_of, procedure_of}
 use Rattle.chor_gen.specs.Words.{beginning, named_in, generated_names, procedure_word}
 use Rattle.chor_gen.specs.Generated.{parameters, body_of_round, procedure, procedures}
 use Rattle.generated_sources.proofs.Numbers.{number_of_round}
-use Rattle.generated_sources.proofs.Lists.{no_member, one_member, mapped_member, first_front, first_back, first_mapped}
+use Rattle.generated_sources.proofs.Lists.{no_member, mapped_member, first_front, first_back, first_mapped}
 
 -- the name of the procedure of a round, where the first round is that of 0
 abbrev pub called : ℕ → Named
@@ -65,12 +65,12 @@ module _ (count : ℕ) where
 
     pub among_rounds : (m : ℕ) (p : Procedure) → Contains (procedures at count m) p → (i : ℕ) × (i < m) × (p ≡ procedure at count (suc i))
     among_rounds zero p h = absurd (no_member p h)
-    among_rounds (suc m) p h = go (Contains-append_cases (procedures at count m) (procedure at count (suc m) ∷ []) p h) (among_rounds m p)
+    among_rounds (suc m) p h = go (Contains-push_cases (procedures at count m) (procedure at count (suc m)) p h) (among_rounds m p)
       where
-        go : Contains (procedures at count m) p ⊎ Contains (procedure at count (suc m) ∷ []) p → (Contains (procedures at count m) p → (i : ℕ) × (i < m) × (p ≡ procedure at count (suc i)))
+        go : Contains (procedures at count m) p ⊎ (procedure at count (suc m) ≡ p) → (Contains (procedures at count m) p → (i : ℕ) × (i < m) × (p ≡ procedure at count (suc i)))
             → (i : ℕ) × (i < suc m) × (p ≡ procedure at count (suc i))
         go (inl l) more = let w = more l in let lt = w.1 in (w.0, omega (arith, lt), w.2)
-        go (inr l) more = (m, omega arith, sym (one_member p (procedure at count (suc m)) l))
+        go (inr l) more = (m, omega arith, sym l)
 
     -- ---- in a file with these nodes and procedures
 

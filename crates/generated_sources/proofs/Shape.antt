@@ -15,19 +15,19 @@ use Rattle.generated_sources.specs.Generated.{IsGenerated}
 use Rattle.generated_sources.proofs.Rounds.{at}
 
 -- where a file keeps its procedures and their bodies, with its texts
-pub record Place : Type 0 where
+pub record Bodies : Type 0 where
   pub texts : List (List ℕ)
   pub procs : List Proc
   pub tree : Tree
   pub body : NodeId
 
-abbrev place_of : File → Place
-place_of f = record { texts = f.texts; procs = f.procs; tree = f.tree; body = f.body }
+abbrev bodies_of : File → Bodies
+bodies_of f = record { texts = f.texts; procs = f.procs; tree = f.tree; body = f.body }
 
-abbrev Kept : Place → List (List ℕ) → List Protocol → List Service → List Named → Type 0
+abbrev Kept : Bodies → List (List ℕ) → List Protocol → List Service → List Named → Type 0
 Kept w names protocols services processes = Keeps names w.texts protocols services w.procs processes w.tree.nodes w.body
 
-abbrev file_of : (w : Place) (names : List (List ℕ)) (protocols : List Protocol) (services : List Service) (processes : List Named) → Kept w names protocols services processes → File
+abbrev file_of : (w : Bodies) (names : List (List ℕ)) (protocols : List Protocol) (services : List Service) (processes : List Named) → Kept w names protocols services processes → File
 file_of w names protocols services processes kept = record {
   names = names;
   texts = w.texts;
@@ -41,30 +41,30 @@ file_of w names protocols services processes kept = record {
 }
 
 module _ (count : ℕ) where
-  abbrev pub IsKept : Place → Type 0
+  abbrev pub IsKept : Bodies → Type 0
   IsKept w = Kept w (generated_names count) (round (at count) ∷ fork (at count) ∷ []) (round_service (at count) ∷ fork_service (at count) ∷ []) (p_and_q (at count))
 
   -- the file with these declarations
-  abbrev pub file_at : (w : Place) → IsKept w → File
+  abbrev pub file_at : (w : Bodies) → IsKept w → File
   file_at w kept = file_of w (generated_names count) (round (at count) ∷ fork (at count) ∷ []) (round_service (at count) ∷ fork_service (at count) ∷ []) (p_and_q (at count)) kept
 
   -- what stands there is what is generated
-  pub record Holds (w : Place) : Type 0 where
-    pub bodies : map (procedure_of w.tree.nodes) w.procs ≡ procedures (at count) count count
+  pub record AreRounds (w : Bodies) : Type 0 where
+    pub procedures : map (procedure_of w.tree.nodes) w.procs ≡ procedures (at count) count count
     pub main : block_in (blocks_of w.tree.nodes) w.body ≡ call (at count) 1
 
   source_at : (f : File) → IsGenerated f count → source_of f ≡ generated (at count) count
   source_at f g = g.source ∙ ap (λ (ns : List (List ℕ)). generated (named_in ns) count) g.names
 
-  abbrev Says : (File → Type 0) → Place → List (List ℕ) → List Protocol → List Service → List Named → Type 0
+  abbrev Says : (File → Type 0) → Bodies → List (List ℕ) → List Protocol → List Service → List Named → Type 0
   Says P w names protocols services processes = (kept : Kept w names protocols services processes) → P (file_of w names protocols services processes kept)
 
   -- what holds of each file with these declarations holds of each generated file
-  pub by_shape : (P : File → Type 0) → ((w : Place) (kept : IsKept w) → Holds w → P (file_at w kept)) → (f : File) → IsGenerated f count → P f
+  pub by_shape : (P : File → Type 0) → ((w : Bodies) (kept : IsKept w) → AreRounds w → P (file_at w kept)) → (f : File) → IsGenerated f count → P f
   by_shape P h f g =
-      let w = place_of f in
+      let w = bodies_of f in
       let s = source_at f g in
-      let holds : Holds w = record { bodies = ap (λ (o : Source). o.items.procedures) s; main = ap (λ (o : Source). o.body) s } in
+      let holds : AreRounds w = record { procedures = ap (λ (o : Source). o.items.procedures) s; main = ap (λ (o : Source). o.body) s } in
       let one : Says P w (generated_names count) (round (at count) ∷ fork (at count) ∷ []) (round_service (at count) ∷ fork_service (at count) ∷ []) (p_and_q (at count)) = λ k. h w k holds in
       let two = subst (λ (x : List Named). Says P w (generated_names count) (round (at count) ∷ fork (at count) ∷ []) (round_service (at count) ∷ fork_service (at count) ∷ []) x) (sym (ap (λ (o : Source). o.processes) s)) one in
       let three = subst (λ (x : List Service). Says P w (generated_names count) (round (at count) ∷ fork (at count) ∷ []) x f.processes) (sym (ap (λ (o : Source). o.items.services) s)) two in

@@ -22,10 +22,10 @@ use Rattle.typing_rules.specs.TypeFaults.{holder_fault, in_main, in_a_head, in_a
 use Rattle.generated_sources.specs.Generated.{IsGenerated}
 use Rattle.generated_sources.proofs.Lists.{no_member}
 use Rattle.generated_sources.proofs.Rounds.{at, name_is, IsRound, declared, found}
-use Rattle.generated_sources.proofs.Shape.{Place, IsKept, file_at, Holds, by_shape}
+use Rattle.generated_sources.proofs.Shape.{Bodies, IsKept, file_at, AreRounds, by_shape}
 use Rattle.generated_types.proofs.Clear.{IsClear, no_fault}
 
-module _ (count : ℕ) (few : count ≤ 4000) (w : Place) (kept : IsKept count w) (holds : Holds count w) where
+module _ (count : ℕ) (few : count ≤ 4000) (w : Bodies) (kept : IsKept count w) (holds : AreRounds count w) where
   abbrev f : File
   f = file_at count w kept
 
@@ -38,7 +38,7 @@ module _ (count : ℕ) (few : count ≤ 4000) (w : Place) (kept : IsKept count w
 
   call_fine : (e : Environment) (i : ℕ) → i < count → IsReady e (suc i) → rule_at f e (call (at count) (suc i)) ≡ None
   call_fine e i lt ready =
-      let d = found count few w.tree.nodes w.procs holds.bodies i lt in
+      let d = found count few w.tree.nodes w.procs holds.procedures i lt in
       let r = d.2 in
       ap (λ (g : Named). rule_at f e (Calls beginning g (p_and_q (at count)) [])) (name_is count few i lt)
       ∙ ap (λ (o : Option Proc). first_failed (None ∷ (arguments_fit e o (p_and_q (at count)) [] ++ ask (rest_ended f e []) T6 ∷ []))) d.1
@@ -107,11 +107,11 @@ module _ (count : ℕ) (few : count ≤ 4000) (w : Place) (kept : IsKept count w
   typed some x (in_main h) =
       no_fault f x (block_in (blocks_of w.tree.nodes) w.body) at_main (subst (IsClear f at_main) (sym holds.main) (call_fine at_main 0 (omega arith) (record { ended = refl; set = refl }))) h
   typed some x (in_a_head {p = p} m h) =
-      let d = declared count few w.tree.nodes w.procs holds.bodies p m in
+      let d = declared count few w.tree.nodes w.procs holds.procedures p m in
       let r = d.2 in
       no_member x (subst (λ (ks : List SessionParam). Contains (flat_map holder_fault ks) x) r.sessions h)
   typed some x (in_a_procedure {p = p} m none h) =
-      let d = declared count few w.tree.nodes w.procs holds.bodies p m in
+      let d = declared count few w.tree.nodes w.procs holds.procedures p m in
       no_fault f x (block_in (blocks_of w.tree.nodes) p.body) (at_procedure p) (procedure_fine p d.0 d.1 d.2) h
 
 pub all_typed : (f : File) (count : ℕ) → IsGenerated f count → IsTyped f
