@@ -102,16 +102,21 @@ module _ (count : ℕ) (few : count ≤ 4000) (w : Bodies) (kept : IsKept count 
   code_after true j c h = of_stops w.procs (n (codes "r")) h
   code_after false j c h = of_calls w.procs (n (codes "r")) h ∙ passed_none _ (proc_named w.procs _)
 
+  -- after any start r has that code
+  code_in : (i : ℕ) (c : CodeTree) → IsCodeOf w.procs (n (codes "r")) (put_in (choreography_of (rest_of i))) c → c ≡ code
+  code_in i c h =
+      let received = of_then w.procs (n (codes "r")) {q = c} (of_then w.procs (n (codes "r")) {q = c} h) in
+      let sent = of_then w.procs (n (codes "r")) received.2 in
+      received.1
+      ∙ ap (Does (Receives (n (codes "a")) (n (codes "B")) (n (codes "y"))))
+      (sent.1 ∙ ap (Does (Sends (n (codes "a")) (n (codes "A")) (variable (at count) (codes "y")))) (code_after (i == count) (suc i) sent.0 sent.2))
+
   code_is : (s : Started) (c : CodeTree) → IsStart s → IsStartCode w.procs (n (codes "a")) (n (codes "C")) s c → c ≡ code
   code_is s c (i, e) h =
       let g = subst (λ (t : Started). IsStartCode w.procs (n (codes "a")) (n (codes "C")) t c) e h in
       let found : Some (n (codes "r")) ≡ Some g.process = g.serves in
       let same : g.process ≡ n (codes "r") = cc in
-      let one = of_then w.procs (n (codes "r")) (subst (λ (p : NameId). IsCodeOf w.procs p (put_in (choreography_of (rest_of i))) c) same g.code) in
-      let two = of_then w.procs (n (codes "r")) one in
-      let three = of_then w.procs (n (codes "r")) two.2 in
-      let four = code_after (i == count) (suc i) three.0 three.2 in
-      two.1 ∙ ap (Does (Receives (n (codes "a")) (n (codes "B")) (n (codes "y")))) (three.1 ∙ ap (Does (Sends (n (codes "a")) (n (codes "A")) (variable (at count) (codes "y")))) four)
+      code_in i c (subst (λ (p : NameId). IsCodeOf w.procs p (put_in (choreography_of (rest_of i))) c) same g.code)
 
   no_clash : HasServiceClash f (at count (codes "a"), at count (codes "C")) → ⊥
   no_clash h =
