@@ -9,9 +9,13 @@ use Rattle.source_check.specs.Source.{IsBroken}
 use Rattle.generated_sources.specs.Generated.{IsGenerated}
 
 -- It has no fault of any class, whatever host functions there are
-abbrev pub GeneratedIsFaultless : Type 0
-GeneratedIsFaultless = (f : File) (count : ℕ) (hosts : List (List ℕ)) → IsGenerated f count → IsFaultless hosts f (classes_of All)
+abbrev pub HasNoFault : File → Type 0
+HasNoFault f = (hosts : List (List ℕ)) → IsFaultless hosts f (classes_of All)
 
--- So who judges it by these classes, and denies it, has no memory
+-- So it is with each generated file
+abbrev pub GeneratedHasNoFault : Type 0
+GeneratedHasNoFault = (f : File) (count : ℕ) → IsGenerated f count → HasNoFault f
+
+-- Who judges a generated file by these classes, and denies it, has no memory
 abbrev pub GeneratedIsDeniedByMemory : Type 0
 GeneratedIsDeniedByMemory = (f : File) (count : ℕ) (hosts : List (List ℕ)) (denied : Denied) → IsGenerated f count → IsBroken (classes_of All) hosts f denied → denied ≡ Memory
