@@ -1,0 +1,11 @@
+//! Replays of events files.
+#![tactic(auto)]
+
+mod closing;
+mod few;
+mod file;
+mod laws;
+mod reading;
+
+pub use file::replay_file;
+pub use laws::one_answer;
