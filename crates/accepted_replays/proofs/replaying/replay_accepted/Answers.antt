@@ -1,0 +1,31 @@
+use Rattle.std.proofs.Common.{ℕ, List, sym, ap, ◌∙◌, subst}
+use Rattle.chor_host.specs.Tables.{functions_of}
+use Rattle.endpoint_code.specs.Faults.{AsksKnown, is_listed}
+use Rattle.type_check.specs.declared.typed.Typed.{Typed}
+use Rattle.known_functions.proofs.Asked.{asked}
+use Rattle.simulation.proofs.Runs.{checked}
+use Rattle.accepted_replays.specs.Sources.{book_of}
+use Rattle.accepted_replays.proofs.Runs.{on_source}
+use Rattle.accepted_replays.proofs.replaying.replay_accepted.Goals as goal
+
+pub replay_on-requires-clause-faultless : goal.replay_on-requires-clause-faultless
+replay_on-requires-clause-faultless g c =
+    let typed = c.args.accepted.now.typed in
+    let e = c.endpoints-endpoints.result.now in
+    let a = c.endpoints-endpoints.ensures.accepted in
+    let ok = checked typed.hosts typed.file e typed.fine a in
+    let known = asked (is_listed c.as_slice.result.now e) e (sym c.asks_known.ensures ∙ search) in
+    record {
+      faultless = c.laws.ensures.faultless typed.file typed.hosts ok.accepted ok.guarded e a.projects;
+      hosts = subst (λ (words : List (List ℕ)). AsksKnown (is_listed words e) e) (c.as_slice.ensures ∙ c.hosts.ensures ∙ ap (λ (t : Typed). t.hosts) c.typed-typed.ensures ∙ c.requires.hosts) known;
+    }
+
+pub returns : goal.returns
+returns g c =
+    let typed = c.args.accepted.now.typed in
+    let e = c.endpoints-endpoints.result.now in
+    let a = c.endpoints-endpoints.ensures.accepted in
+    let ok = checked typed.hosts typed.file e typed.fine a in
+    let functions = functions_of c.args.hosts.now in
+    let same = c.file.ensures.file ∙ ap (λ (t : Typed). t.file) c.typed-typed.ensures in
+    on_source typed.file typed.hosts ok e a.projects c.laws.ensures.to c.laws.ensures.back c.laws.ensures.end functions (book_of c.file.result.now) (ap book_of same) c.args.bytes.now c.replay_on.result c.replay_on.ensures
