@@ -1,0 +1,5 @@
+pub mod Words
+pub mod Codes
+pub mod Programs
+pub mod States
+pub mod Laws
