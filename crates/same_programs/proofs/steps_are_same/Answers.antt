@@ -1,0 +1,6 @@
+use Rattle.same_programs.proofs.Values.{value_same}
+use Rattle.same_programs.proofs.Branches.{arms_same}
+use Rattle.same_programs.proofs.steps_are_same.Goals as goal
+
+pub returns : goal.returns
+returns c e e' hosts hosts' cap n n' m x = ?
