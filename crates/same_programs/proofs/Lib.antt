@@ -5,3 +5,6 @@ pub mod Values
 pub mod Hosts
 pub mod Turned
 pub mod Branches
+pub mod Distinct
+pub mod Nodes
+pub mod Places

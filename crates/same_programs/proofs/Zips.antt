@@ -1,6 +1,7 @@
 -- Lists and options that are related item by item.
-use Rattle.std.proofs.Common.{◌≡◌, ℕ, zero, suc, Bool, true, false, cond, List, [], ◌∷◌, ◌++◌, length, refl, sym, ap, ◌∙◌, subst, Option, Some, None, is_some}
-use Rattle.std.specs.Prelude.{slice_get, slice_set}
+use Rattle.std.proofs.Common.{◌≡◌, ℕ, zero, suc, Bool, true, false, List, [], ◌∷◌, ◌++◌, length, refl, sym, ap, ◌∙◌, subst, Option, Some, None, is_some, if◌then◌else◌}
+use Rattle.std.specs.Prelude.{slice_get, slice_set, All}
+use Rattle.std.proofs.lemmas.List.Elements.{All-head, All-tail}
 use Rattle.std.specs.List.{AllZip}
 use Rattle.same_programs.specs.Words.{BothOrNeither}
 
@@ -43,6 +44,19 @@ module _ {A B : Type 0} (R : A → B → Type 0) where
   zip_turned S f (x ∷ xs) [] h = absurd h
   zip_turned S f (x ∷ xs) (y ∷ ys) h = (f x y h.0, zip_turned S f xs ys h.1)
 
+  -- what holds of all items of one of the lists holds beside
+  pub zip_left : (P : A → Type 0) → (xs : List A) (ys : List B) → AllZip R xs ys → All P xs → AllZip (λ x y. R x y × P x) xs ys
+  zip_left P [] [] h p = tt
+  zip_left P [] (y ∷ ys) h p = absurd h
+  zip_left P (x ∷ xs) [] h p = absurd h
+  zip_left P (x ∷ xs) (y ∷ ys) h p = ((h.0, All-head P x xs p), zip_left P xs ys h.1 (All-tail P x xs p))
+
+  pub zip_right : (P : B → Type 0) → (xs : List A) (ys : List B) → AllZip R xs ys → All P ys → AllZip (λ x y. R x y × P y) xs ys
+  zip_right P [] [] h p = tt
+  zip_right P [] (y ∷ ys) h p = absurd h
+  zip_right P (x ∷ xs) [] h p = absurd h
+  zip_right P (x ∷ xs) (y ∷ ys) h p = ((h.0, All-head P y ys p), zip_right P xs ys h.1 (All-tail P y ys p))
+
   -- ---- options
 
   pub both_at : (o u : Option A) (o' u' : Option B) → o ≡ u → o' ≡ u' → BothOrNeither R u u' → BothOrNeither R o o'
@@ -54,11 +68,15 @@ module _ {A B : Type 0} (R : A → B → Type 0) where
   both_some (Some x) None h = absurd h
   both_some (Some x) (Some y) h = refl
 
-  pub both_if : (b : Bool) (x : A) (y : B) (o : Option A) (o' : Option B) → R x y → BothOrNeither R o o' → BothOrNeither R (cond b (Some x) o) (cond b (Some y) o')
+  pub both_if : (b : Bool) (x : A) (y : B) (o : Option A) (o' : Option B) → R x y → BothOrNeither R o o' → BothOrNeither R (if b then Some x else o) (if b then Some y else o')
   both_if true x y o o' r h = r
   both_if false x y o o' r h = h
 
-  pub both_unless : (b : Bool) (o : Option A) (o' : Option B) → BothOrNeither R o o' → BothOrNeither R (cond b None o) (cond b None o')
+  -- where two tests are the same
+  pub both_choice : (b c : Bool) (x : A) (y : B) (o : Option A) (o' : Option B) → b ≡ c → R x y → BothOrNeither R o o' → BothOrNeither R (if b then Some x else o) (if c then Some y else o')
+  both_choice b c x y o o' e r h = subst (λ t. BothOrNeither R (if b then Some x else o) (if t then Some y else o')) e (both_if b x y o o' r h)
+
+  pub both_unless : (b : Bool) (o : Option A) (o' : Option B) → BothOrNeither R o o' → BothOrNeither R (if b then None else o) (if b then None else o')
   both_unless true o o' h = tt
   both_unless false o o' h = h
 
