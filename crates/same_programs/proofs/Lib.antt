@@ -8,3 +8,5 @@ pub mod Branches
 pub mod Distinct
 pub mod Nodes
 pub mod Places
+pub mod States
+pub mod Makings

@@ -1,5 +1,5 @@
 use Rattle.same_programs.proofs.Values.{value_same}
-use Rattle.same_programs.proofs.Places.{place_same}
+use Rattle.same_programs.proofs.Makings.{makes_same}
 use Rattle.same_programs.proofs.steps_are_same.Goals as goal
 
 pub returns : goal.returns
