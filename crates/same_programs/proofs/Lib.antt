@@ -10,3 +10,4 @@ pub mod Nodes
 pub mod Places
 pub mod States
 pub mod Makings
+pub mod Starting

@@ -1,4 +1,4 @@
-use Rattle.same_programs.proofs.Values.{value_same}
+use Rattle.same_programs.proofs.Starting.{starts_same}
 use Rattle.same_programs.proofs.Makings.{makes_same}
 use Rattle.same_programs.proofs.steps_are_same.Goals as goal
 
