@@ -11,3 +11,4 @@ pub mod Places
 pub mod States
 pub mod Makings
 pub mod Starting
+pub mod Steps
