@@ -1,17 +1,15 @@
 -- Host functions by their names.
-use Rattle.std.proofs.Common.{◌≡◌, ℕ, zero, suc, ◌+◌, ◌==◌, Bool, true, false, cond, List, [], ◌∷◌, ◌++◌, length, refl, sym, ap, ◌∙◌, subst, Option, Some, None, arith}
-use Rattle.std.specs.Prelude.{slice_get, position, bytes_eq, nat_lt, not, Decides, if◌then◌else◌}
+use Rattle.std.proofs.Common.{◌≡◌, ℕ, zero, suc, ◌+◌, ◌==◌, Bool, true, false, cond, List, [], ◌∷◌, ◌++◌, length, refl, sym, ap, ◌∙◌, subst, Some, None, arith}
+use Rattle.std.specs.Prelude.{slice_get, bytes_eq, nat_lt, not, Decides, if◌then◌else◌}
 use Rattle.std.specs.List.{position_or_len}
 use Rattle.std.proofs.lemmas.Bool.Decides.{nat_tests}
-use Rattle.std.proofs.lemmas.Option.{slice_get_within}
 use Rattle.std.proofs.lemmas.Slice.Eq.{bytes_eq-Decides}
 use Rattle.chor_base.specs.declared.names.NameId.{NameId}
-use Rattle.chor_base.specs.declared.meaning.Meaning.{Meaning}
-use Rattle.chor_base.specs.Meaning.{Hosts, meaning_named}
+use Rattle.chor_base.specs.Meaning.{meaning_named}
 use Rattle.chor_base.specs.Words.{AllDistinct}
 use Rattle.chor_host.specs.Functions.{Function, hosts_in, numbered, meaning_of}
 use Rattle.endpoint_code.specs.declared.endpoints.Endpoints.{Endpoints}
-use Rattle.same_programs.specs.Words.{SameName, HasDistinctWords}
+use Rattle.same_programs.specs.Words.{HasDistinctWords}
 use Rattle.same_programs.specs.Programs.{SameHosts}
 
 same_bytes : (xs ys : List ℕ) → bytes_eq xs ys ≡ true → xs ≡ ys

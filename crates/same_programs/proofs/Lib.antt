@@ -12,3 +12,5 @@ pub mod States
 pub mod Makings
 pub mod Starting
 pub mod Steps
+pub mod Waiting
+pub mod Scheduling

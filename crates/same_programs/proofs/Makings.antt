@@ -1,22 +1,19 @@
 -- What one process makes in states that are the same.
-use Rattle.std.proofs.Common.{◌≡◌, ℕ, Bool, true, false, List, [], ◌∷◌, ◌++◌, length, refl, sym, ap, ◌∙◌, subst, Option, Some, None, ℤ, if◌then◌else◌}
+use Rattle.std.proofs.Common.{◌≡◌, ℕ, Bool, true, false, List, [], ◌∷◌, ◌++◌, refl, ap, subst, Option, Some, None, ℤ, if◌then◌else◌}
 use Rattle.std.specs.Prelude.{slice_get, nat_lt}
-use Rattle.std.specs.List.{AllZip}
 use Rattle.std.specs.FinMap as fin
 use Rattle.chor_base.specs.declared.names.NameId.{NameId}
 use Rattle.chor_base.specs.declared.value.Value.{Value}
 use Rattle.chor_base.specs.declared.value.Value.TheVariants.{Int, Part as Endpoint}
 use Rattle.chor_base.specs.declared.value.Load.{Load}
 use Rattle.chor_base.specs.declared.value.Load.TheVariants.{Value as Carries}
-use Rattle.chor_base.specs.declared.event.Event.{Event}
 use Rattle.chor_base.specs.declared.event.Event.TheVariants as event
-use Rattle.chor_base.specs.Expr.{Term, term_of, value_of, number_of, truth_of}
+use Rattle.chor_base.specs.Expr.{Term, term_of, value_of, truth_of}
 use Rattle.chor_base.specs.NameMap.{Variables}
-use Rattle.chor_base.specs.Events.{Triple}
 use Rattle.endpoint_code.specs.declared.code.CodeId.{CodeId}
 use Rattle.endpoint_code.specs.declared.code.CodeNode.{CodeNode}
 use Rattle.endpoint_code.specs.declared.endpoints.Endpoints.{Endpoints}
-use Rattle.endpoint_code.specs.Network.{Sessions, Machine, NetworkState, Place, Made, Makes, Taking, Goes, moved, with_queue, queue_of, has_room, put_if, puts, part_load, arm_at, takes_value, in_arm, takes_label, takes_part, went, takes_from, takes, node_makes, place_makes, machine_makes, makes, place_of}
+use Rattle.endpoint_code.specs.Network.{Sessions, Machine, NetworkState, Place, Made, Makes, Taking, Goes, moved, queue_of, has_room, put_if, puts, part_load, arm_at, takes_value, in_arm, takes_label, takes_part, went, takes_from, takes, node_makes, place_makes, machine_makes, makes, place_of}
 use Rattle.same_programs.specs.Words.{SameName, SameText, BothOrNeither}
 use Rattle.same_programs.specs.Codes.{SameValue, number, truth, text, part, SameTerm}
 use Rattle.same_programs.specs.Programs.{IsCopy}
@@ -26,7 +23,7 @@ use Rattle.same_programs.proofs.Tests.{texts_tell}
 use Rattle.same_programs.proofs.Zips.{zip_length, zip_get, zip_append}
 use Rattle.same_programs.proofs.Maps.{insert_same, remove_same}
 use Rattle.same_programs.proofs.Values.{numbers_same, truths_same, value_same}
-use Rattle.same_programs.proofs.Nodes.{IsSpot, Alike, SameNode, join, send, recv, pick, branch, throw, catch, set, show, host, fork, call, stop}
+use Rattle.same_programs.proofs.Nodes.{IsSpot, Alike, join, send, recv, pick, branch, throw, catch, set, show, host, fork, call, stop}
 use Rattle.same_programs.proofs.Places.{tell, Held, SamePlace, place_same}
 use Rattle.same_programs.proofs.States.{Loads, moved_same, queued_same}
 
@@ -59,8 +56,11 @@ module _ (e e' : Endpoints) (c : IsCopy e e') where
     where
       go : (t : Bool) → BothOrNeither SameMade (put_if t n p (s, a, b') l) (put_if t n' p (s, f, g) k)
       go false = tt
-      go true = (events.send i j u, queued_same e e' c n n' same s a b' f g i j (queue_of n (s, a, b') ++ l ∷ []) (queue_of n' (s, f, g) ++ k ∷ [])
-          (zip_append L (queue_of n (s, a, b')) (queue_of n' (s, f, g)) (l ∷ []) (k ∷ []) (same.queues s a b' f g i j) (u, tt)))
+      go true = (
+        events.send i j u,
+        queued_same e e' c n n' same s a b' f g i j (queue_of n (s, a, b') ++ l ∷ []) (queue_of n' (s, f, g) ++ k ∷ [])
+            (zip_append L (queue_of n (s, a, b')) (queue_of n' (s, f, g)) (l ∷ []) (k ∷ []) (same.queues s a b' f g i j) (u, tt)),
+      )
 
   puts_same : (cap : Option ℕ) (n n' : NetworkState) → SameState e e' n n' → (p : ℕ) (b d : NameId) → N b d → (o u : Option (ℕ × NameId)) → BothOrNeither (Held e e' c) o u
       → (l k : Option Load) → BothOrNeither L l k → BothOrNeither SameMade (puts cap n p b o l) (puts cap n' p d u k)
@@ -166,9 +166,10 @@ module _ (e e' : Endpoints) (c : IsCopy e e') where
       let value = values_same d vars vars' w in
       (events.set h value, moved_same e e' c n n' same p i j _ _ m m' s (set_same vars vars' w m m' u x y h _ _ value) u)
   node_same cap n n' same p v vars vars' w m m' u o o' (show {i = i} {j = j} d s) = (events.show (values_same d vars vars' w), moved_same e e' c n n' same p i j vars vars' m m' s w u)
-  node_same cap n n' same p v vars vars' w m m' u o o' (host {x = x} {y = y} {f = f} {g = g} {i = i} {j = j} h k a b s) =
-      (host_same p x y f g h k _ _ _ _ v (numbers_same N T (values_same a vars vars' w)) (numbers_same N T (values_same b vars vars' w)),
-      moved_same e e' c n n' same p i j _ _ m m' s (set_same vars vars' w m m' u x y h (Int v) (Int v) number) u)
+  node_same cap n n' same p v vars vars' w m m' u o o' (host {x = x} {y = y} {f = f} {g = g} {i = i} {j = j} h k a b s) = (
+    host_same p x y f g h k _ _ _ _ v (numbers_same N T (values_same a vars vars' w)) (numbers_same N T (values_same b vars vars' w)),
+    moved_same e e' c n n' same p i j _ _ m m' s (set_same vars vars' w m m' u x y h (Int v) (Int v) number) u,
+  )
   node_same cap n n' same p v vars vars' w m m' u o o' (fork {v = t} {w = r} {i = i} {i' = i'} {j = j} {j' = j'} d s s') =
       forked (truth_of (value_of (term_of t) vars)) (truth_of (value_of (term_of r) vars')) (truths_same N T (values_same d vars vars' w))
     where

@@ -1,5 +1,5 @@
 -- Maps from names that answer alike.
-use Rattle.std.proofs.Common.{◌≡◌, ℕ, ◌==◌, cond, sym, ap, ◌∙◌, Some, None}
+use Rattle.std.proofs.Common.{◌==◌, cond, sym, ap, ◌∙◌, Some, None}
 use Rattle.std.specs.FinMap as fin
 use Rattle.std.proofs.lemmas.Cmp.{nat_cmp_total}
 use Rattle.std.specs.Ordering.{nat_cmp}

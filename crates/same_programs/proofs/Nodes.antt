@@ -1,6 +1,6 @@
 -- The nodes at which codes that are the same stand.
-use Rattle.std.proofs.Common.{◌≡◌, ℕ, ◌<◌, Bool, true, false, ◌==◌, List, [], ◌∷◌, length, map, refl, sym, ap, ◌∙◌, subst, Option, Some, None, arith, if◌then◌else◌}
-use Rattle.std.specs.Prelude.{All, slice_get, slice_index_or}
+use Rattle.std.proofs.Common.{◌≡◌, ℕ, ◌<◌, Bool, true, false, ◌==◌, List, [], ◌∷◌, length, map, refl, subst, Option, Some, None, arith, if◌then◌else◌}
+use Rattle.std.specs.Prelude.{All, slice_index_or}
 use Rattle.std.specs.List.{AllZip}
 use Rattle.std.proofs.lemmas.List.Elements.{All-head, All-tail}
 use Rattle.std.proofs.lemmas.Option.{slice_get-get_or}
@@ -181,8 +181,8 @@ nodes_there e e' tell c d s =
         let is = code_at-node e.code.nodes c n e.code.closed h in
         let are = code_at-node e'.code.nodes d m e'.code.closed k in
         let trees : SameCode (SameName e e') (SameText e e') (node_tree (trees_of e.code.nodes) n) (node_tree (trees_of e'.code.nodes) m) =
-            subst (λ (t : CodeTree). SameCode (SameName e e') (SameText e e') t (node_tree (trees_of e'.code.nodes) m)) is
-            (subst (λ (t : CodeTree). SameCode (SameName e e') (SameText e e') (code_at e.code.nodes c) t) are s.code) in
+        subst (λ (t : CodeTree). SameCode (SameName e e') (SameText e e') t (node_tree (trees_of e'.code.nodes) m)) is
+        (subst (λ (t : CodeTree). SameCode (SameName e e') (SameText e e') (code_at e.code.nodes c) t) are s.code) in
         let distinct : HasDistinctLabels (node_tree (trees_of e.code.nodes) n) = subst (λ (t : CodeTree). HasDistinctLabels t) is s.distinct in
         record {
           node = n;

@@ -1,25 +1,24 @@
 -- The places at which processes stand.
-use Rattle.std.proofs.Common.{◌≡◌, ℕ, ◌<◌, Bool, ◌==◌, ◌&&◌, List, [], ◌∷◌, length, refl, sym, ap, ◌∙◌, subst, Option, Some, None}
+use Rattle.std.proofs.Common.{◌≡◌, ℕ, ◌<◌, Bool, ◌==◌, ◌&&◌, List, [], ◌∷◌, length, ap, Option, Some, None}
 use Rattle.std.specs.List.{AllZip}
 use Rattle.std.specs.FinMap as fin
 use Rattle.chor_base.specs.declared.names.NameId.{NameId}
 use Rattle.endpoint_code.specs.declared.code.CodeId.{CodeId}
 use Rattle.endpoint_code.specs.declared.code.CodeNode.{CodeNode}
-use Rattle.endpoint_code.specs.declared.code.CodeNode.TheVariants.{Call}
 use Rattle.endpoint_code.specs.declared.endpoints.Procedure.{Procedure}
 use Rattle.endpoint_code.specs.declared.endpoints.ServiceCode.{ServiceCode}
 use Rattle.endpoint_code.specs.declared.endpoints.Process.{Process}
 use Rattle.endpoint_code.specs.declared.endpoints.Endpoints.{Endpoints}
 use Rattle.endpoint_code.specs.Faults.{IsScoped}
 use Rattle.endpoint_code.specs.Network.{Sessions, Machine, Place, node_at, procedure_of, passed, passed_one, at_node, body_place, place_in, place_of}
-use Rattle.same_programs.specs.Words.{SameName, SameText, BothOrNeither}
+use Rattle.same_programs.specs.Words.{SameName, BothOrNeither}
 use Rattle.same_programs.specs.Programs.{SameCodeAt, SameProcedure, SameService, SameProcess, IsCopy}
 use Rattle.same_programs.specs.States.{SameMachine, SameSessions}
 use Rattle.same_programs.proofs.Tests.{TellsNames, names_tell}
 use Rattle.same_programs.proofs.Zips.{zip_map, zip_left, zip_right, both_at, both_choice}
 use Rattle.same_programs.proofs.Maps.{empty_same, insert_same}
 use Rattle.same_programs.proofs.Distinct.{scoped_distinct}
-use Rattle.same_programs.proofs.Nodes.{IsSpot, Alike, AreThere, nodes_there, SameNode, join, send, recv, pick, branch, throw, catch, set, show, host, fork, call, stop}
+use Rattle.same_programs.proofs.Nodes.{IsSpot, Alike, AreThere, nodes_there, join, send, recv, pick, branch, throw, catch, set, show, host, fork, call, stop}
 
 -- ---- units whose bodies stand in the tables
 

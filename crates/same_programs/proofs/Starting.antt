@@ -1,5 +1,5 @@
 -- Starts in states that are the same.
-use Rattle.std.proofs.Common.{◌≡◌, ℕ, zero, suc, Bool, true, false, ◌==◌, ◌&&◌, ◌||◌, List, [], ◌∷◌, ◌++◌, length, refl, sym, ap, ◌∙◌, subst, Option, Some, None, arith, if◌then◌else◌}
+use Rattle.std.proofs.Common.{◌≡◌, ℕ, suc, Bool, true, false, ◌==◌, ◌&&◌, ◌||◌, List, [], ◌∷◌, ◌++◌, length, refl, ap, ◌∙◌, subst, Option, Some, None, arith, if◌then◌else◌}
 use Rattle.std.specs.Prelude.{slice_get, slice_set, All}
 use Rattle.std.specs.List.{AllZip}
 use Rattle.std.specs.FinMap as fin
@@ -8,7 +8,6 @@ use Rattle.std.proofs.lemmas.List.Elements.{All-head, All-tail}
 use Rattle.chor_base.specs.declared.names.NameId.{NameId}
 use Rattle.chor_base.specs.declared.event.Event.TheVariants as event
 use Rattle.chor_base.specs.NameMap.{Variables}
-use Rattle.endpoint_code.specs.declared.code.CodeId.{CodeId}
 use Rattle.endpoint_code.specs.declared.code.CodeNode.{CodeNode}
 use Rattle.endpoint_code.specs.declared.endpoints.Channel.{Channel}
 use Rattle.endpoint_code.specs.declared.endpoints.ServiceCode.{ServiceCode}
@@ -20,9 +19,9 @@ use Rattle.same_programs.specs.Codes.{SameValue}
 use Rattle.same_programs.specs.Programs.{SameChannel, IsCopy}
 use Rattle.same_programs.specs.States as events
 use Rattle.same_programs.specs.States.{SamePart, SameMachine, SameState, SameVariables, SameSessions}
-use Rattle.same_programs.proofs.Zips.{zip_length, zip_get, zip_set, zip_append, zip_left, both_choice}
+use Rattle.same_programs.proofs.Zips.{zip_length, zip_get, zip_set, zip_append, both_choice}
 use Rattle.same_programs.proofs.Maps.{empty_same, insert_same}
-use Rattle.same_programs.proofs.Nodes.{IsSpot, Alike, SameNode, join}
+use Rattle.same_programs.proofs.Nodes.{IsSpot, Alike, join}
 use Rattle.same_programs.proofs.Places.{tell, Held, SamePlace, place_same, IsServed, served_units, no_sessions}
 use Rattle.same_programs.proofs.States.{machine_same}
 use Rattle.same_programs.proofs.Makings.{SameMade}
@@ -123,11 +122,12 @@ module _ (e e' : Endpoints) (c : IsCopy e e') where
   served_same a b i s [] [] h p = tt
   served_same a b i s [] (q ∷ qs) h p = absurd h
   served_same a b i s (r ∷ rs) [] h p = absurd h
-  served_same a b i s (r ∷ rs) (q ∷ qs) h p =
-      (machine_same e e' c (service_of e.services a r) (service_of e'.services b q) fin.empty fin.empty _ _
-      (service_found e.services e'.services (served_units e e' c) a b r q i h.0 (All-head (λ z. has_service a z e.services ≡ true) r rs p)) no_variables
-      (insert_same N (Held e e' c) (tell e e' c) fin.empty fin.empty (no_sessions e e' c) a b (s, r) (s, q) i (refl, h.0)),
-      served_same a b i s rs qs h.1 (All-tail (λ z. has_service a z e.services ≡ true) r rs p))
+  served_same a b i s (r ∷ rs) (q ∷ qs) h p = (
+    machine_same e e' c (service_of e.services a r) (service_of e'.services b q) fin.empty fin.empty _ _
+        (service_found e.services e'.services (served_units e e' c) a b r q i h.0 (All-head (λ z. has_service a z e.services ≡ true) r rs p)) no_variables
+        (insert_same N (Held e e' c) (tell e e' c) fin.empty fin.empty (no_sessions e e' c) a b (s, r) (s, q) i (refl, h.0)),
+    served_same a b i s rs qs h.1 (All-tail (λ z. has_service a z e.services ≡ true) r rs p),
+  )
 
   parts_same : (rs qs : List NameId) → AllZip (SameName e e') rs qs → (p : ℕ) → AllZip (SamePart (SameName e e')) (served_parts rs p) (served_parts qs p)
   parts_same [] [] h p = tt
@@ -195,7 +195,7 @@ module _ (e e' : Endpoints) (c : IsCopy e e') where
           (machines_set xs ys j n.machines n'.machines same.machines) (served_same a b i s k.serve h.serve f.same.serve f.provided);
       queues = same.queues;
       sid = refl;
-    }
+    },
   )
 
   begun_both : (n n' : NetworkState) → SameState e e' n n' → (a b : NameId) → N a b → (k h : Channel) → IsChannelOf a k h → (ps qs : List (NameId × ℕ)) → AllZip (SamePart (SameName e e')) ps qs

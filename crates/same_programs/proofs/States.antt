@@ -1,5 +1,5 @@
 -- What keeps states the same.
-use Rattle.std.proofs.Common.{◌≡◌, ℕ, Bool, true, false, ◌==◌, ◌&&◌, List, [], ◌∷◌, ◌++◌, length, refl, sym, ap, ◌∙◌, subst, Option, Some, None, if◌then◌else◌}
+use Rattle.std.proofs.Common.{◌≡◌, ℕ, Bool, true, false, ◌==◌, ◌&&◌, List, refl, sym, ap, ◌∙◌, subst, if◌then◌else◌}
 use Rattle.std.specs.List.{AllZip}
 use Rattle.chor_base.specs.declared.names.NameId.{NameId}
 use Rattle.chor_base.specs.declared.value.Load.{Load}
@@ -7,13 +7,12 @@ use Rattle.chor_base.specs.Events.{Triple, triple_eq}
 use Rattle.chor_base.specs.NameMap.{Variables}
 use Rattle.endpoint_code.specs.declared.code.CodeId.{CodeId}
 use Rattle.endpoint_code.specs.declared.endpoints.Endpoints.{Endpoints}
-use Rattle.endpoint_code.specs.Network.{Sessions, Machine, NetworkState, moved, with_queue, loads_for, with_loads, queue_of}
+use Rattle.endpoint_code.specs.Network.{Sessions, NetworkState, moved, with_queue, loads_for, with_loads}
 use Rattle.endpoint_code.proofs.Queues.{loads-same, loads-other}
 use Rattle.endpoint_code.proofs.Fifo.{same_triple}
 use Rattle.same_programs.specs.Words.{SameName, SameText}
 use Rattle.same_programs.specs.Programs.{IsCopy}
 use Rattle.same_programs.specs.States.{SameLoad, SameMachine, SameState, SameVariables, SameSessions}
-use Rattle.same_programs.proofs.Tests.{TellsNames}
 use Rattle.same_programs.proofs.Zips.{zip_set}
 use Rattle.same_programs.proofs.Nodes.{IsSpot}
 use Rattle.same_programs.proofs.Places.{tell}

@@ -1,5 +1,5 @@
 -- Steps and runs from states that are the same.
-use Rattle.std.proofs.Common.{◌≡◌, ℕ, Bool, true, false, ◌==◌, List, [], ◌∷◌, refl, sym, ap, ◌∙◌, subst, Option, Some, None, ℤ, arith, if◌then◌else◌}
+use Rattle.std.proofs.Common.{◌≡◌, ℕ, Bool, true, false, ◌==◌, List, [], ◌∷◌, refl, subst, Option, Some, None, ℤ, arith, if◌then◌else◌}
 use Rattle.std.specs.Prelude.{slice_get}
 use Rattle.std.specs.List.{AllZip}
 use Rattle.std.specs.FinMap as fin
@@ -7,24 +7,23 @@ use Rattle.std.proofs.lemmas.Bool.Decides.{nat_tests}
 use Rattle.chor_base.specs.declared.names.NameId.{NameId}
 use Rattle.chor_base.specs.declared.event.Event.{Event}
 use Rattle.chor_base.specs.declared.meaning.Meaning.{Meaning}
-use Rattle.chor_base.specs.Expr.{term_of, value_of, number_of}
 use Rattle.chor_base.specs.Meaning.{Hosts, meaning_named, MayAnswer}
 use Rattle.chor_base.specs.NameMap.{Variables}
 use Rattle.endpoint_code.specs.declared.code.CodeNode.{CodeNode}
 use Rattle.endpoint_code.specs.declared.endpoints.Channel.{Channel}
 use Rattle.endpoint_code.specs.declared.endpoints.Process.{Process}
 use Rattle.endpoint_code.specs.declared.endpoints.Endpoints.{Endpoints}
-use Rattle.endpoint_code.specs.Network.{Sessions, Machine, NetworkState, Place, Made, Makes, place_of, channel_of, channel_starts, makes, starts, PlaceAnswers, MachineAnswers, NetworkSteps, acts, begins, standing, standing_all, first_state}
+use Rattle.endpoint_code.specs.Network.{Sessions, Machine, NetworkState, Place, Made, Makes, place_of, channel_of, channel_starts, makes, starts, PlaceAnswers, MachineAnswers, NetworkSteps, acts, begins, standing_all, first_state}
 use Rattle.endpoint_code.specs.NetworkRuns.{NetworkLeads, IsNetworkRun}
 use Rattle.same_programs.specs.Words.{SameName, SameText, BothOrNeither}
 use Rattle.same_programs.specs.Codes.{SameValue}
 use Rattle.same_programs.specs.Programs.{SameChannel, IsCopy, SameHosts}
-use Rattle.same_programs.specs.States.{SameEvent, SameMachine, SameState, SameVariables}
+use Rattle.same_programs.specs.States.{SameMachine, SameState, SameVariables}
 use Rattle.same_programs.specs.Laws.{Agrees, StepsAlike, RunsAlike}
 use Rattle.same_programs.proofs.Zips.{zip_get}
 use Rattle.same_programs.proofs.Maps.{empty_same}
 use Rattle.same_programs.proofs.Values.{numbers_same}
-use Rattle.same_programs.proofs.Nodes.{IsSpot, Alike, SameNode, host}
+use Rattle.same_programs.proofs.Nodes.{IsSpot, Alike, host}
 use Rattle.same_programs.proofs.Places.{SamePlace, place_same, begun_processes, no_sessions}
 use Rattle.same_programs.proofs.States.{machine_same}
 use Rattle.same_programs.proofs.Makings.{SameMade, makes_same, values_same}

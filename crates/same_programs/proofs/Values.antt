@@ -1,14 +1,14 @@
 -- The values of expressions that are written alike.
-use Rattle.std.proofs.Common.{◌≡◌, ℕ, ◌==◌, ◌&&◌, ◌||◌, not, Bool, refl, sym, ap, ◌∙◌, subst, Option, Some, None, ℤ}
+use Rattle.std.proofs.Common.{◌≡◌, ℕ, ◌==◌, ◌&&◌, ◌||◌, not, Bool, refl, ap, subst, Option, Some, None, ℤ}
 use Rattle.std.specs.Prelude.{unwrap_or, pos, ◌+ℤ◌, ◌-ℤ◌, ◌*ℤ◌, int_lt}
 use Rattle.chor_base.specs.declared.names.NameId.{NameId}
 use Rattle.chor_base.specs.declared.value.Value.{Value}
-use Rattle.chor_base.specs.declared.value.Value.TheVariants.{Int, Bool as Truth, Text, Part}
+use Rattle.chor_base.specs.declared.value.Value.TheVariants.{Int, Bool as Truth}
 use Rattle.chor_base.specs.declared.expr.UnOp.{UnOp}
 use Rattle.chor_base.specs.declared.expr.UnOp.TheVariants.{Neg, Not}
 use Rattle.chor_base.specs.declared.expr.BinOp.{BinOp}
 use Rattle.chor_base.specs.declared.expr.BinOp.TheVariants.{Add, Sub, Mul, Div, Eq, Ne, Lt, Le, And, Or}
-use Rattle.chor_base.specs.Expr.{Term, Constant, Variable, Unary, Binary, held, number_of, truth_of, is_same, divided, unary, binary, value_of}
+use Rattle.chor_base.specs.Expr.{Term, held, number_of, truth_of, is_same, divided, unary, binary, value_of}
 use Rattle.chor_base.specs.NameMap.{Variables}
 use Rattle.same_programs.specs.Words.{BothOrNeither}
 use Rattle.same_programs.specs.Codes as same

@@ -1,8 +1,7 @@
 -- What is proved of endpoint programs that are the same.
-use Rattle.std.specs.Prelude.{ℕ, ◌≡◌, List, Option, slice_get}
+use Rattle.std.specs.Prelude.{ℕ, ◌≡◌, List, Option}
 use Rattle.std.specs.List.{AllZip}
 use Rattle.chor_base.specs.declared.event.Event.{Event}
-use Rattle.chor_base.specs.declared.event.Why.{Why}
 use Rattle.chor_base.specs.Meaning.{Hosts}
 use Rattle.chor_host.specs.Functions.{Function, hosts_in}
 use Rattle.endpoint_code.specs.declared.endpoints.Endpoints.{Endpoints}
