@@ -5,6 +5,7 @@ use Rattle.chor_base.specs.declared.names.NameId.{NameId}
 use Rattle.endpoint_code.specs.declared.code.CodeId.{CodeId}
 use Rattle.endpoint_code.specs.Labels.{has_label, HasDistinctLabels, AreDistinctArms, ArmIsIn, here, there}
 use Rattle.endpoint_code.specs.Network.{arm_at}
+use Rattle.endpoint_code.proofs.AboveOrder.{neither}
 use Rattle.endpoint_code.specs.Trees.{CodeTree, Arms, NoArms, Arm, arms_in, tree_in}
 use Rattle.same_programs.specs.Words.{BothOrNeither}
 use Rattle.same_programs.specs.Codes.{SameCode, SameArms, no_arm, one_arm}
@@ -24,10 +25,6 @@ exchanged false false c = refl
 label_in : (k : NameId) {l : NameId} {c : CodeTree} {others arms : Arms} → ArmIsIn l c others arms → has_label k arms ≡ ((k.0 == l.0) || has_label k others)
 label_in k here = refl
 label_in k {l = l} (there {k = h} {rest = rest} i) = ap (λ b. (k.0 == h.0) || b) (label_in k i) ∙ exchanged (k.0 == h.0) (k.0 == l.0) (has_label k rest)
-
-neither : (a b : Bool) → (a || b) ≡ false → (a ≡ false) × (b ≡ false)
-neither true b h = absurd cc
-neither false b h = (refl, h)
 
 -- where the label of this arm stands once, the arm is found, and others as without it
 found_in : {l : NameId} {c : CodeTree} {others arms : Arms} → ArmIsIn l c others arms → has_label l others ≡ false → (m : NameId) → code_for arms m ≡ (if l.0 == m.0 then Some c else code_for others m)

@@ -8,15 +8,13 @@ use Rattle.chor_base.specs.declared.names.NameId.{NameId}
 use Rattle.chor_base.specs.Meaning.{meaning_named}
 use Rattle.chor_base.specs.Words.{AllDistinct}
 use Rattle.chor_host.specs.Functions.{Function, hosts_in, numbered, meaning_of}
+use Rattle.chor_host.proofs.Named.{own_bytes}
 use Rattle.endpoint_code.specs.declared.endpoints.Endpoints.{Endpoints}
 use Rattle.same_programs.specs.Words.{HasDistinctWords}
 use Rattle.same_programs.specs.Programs.{SameHosts}
 
 same_bytes : (xs ys : List ℕ) → bytes_eq xs ys ≡ true → xs ≡ ys
 same_bytes xs ys h = (subst (λ b. Decides b (xs ≡ ys)) h (bytes_eq-Decides xs ys)).0 refl
-
-own_bytes : (xs : List ℕ) → bytes_eq xs xs ≡ true
-own_bytes xs = (bytes_eq-Decides xs xs).1 refl
 
 -- the word at the first place of a word is that word
 found_there : (ws : List (List ℕ)) (w : List ℕ) → nat_lt (position_or_len (bytes_eq w) ws) (length ws) ≡ true → slice_get ws (position_or_len (bytes_eq w) ws) ≡ Some w

@@ -14,3 +14,4 @@ pub mod Starting
 pub mod Steps
 pub mod Waiting
 pub mod Scheduling
+pub mod Selves

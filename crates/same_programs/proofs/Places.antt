@@ -1,5 +1,5 @@
 -- The places at which processes stand.
-use Rattle.std.proofs.Common.{◌≡◌, ℕ, ◌<◌, Bool, ◌==◌, ◌&&◌, List, [], ◌∷◌, length, ap, Option, Some, None}
+use Rattle.std.proofs.Common.{◌≡◌, ℕ, ◌<◌, ◌==◌, ◌&&◌, List, [], ◌∷◌, length, ap, Option, Some, None}
 use Rattle.std.specs.List.{AllZip}
 use Rattle.std.specs.FinMap as fin
 use Rattle.chor_base.specs.declared.names.NameId.{NameId}
@@ -14,7 +14,7 @@ use Rattle.endpoint_code.specs.Network.{Sessions, Machine, Place, node_at, proce
 use Rattle.same_programs.specs.Words.{SameName, BothOrNeither}
 use Rattle.same_programs.specs.Programs.{SameCodeAt, SameProcedure, SameService, SameProcess, IsCopy}
 use Rattle.same_programs.specs.States.{SameMachine, SameSessions}
-use Rattle.same_programs.proofs.Tests.{TellsNames, names_tell}
+use Rattle.same_programs.proofs.Tests.{both_tests, TellsNames, names_tell}
 use Rattle.same_programs.proofs.Zips.{zip_map, zip_left, zip_right, both_at, both_choice}
 use Rattle.same_programs.proofs.Maps.{empty_same, insert_same}
 use Rattle.same_programs.proofs.Distinct.{scoped_distinct}
@@ -80,9 +80,6 @@ module _ (e e' : Endpoints) (c : IsCopy e e') where
       e.processes e'.processes three
 
   -- ---- calls
-
-  both_tests : (a b d f : Bool) → a ≡ b → d ≡ f → (a && d) ≡ (b && f)
-  both_tests a b d f h k = λ i. h i && k i
 
   unit_found : (qs ps : List Procedure) → AllZip (IsUnit e e') qs ps → (f g p r : NameId) → SameName e e' f g → SameName e e' p r → BothOrNeither (IsUnit e e') (procedure_of qs f p) (procedure_of ps g r)
   unit_found [] [] h f g p r i j = tt

@@ -24,7 +24,8 @@ use Rattle.same_programs.proofs.Places.{tell, SamePlace, place_same}
 use Rattle.same_programs.proofs.Makings.{SameMade, makes_same}
 use Rattle.same_programs.proofs.Starting.{IsChannelOf, channel_same, starts_same}
 use Rattle.same_programs.proofs.Steps.{IsMadeToo, made_too, answers_same, first_same}
-use Rattle.same_programs.proofs.Waiting.{both_tests, ended_same, all_same, joins_same, waits_same, steps_same, none_same}
+use Rattle.same_programs.proofs.Waiting.{ended_same, all_same, joins_same, waits_same, steps_same, none_same}
+use Rattle.same_programs.proofs.Tests.{both_tests}
 
 module _ (e e' : Endpoints) (c : IsCopy e e') where
   abbrev N : NameId → NameId → Type 0

@@ -1,9 +1,8 @@
 -- Starts in states that are the same.
-use Rattle.std.proofs.Common.{◌≡◌, ℕ, suc, Bool, true, false, ◌==◌, ◌&&◌, ◌||◌, List, [], ◌∷◌, ◌++◌, length, refl, ap, ◌∙◌, subst, Option, Some, None, arith, if◌then◌else◌}
+use Rattle.std.proofs.Common.{◌≡◌, ℕ, suc, Bool, true, false, ◌==◌, ◌&&◌, ◌||◌, List, [], ◌∷◌, ◌++◌, length, refl, ap, ◌∙◌, subst, Option, Some, None, if◌then◌else◌}
 use Rattle.std.specs.Prelude.{slice_get, slice_set, All}
 use Rattle.std.specs.List.{AllZip}
 use Rattle.std.specs.FinMap as fin
-use Rattle.std.proofs.lemmas.Bool.Decides.{nat_tests}
 use Rattle.std.proofs.lemmas.List.Elements.{All-head, All-tail}
 use Rattle.chor_base.specs.declared.names.NameId.{NameId}
 use Rattle.chor_base.specs.declared.event.Event.TheVariants as event
@@ -25,15 +24,7 @@ use Rattle.same_programs.proofs.Nodes.{IsSpot, Alike, join}
 use Rattle.same_programs.proofs.Places.{tell, Held, SamePlace, place_same, IsServed, served_units, no_sessions}
 use Rattle.same_programs.proofs.States.{machine_same}
 use Rattle.same_programs.proofs.Makings.{SameMade}
-
-both_tests : (a b d f : Bool) → a ≡ b → d ≡ f → (a && d) ≡ (b && f)
-both_tests a b d f h k = λ i. h i && k i
-
-turned : (a b : ℕ) → (a == b) ≡ (b == a)
-turned a b = grind (arith, nat_tests)
-
-same_number : (a b : ℕ) → (a == b) ≡ true → a ≡ b
-same_number a b h = grind (arith, nat_tests)
+use Rattle.same_programs.proofs.Tests.{number_turned, same_number, both_tests}
 
 module _ (e e' : Endpoints) (c : IsCopy e e') where
   abbrev N : NameId → NameId → Type 0
@@ -106,7 +97,7 @@ module _ (e e' : Endpoints) (c : IsCopy e e') where
   service_found (x ∷ xs) (y ∷ ys) h a b r q i j k =
       go ((x.channel.0 == a.0) && (x.role.0 == r.0)) ((y.channel.0 == b.0) && (y.role.0 == q.0))
       (both_tests (x.channel.0 == a.0) (y.channel.0 == b.0) (x.role.0 == r.0) (y.role.0 == q.0) (tell e e' c x.channel y.channel a b h.0.channel i) (tell e e' c x.role y.role r q h.0.role j))
-      (ap (λ t. t || has_service a r xs) (both_tests (x.channel.0 == a.0) (a.0 == x.channel.0) (x.role.0 == r.0) (r.0 == x.role.0) (turned x.channel.0 a.0) (turned x.role.0 r.0)) ∙ k)
+      (ap (λ t. t || has_service a r xs) (both_tests (x.channel.0 == a.0) (a.0 == x.channel.0) (x.role.0 == r.0) (r.0 == x.role.0) (number_turned x.channel.0 a.0) (number_turned x.role.0 r.0)) ∙ k)
       (λ g. service_found xs ys h.1 a b r q i j g)
     where
       at : (t : Bool) → (t || has_service a r xs) ≡ true → (has_service a r xs ≡ true → IsSpot e e' (service_of xs a r) (service_of ys b q))

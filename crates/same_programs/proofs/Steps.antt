@@ -1,9 +1,8 @@
 -- Steps and runs from states that are the same.
-use Rattle.std.proofs.Common.{◌≡◌, ℕ, Bool, true, false, ◌==◌, List, [], ◌∷◌, refl, subst, Option, Some, None, ℤ, arith, if◌then◌else◌}
+use Rattle.std.proofs.Common.{◌≡◌, ℕ, Bool, true, false, ◌==◌, List, [], ◌∷◌, refl, subst, Option, Some, None, ℤ, if◌then◌else◌}
 use Rattle.std.specs.Prelude.{slice_get}
 use Rattle.std.specs.List.{AllZip}
 use Rattle.std.specs.FinMap as fin
-use Rattle.std.proofs.lemmas.Bool.Decides.{nat_tests}
 use Rattle.chor_base.specs.declared.names.NameId.{NameId}
 use Rattle.chor_base.specs.declared.event.Event.{Event}
 use Rattle.chor_base.specs.declared.meaning.Meaning.{Meaning}
@@ -28,6 +27,7 @@ use Rattle.same_programs.proofs.Places.{SamePlace, place_same, begun_processes, 
 use Rattle.same_programs.proofs.States.{machine_same}
 use Rattle.same_programs.proofs.Makings.{SameMade, makes_same, values_same}
 use Rattle.same_programs.proofs.Starting.{starts_same}
+use Rattle.same_programs.proofs.Tests.{same_number}
 
 module _ (e e' : Endpoints) (c : IsCopy e e') where
   -- ---- what is made in both
@@ -84,9 +84,6 @@ module _ (e e' : Endpoints) (c : IsCopy e e') where
     answers_same n n' same p v h = machine_answers (slice_get n.machines p) (slice_get n'.machines p) (zip_get (SameMachine e e') n.machines n'.machines same.machines p) v h
 
     -- ---- a step
-
-    same_number : (a b : ℕ) → (a == b) ≡ true → a ≡ b
-    same_number a b h = grind (arith, nat_tests)
 
     -- the name of a channel that is there
     named : (ks hs : List Channel) → AllZip (SameChannel e e') ks hs → (a : NameId) (k : Channel) → channel_of ks a ≡ Some k → (b : NameId) × SameName e e' a b

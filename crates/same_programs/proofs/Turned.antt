@@ -8,10 +8,11 @@ use Rattle.endpoint_code.specs.declared.code.CodeId.{CodeId}
 use Rattle.endpoint_code.specs.declared.endpoints.Endpoints.{Endpoints}
 use Rattle.endpoint_code.specs.Labels.{ArmIsIn, here, there}
 use Rattle.endpoint_code.specs.Trees.{Action, CodeTree, Arms, Arm}
-use Rattle.same_programs.specs.Words.{IsSameWord, SameName, SameText}
+use Rattle.same_programs.specs.Words.{SameName, SameText}
 use Rattle.same_programs.specs.Codes.{SameValue, number, truth, text, part, SameTerm, constant, variable, unary, binary, SameAction, joins, sends, receives, selects, gives, gains, sets, shows, asks, SameCode, does, offers, tests, calls, ends, SameArms, no_arm, one_arm}
 use Rattle.same_programs.specs.Programs.{SameCodeAt, SamePrograms, SameChannel, SameProcedure, SameService, SameProcess}
 use Rattle.same_programs.proofs.Zips.{zip_turned}
+use Rattle.same_programs.proofs.Tests.{word_turned}
 
 module _ (N M : NameId → NameId → Type 0) (T U : ℕ → ℕ → Type 0) (name : (x y : NameId) → N x y → M y x) (text_back : (t u : ℕ) → T t u → U u t) where
   value_turned : {v w : Value} → SameValue N T v w → SameValue M U w v
@@ -55,17 +56,17 @@ module _ (N M : NameId → NameId → Type 0) (T U : ℕ → ℕ → Type 0) (na
     arms_turned (one_arm n c i a) = one_more (name _ _ n) (code_turned c) i (arms_turned a)
 
 module _ (e e' : Endpoints) where
-  word_turned : {ws vs : List (List ℕ)} (i j : ℕ) → IsSameWord ws vs i j → IsSameWord vs ws j i
-  word_turned i j h = record { word = h.word; here = h.there; there = h.here }
-
   name_turned : (x y : NameId) → SameName e e' x y → SameName e' e y x
-  name_turned x y h = word_turned x.0 y.0 h
+  name_turned x y h = word_turned h
+
+  text_turned : (t u : ℕ) → SameText e e' t u → SameText e' e u t
+  text_turned t u h = word_turned h
 
   names_turned : (xs ys : List NameId) → AllZip (SameName e e') xs ys → AllZip (SameName e' e) ys xs
   names_turned xs ys h = zip_turned (SameName e e') (SameName e' e) name_turned xs ys h
 
   body_turned : (q p : CodeId) → SameCodeAt e e' q p → SameCodeAt e' e p q
-  body_turned q p h = code_turned (SameName e e') (SameName e' e) (SameText e e') (SameText e' e) name_turned word_turned h
+  body_turned q p h = code_turned (SameName e e') (SameName e' e) (SameText e e') (SameText e' e) name_turned text_turned h
 
   pub programs_turned : SamePrograms e e' → SamePrograms e' e
   programs_turned s = record {

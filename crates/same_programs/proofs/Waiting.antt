@@ -1,5 +1,5 @@
 -- Who has ended, who waits and why, in states that are the same.
-use Rattle.std.proofs.Common.{◌≡◌, ℕ, Bool, true, false, ◌==◌, ◌&&◌, ◌||◌, List, [], ◌∷◌, refl, subst, Option, Some, None, is_some, if◌then◌else◌}
+use Rattle.std.proofs.Common.{◌≡◌, ℕ, Bool, true, false, ◌==◌, ◌||◌, List, [], ◌∷◌, refl, subst, Option, Some, None, is_some, if◌then◌else◌}
 use Rattle.std.specs.List.{AllZip}
 use Rattle.chor_base.specs.declared.names.NameId.{NameId}
 use Rattle.chor_base.specs.declared.value.Load.{Load}
@@ -22,12 +22,7 @@ use Rattle.same_programs.proofs.Places.{tell, Held, SamePlace, place_same}
 use Rattle.same_programs.proofs.States.{Loads}
 use Rattle.same_programs.proofs.Makings.{SameTaking, rooms_same, value_taken, label_taken, part_taken}
 use Rattle.same_programs.proofs.Starting.{IsChannelOf, channel_same}
-
-pub both_tests : (a b d f : Bool) → a ≡ b → d ≡ f → (a && d) ≡ (b && f)
-both_tests a b d f h k = λ i. h i && k i
-
-one_test : (a b d f : Bool) → a ≡ b → d ≡ f → (a || d) ≡ (b || f)
-one_test a b d f h k = λ i. h i || k i
+use Rattle.same_programs.proofs.Tests.{both_tests, one_test}
 
 module _ (e e' : Endpoints) (c : IsCopy e e') where
   abbrev N : NameId → NameId → Type 0

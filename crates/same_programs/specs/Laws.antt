@@ -16,6 +16,10 @@ use Rattle.same_programs.specs.States.{SameEvent, SameWhy, SameClose, SameState}
 abbrev pub Agrees : Endpoints → Endpoints → Event → Event → Type 0
 Agrees e e' x y = SameEvent (SameName e e') (SameText e e') x y
 
+-- programs are the same as themselves
+abbrev pub SameIsReflexive : Type 0
+SameIsReflexive = (e : Endpoints) → SamePrograms e e
+
 -- being the same goes both ways
 abbrev pub SameIsSymmetric : Type 0
 SameIsSymmetric = (e e' : Endpoints) → SamePrograms e e' → SamePrograms e' e

@@ -2,11 +2,12 @@
 //! same runs.
 #![tactic(auto)]
 
-ghost use Rattle.same_programs.specs.Laws.{SameIsSymmetric, NamedHostsAreSame, FirstStatesAreSame, StepsAreSame, ProcessesStandAlike, EndsAreSame, RunsAreSame, ScheduledRunsAreSame};
+ghost use Rattle.same_programs.specs.Laws.{SameIsReflexive, SameIsSymmetric, NamedHostsAreSame, FirstStatesAreSame, StepsAreSame, ProcessesStandAlike, EndsAreSame, RunsAreSame, ScheduledRunsAreSame};
 
-/// Being the same programs goes both ways.
+/// Programs are the same as themselves, and being the same goes both ways.
 pub fn same_is_symmetric()
-    ensures { SameIsSymmetric }
+    ensures reflexive { SameIsReflexive }
+    ensures symmetric { SameIsSymmetric }
 {}
 
 /// Host functions that are known by their names mean the same in both programs.
