@@ -22,7 +22,7 @@ exchanged true false c = refl
 exchanged false true c = refl
 exchanged false false c = refl
 
-label_in : (k : NameId) {l : NameId} {c : CodeTree} {others arms : Arms} → ArmIsIn l c others arms → has_label k arms ≡ ((k.0 == l.0) || has_label k others)
+pub label_in : (k : NameId) {l : NameId} {c : CodeTree} {others arms : Arms} → ArmIsIn l c others arms → has_label k arms ≡ ((k.0 == l.0) || has_label k others)
 label_in k here = refl
 label_in k {l = l} (there {k = h} {rest = rest} i) = ap (λ b. (k.0 == h.0) || b) (label_in k i) ∙ exchanged (k.0 == h.0) (k.0 == l.0) (has_label k rest)
 
@@ -52,7 +52,7 @@ module _ (N : NameId → NameId → Type 0) (T : ℕ → ℕ → Type 0) (tell :
     pub code : SameCode N T q p
     pub distinct : HasDistinctLabels q
 
-  labels_same : {qs ps : Arms} → SameArms N T qs ps → (k h : NameId) → N k h → has_label k qs ≡ has_label h ps
+  pub labels_same : {qs ps : Arms} → SameArms N T qs ps → (k h : NameId) → N k h → has_label k qs ≡ has_label h ps
   labels_same no_arm k h n = refl
   labels_same (one_arm {l = l} {m = m} {qs = qs} {others = others} i c at rest) k h n =
       ap (λ b. (k.0 == l.0) || b) (labels_same rest k h n) ∙ ap (λ b. b || has_label h others) (tell k h l m n i) ∙ sym (label_in h at)

@@ -81,7 +81,7 @@ module _ (e e' : Endpoints) (c : IsCopy e e') where
 
   -- ---- calls
 
-  unit_found : (qs ps : List Procedure) → AllZip (IsUnit e e') qs ps → (f g p r : NameId) → SameName e e' f g → SameName e e' p r → BothOrNeither (IsUnit e e') (procedure_of qs f p) (procedure_of ps g r)
+  pub unit_found : (qs ps : List Procedure) → AllZip (IsUnit e e') qs ps → (f g p r : NameId) → SameName e e' f g → SameName e e' p r → BothOrNeither (IsUnit e e') (procedure_of qs f p) (procedure_of ps g r)
   unit_found [] [] h f g p r i j = tt
   unit_found [] (y ∷ ps) h f g p r i j = absurd h
   unit_found (q ∷ qs) [] h f g p r i j = absurd h
