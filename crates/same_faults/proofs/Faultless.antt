@@ -1,8 +1,7 @@
 -- A copy of programs without a fault has none.
-use Rattle.std.proofs.Common.{◌≡◌, ℕ, ◌<◌, Bool, true, false, ◌==◌, ◌&&◌, ◌||◌, List, [], ◌∷◌, ◌++◌, length, map, refl, sym, ap, ◌∙◌, subst, Option, Some, None}
+use Rattle.std.proofs.Common.{◌≡◌, true, false, ◌==◌, ◌&&◌, List, [], ◌∷◌, ◌++◌, map, refl, sym, ap, ◌∙◌, Option, Some, None}
 use Rattle.std.specs.Prelude.{All}
 use Rattle.std.specs.List.{AllZip}
-use Rattle.std.proofs.lemmas.List.Elements.{All-head, All-tail}
 use Rattle.chor_base.specs.declared.names.NameId.{NameId}
 use Rattle.endpoint_code.specs.declared.code.CodeId.{CodeId}
 use Rattle.endpoint_code.specs.declared.code.CodeNode.{CodeNode}
@@ -11,14 +10,14 @@ use Rattle.endpoint_code.specs.declared.endpoints.Procedure.{Procedure}
 use Rattle.endpoint_code.specs.declared.endpoints.ServiceCode.{ServiceCode}
 use Rattle.endpoint_code.specs.declared.endpoints.Process.{Process}
 use Rattle.endpoint_code.specs.declared.endpoints.Endpoints.{Endpoints}
-use Rattle.endpoint_code.specs.Faults.{is_among, AreDistinct, IsScoped, unit_among, AreApart, no_unit, one_unit, has_service, AreSingle, no_service, one_service, IsServed, HasNoNameFault, begins_with_call, HasNoCallFault, IsFaultless}
+use Rattle.endpoint_code.specs.Faults.{is_among, AreDistinct, IsScoped, unit_among, AreApart, no_unit, one_unit, has_service, AreSingle, no_service, one_service, IsServed, begins_with_call, IsFaultless}
 use Rattle.endpoint_code.specs.Network.{node_at, channel_of}
 use Rattle.scoped_codes.proofs.Tables.{tree_tells}
 use Rattle.same_programs.specs.Words.{SameName, BothOrNeither}
 use Rattle.same_programs.specs.Programs.{SameChannel, SameProcedure, SameService, SameProcess, IsCopy}
 use Rattle.same_programs.proofs.Tests.{both_tests, one_test}
-use Rattle.same_programs.proofs.Zips.{zip_append, zip_map, zip_left}
-use Rattle.same_programs.proofs.Nodes.{IsSpot, Alike, AreThere, nodes_there, SameNode, call}
+use Rattle.same_programs.proofs.Zips.{zip_append}
+use Rattle.same_programs.proofs.Nodes.{IsSpot, Alike, AreThere, nodes_there, call}
 use Rattle.same_programs.proofs.Places.{tell, IsUnit, units, IsServed as IsServedUnit, served_units, begun_processes}
 use Rattle.same_programs.proofs.Starting.{IsChannelOf, channel_same}
 use Rattle.same_programs.proofs.Turned.{programs_turned}

@@ -1,3 +1,4 @@
 pub mod Lists
 pub mod Scopes
 pub mod Faultless
+pub mod Asking

@@ -1,9 +1,8 @@
 -- Code that is the same uses its session names alike.
-use Rattle.std.proofs.Common.{◌≡◌, ℕ, Bool, true, false, ◌||◌, List, [], ◌∷◌, length, refl, sym, ap, ◌∙◌, subst, Option, Some, None}
+use Rattle.std.proofs.Common.{◌≡◌, Bool, false, ◌||◌, List, length, refl, sym, ap, ◌∙◌, subst, Option, Some, None}
 use Rattle.std.specs.List.{AllZip}
 use Rattle.chor_base.specs.declared.names.NameId.{NameId}
 use Rattle.endpoint_code.specs.declared.code.CodeId.{CodeId}
-use Rattle.endpoint_code.specs.declared.code.CodeNode.{CodeNode}
 use Rattle.endpoint_code.specs.declared.endpoints.Channel.{Channel}
 use Rattle.endpoint_code.specs.declared.endpoints.Procedure.{Procedure}
 use Rattle.endpoint_code.specs.declared.endpoints.Endpoints.{Endpoints}
@@ -11,7 +10,7 @@ use Rattle.endpoint_code.specs.Faults as faults
 use Rattle.endpoint_code.specs.Faults.{is_among, AreDistinct, IsActive, IsScoped, AllScoped}
 use Rattle.endpoint_code.specs.Labels.{has_label, HasDistinctLabels, AreDistinctArms, ArmIsIn, here, there}
 use Rattle.endpoint_code.specs.Network.{channel_of, procedure_of}
-use Rattle.endpoint_code.specs.Trees.{Action, CodeTree, Arms, Arm, arms_in, trees_of, code_at}
+use Rattle.endpoint_code.specs.Trees.{Action, CodeTree, Arms, arms_in, trees_of, code_at}
 use Rattle.endpoint_code.proofs.AboveOrder.{neither, flip}
 use Rattle.endpoint_code.proofs.CodeTables.{code_at-node}
 use Rattle.scoped_codes.specs.Scoped.{bound_after, IsScopedAction, IsScopedTree, AreScopedArms, IsScopedCall}

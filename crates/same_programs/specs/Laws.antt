@@ -12,7 +12,7 @@ use Rattle.same_programs.specs.Words.{SameName, SameText, HasDistinctWords, Both
 use Rattle.same_programs.specs.Programs.{SamePrograms, IsCopy, SameHosts}
 use Rattle.same_programs.specs.States.{SameEvent, SameWhy, SameClose, SameState}
 
--- an event of the programs e and one of the programs e'
+-- the same event, of the programs e and of the programs e'
 abbrev pub Agrees : Endpoints → Endpoints → Event → Event → Type 0
 Agrees e e' x y = SameEvent (SameName e e') (SameText e e') x y
 
