@@ -1,0 +1,6 @@
+mod Values
+mod States
+mod Places
+mod Acts
+mod Starts
+mod Runs

@@ -1,0 +1,47 @@
+-- Each event of a run is told.
+use Rattle.std.proofs.Common.{◌≤◌, ℕ, List, [], ◌∷◌, length, Option, subst, arith}
+use Rattle.std.specs.List.{AllByRecursion}
+use Rattle.chor_base.specs.declared.event.Event.{Event}
+use Rattle.chor_base.specs.Meaning.{Hosts}
+use Rattle.endpoint_code.specs.declared.endpoints.Process.{Process}
+use Rattle.endpoint_code.specs.declared.endpoints.Endpoints.{Endpoints}
+use Rattle.endpoint_code.specs.Network.{NetworkState, standing_all, first_state, NetworkSteps, acts, begins}
+use Rattle.endpoint_code.specs.NetworkRuns.{NetworkLeads, IsNetworkRun}
+use Rattle.told_events.specs.Sizes.{AreLiteralsSized, AreMeaningsSized}
+use Rattle.told_events.specs.Told.{words_of, AreNumbersSmall, AreTold}
+use Rattle.told_events.proofs.Values.{IsFineValue}
+use Rattle.told_events.proofs.States.{empty_holds, IsFinePart, IsFineMachine, IsFine, Told}
+use Rattle.told_events.proofs.Acts.{act_told}
+use Rattle.told_events.proofs.Starts.{start_told}
+
+module _ (e : Endpoints) where
+  standing_fine : (ps : List Process) → AllByRecursion (IsFineMachine (words_of e) 0) (standing_all ps)
+  standing_fine [] = tt
+  standing_fine (p ∷ ps) = ((empty_holds (IsFineValue (words_of e) 0), empty_holds (IsFinePart (words_of e) 0)), standing_fine ps)
+
+  begins_fine : IsFine (words_of e) (first_state e)
+  begins_fine = record { machines = standing_fine e.processes; queues = tt }
+
+  module _ (hosts : Hosts) (cap : Option ℕ) (sized : AreLiteralsSized e) (meanings : AreMeaningsSized hosts) where
+    step_told : (n : NetworkState) (x : Event) (m : NetworkState) → IsFine (words_of e) n → NetworkSteps e hosts cap n x m → Told (words_of e) n x m
+    step_told n x m f (acts p v a h) = act_told e sized hosts meanings x m cap n p v f a h
+    step_told n x m f (begins c ps h) = start_told e sized n f x m c ps h
+
+    record Led (n : NetworkState) (h : List Event) (m : NetworkState) : Type 0 where
+      machines : length n.machines ≤ length m.machines
+      sessions : n.sid ≤ m.sid
+      events : AreNumbersSmall m → AreTold e h
+
+    led : (h : List Event) (n m : NetworkState) → IsFine (words_of e) n → NetworkLeads e hosts cap n h m → Led n h m
+    led [] n m f l = subst (Led n []) l (record { machines = omega arith; sessions = omega arith; events = λ small. tt })
+    led (x ∷ xs) n m f (mid, s, l) =
+        let one = step_told n x mid f s in
+        let rest = led xs mid m one.fine l in
+        record {
+          machines = omega (arith, one.machines, rest.machines);
+          sessions = omega (arith, one.sessions, rest.sessions);
+          events = λ small. (one.event (omega (arith, rest.machines, small.0), omega (arith, rest.sessions, small.1)), rest.events small);
+        }
+
+    pub run_told : (h : List Event) (last : NetworkState) → IsNetworkRun e hosts cap h last → AreNumbersSmall last → AreTold e h
+    run_told h last run small = (led h (first_state e) last begins_fine run).events small
