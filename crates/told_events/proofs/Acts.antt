@@ -56,28 +56,35 @@ module _ (e : Endpoints) where
 
   module _ (x : Event) (m : NetworkState) where
     -- what is made is this
-    this : (n : NetworkState) (y : Event) (n' : NetworkState) → Told w n y n' → Some (Makes y n') ≡ Some (Makes x m) → Told w n x m
+    this : (n : NetworkState) (y : Event) (n' : NetworkState) → Told e n y n' → Some (Makes y n') ≡ Some (Makes x m) → Told e n x m
     this n y n' t h =
         let i : y ≡ x = cc in
         let j : n' ≡ m = cc in
-        subst (λ (z : NetworkState). Told w n x z) j (subst (λ (z : Event). Told w n z n') i t)
+        subst (λ (z : NetworkState). Told e n x z) j (subst (λ (z : Event). Told e n z n') i t)
 
     -- from a state in which the process has moved on
-    from_moved : (n : NetworkState) (p : ℕ) (at : CodeId) (vars : Variables) (ss : Sessions) → Told w (moved n p at vars ss) x m → Told w n x m
+    from_moved : (n : NetworkState) (p : ℕ) (at : CodeId) (vars : Variables) (ss : Sessions) → Told e (moved n p at vars ss) x m → Told e n x m
     from_moved n p at vars ss t =
         let count = count_set n.machines p (record { at = at; vars = vars; sessions = ss }) in
-        record { fine = t.fine; machines = subst (λ (k : ℕ). k ≤ length m.machines) count t.machines; sessions = t.sessions; event = t.event }
+        record {
+          fine = t.fine;
+          machines = omega (arith, count, t.machines);
+          more = omega (arith, count, t.more);
+          sessions = t.sessions;
+          next = t.next;
+          event = t.event;
+        }
 
     still_there : (n : NetworkState) (p : ℕ) (at : CodeId) (vars : Variables) (ss : Sessions) → p < length n.machines → p < length (moved n p at vars ss).machines
     still_there n p at vars ss lt = subst (λ (k : ℕ). p < k) (sym (count_set n.machines p (record { at = at; vars = vars; sessions = ss }))) lt
 
     put_told : (cap : Option ℕ) (n : NetworkState) (p : ℕ) (b : NameId) (o : Option (ℕ × NameId)) (ol : Option Load) → IsFine w n → p < length n.machines → HasName w b
-        → OfSome (IsFinePart w n.sid) o → OfSome (IsFineLoad w n.sid) ol → puts cap n p b o ol ≡ Some (Makes x m) → Told w n x m
+        → OfSome (IsFinePart w n.sid) o → OfSome (IsFineLoad w n.sid) ol → puts cap n p b o ol ≡ Some (Makes x m) → Told e n x m
     put_told cap n p b None ol f lt nb q l h = absurd cc
     put_told cap n p b (Some s) None f lt nb q l h = absurd cc
     put_told cap n p b (Some (s, a)) (Some l) f lt nb q fl h = go (has_room cap (queue_of n (s, a, b))) h
       where
-        go : (r : Bool) → put_if r n p (s, a, b) l ≡ Some (Makes x m) → Told w n x m
+        go : (r : Bool) → put_if r n p (s, a, b) l ≡ Some (Makes x m) → Told e n x m
         go false i = absurd cc
         go true i =
             this n (event.Send p s a b l) (with_queue n (s, a, b) (queue_of n (s, a, b) ++ l ∷ [])) (record {
@@ -86,28 +93,32 @@ module _ (e : Endpoints) where
                 queues = queues_fine w n.sid n.queues (s, a, b) (queue_of n (s, a, b) ++ l ∷ []) f.queues (joined (IsFineLoad w n.sid) (queue_of n (s, a, b)) (l ∷ []) (loads_fine w n.sid n.queues (s, a, b) f.queues) (fl, tt));
               };
               machines = omega arith;
+              more = omega arith;
               sessions = omega arith;
+              next = omega arith;
               event = λ small. ((process_told e p (omega (arith, lt, small.0)), omega (arith, q.0, small.1), q.1, nb), load_told w n.sid small.1 l fl);
             }) i
 
     take_told : (n : NetworkState) (p : ℕ) (a : NameId) (o : Option (ℕ × NameId)) (g : Load → Option Taking) → IsFine w n → p < length n.machines → HasName w a
-        → OfSome (IsFinePart w n.sid) o → ((l : Load) → IsFineLoad w n.sid l → IsFineTaking n.sid (g l)) → takes n p a o g ≡ Some (Makes x m) → Told w n x m
+        → OfSome (IsFinePart w n.sid) o → ((l : Load) → IsFineLoad w n.sid l → IsFineTaking n.sid (g l)) → takes n p a o g ≡ Some (Makes x m) → Told e n x m
     take_told n p a None g f lt na q good h = absurd cc
     take_told n p a (Some (s, b)) g f lt na q good h = at_queue (queue_of n (s, a, b)) (loads_fine w n.sid n.queues (s, a, b) f.queues) h
       where
-        at_load : (l : Load) (rest : List Load) → IsFineLoad w n.sid l → AllByRecursion (IsFineLoad w n.sid) rest → (o : Option Taking) → IsFineTaking n.sid o → went n p (s, a, b) l rest o ≡ Some (Makes x m) → Told w n x m
+        at_load : (l : Load) (rest : List Load) → IsFineLoad w n.sid l → AllByRecursion (IsFineLoad w n.sid) rest → (o : Option Taking) → IsFineTaking n.sid o → went n p (s, a, b) l rest o ≡ Some (Makes x m) → Told e n x m
         at_load l rest fl fr None t i = absurd cc
         at_load l rest fl fr (Some (Goes next vars ss)) t i =
             let to = moved n p next vars ss in
             let fine = moved_fine n p next vars ss f t.0 t.1 in
             this n (event.Recv p s a b l) (with_queue to (s, a, b) rest) (record {
               fine = record { machines = fine.machines; queues = queues_fine w n.sid n.queues (s, a, b) rest f.queues fr };
-              machines = let count = count_set n.machines p (record { at = next; vars = vars; sessions = ss }) in subst (λ (k : ℕ). length n.machines ≤ k) (sym count) (omega arith);
+              machines = omega (arith, count_set n.machines p (record { at = next; vars = vars; sessions = ss }));
+              more = omega (arith, count_set n.machines p (record { at = next; vars = vars; sessions = ss }));
               sessions = omega arith;
+              next = omega arith;
               event = λ small. let count = count_set n.machines p (record { at = next; vars = vars; sessions = ss }) in ((process_told e p (omega (arith, lt, small.0, count)), omega (arith, q.0, small.1), na, q.1), load_told w n.sid small.1 l fl);
             }) i
 
-        at_queue : (ls : List Load) → AllByRecursion (IsFineLoad w n.sid) ls → takes_from n p (s, a, b) g ls ≡ Some (Makes x m) → Told w n x m
+        at_queue : (ls : List Load) → AllByRecursion (IsFineLoad w n.sid) ls → takes_from n p (s, a, b) g ls ≡ Some (Makes x m) → Told e n x m
         at_queue [] fls i = absurd cc
         at_queue (l ∷ rest) fls i = at_load l rest fls.0 fls.1 (g l) (good l fls.0) i
 
@@ -145,13 +156,15 @@ module _ (e : Endpoints) where
   module _ (sized : AreLiteralsSized e) (hosts : Hosts) (meanings : AreMeaningsSized hosts) (x : Event) (m : NetworkState) (cap : Option ℕ) (n : NetworkState) (p : ℕ) (v : ℤ) (f : IsFine w n) (lt : p < length n.machines) where
     module _ (vars : Variables) (ss : Sessions) (fv : AreFineVariables w n.sid vars) (fs : AreFineSessions w n.sid ss) where
       -- a step of the process alone
-      alone : (at : CodeId) (vs : Variables) (y : Event) → AreFineVariables w n.sid vs → (AreNumbersSmall n → HasEvent w y) → Some (Makes y (moved n p at vs ss)) ≡ Some (Makes x m) → Told w n x m
+      alone : (at : CodeId) (vs : Variables) (y : Event) → AreFineVariables w n.sid vs → (AreNumbersSmall n → HasEvent w y) → Some (Makes y (moved n p at vs ss)) ≡ Some (Makes x m) → Told e n x m
       alone at vs y h told i =
           let count = count_set n.machines p (record { at = at; vars = vs; sessions = ss }) in
           this x m n y (moved n p at vs ss) (record {
             fine = moved_fine n p at vs ss f h fs;
-            machines = subst (λ (k : ℕ). length n.machines ≤ k) (sym count) (omega arith);
+            machines = omega (arith, count);
+            more = omega (arith, count);
             sessions = omega arith;
+            next = omega arith;
             event = λ small. told (subst (λ (k : ℕ). k ≤ 2 ^ 32) count small.0, small.1);
           }) i
 
@@ -159,11 +172,11 @@ module _ (e : Endpoints) where
       value t h k = value_fine w n.sid (term_of t) vars h k fv
 
       sends : (b : NameId) (next : CodeId) (ms : Sessions) (o : Option (ℕ × NameId)) (ol : Option Load) → AreFineSessions w n.sid ms → HasName w b → OfSome (IsFinePart w n.sid) o → OfSome (IsFineLoad w n.sid) ol
-          → puts cap (moved n p next vars ms) p b o ol ≡ Some (Makes x m) → Told w n x m
+          → puts cap (moved n p next vars ms) p b o ol ≡ Some (Makes x m) → Told e n x m
       sends b next ms o ol fm nb q l i =
           from_moved x m n p next vars ms (put_told x m cap (moved n p next vars ms) p b o ol (moved_fine n p next vars ms f fv fm) (still_there x m n p next vars ms lt) nb q l i)
 
-      node_told : (node : CodeNode) → IsKnown e node → PlaceAnswers hosts vars (Some (let q : Place = record { node = node; sessions = ss } in q)) v → node_makes cap n p v vars ss node ≡ Some (Makes x m) → Told w n x m
+      node_told : (node : CodeNode) → IsKnown e node → PlaceAnswers hosts vars (Some (let q : Place = record { node = node; sessions = ss } in q)) v → node_makes cap n p v vars ss node ≡ Some (Makes x m) → Told e n x m
       node_told (Send k b t next) is a i =
           let h = both_of _ _ is.there in
           let g = both_of _ _ h.0 in
@@ -212,17 +225,17 @@ module _ (e : Endpoints) where
       node_told (Call g q ks) is a i = absurd cc
       node_told End is a i = absurd cc
 
-    at_place : (machine : Machine) → IsFineMachine w n.sid machine → (o : Option Place) → place_of e machine ≡ o → PlaceAnswers hosts machine.vars o v → place_makes cap n p v machine.vars o ≡ Some (Makes x m) → Told w n x m
+    at_place : (machine : Machine) → IsFineMachine w n.sid machine → (o : Option Place) → place_of e machine ≡ o → PlaceAnswers hosts machine.vars o v → place_makes cap n p v machine.vars o ≡ Some (Makes x m) → Told e n x m
     at_place machine fm None j a i = absurd cc
     at_place machine fm (Some q) j a i =
         let known = place_known e sized n.sid machine q fm.1 j in
         node_told machine.vars q.sessions fm.0 known.sessions q.node known.node a i
 
   pub act_told : (sized : AreLiteralsSized e) (hosts : Hosts) (meanings : AreMeaningsSized hosts) (x : Event) (m : NetworkState) (cap : Option ℕ) (n : NetworkState) (p : ℕ) (v : ℤ) → IsFine w n
-      → MachineAnswers hosts e (slice_get n.machines p) v → makes e cap n p v ≡ Some (Makes x m) → Told w n x m
+      → MachineAnswers hosts e (slice_get n.machines p) v → makes e cap n p v ≡ Some (Makes x m) → Told e n x m
   act_told sized hosts meanings x m cap n p v f a i = at_machine (slice_get n.machines p) refl a i
     where
-      at_machine : (o : Option Machine) → slice_get n.machines p ≡ o → MachineAnswers hosts e o v → machine_makes e cap n p v o ≡ Some (Makes x m) → Told w n x m
+      at_machine : (o : Option Machine) → slice_get n.machines p ≡ o → MachineAnswers hosts e o v → machine_makes e cap n p v o ≡ Some (Makes x m) → Told e n x m
       at_machine None j b h = absurd cc
       at_machine (Some machine) j b h =
           at_place sized hosts meanings x m cap n p v f (within n.machines p machine j) machine (at_of (IsFineMachine w n.sid) n.machines p machine f.machines j) (place_of e machine) refl b h

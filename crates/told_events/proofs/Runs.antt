@@ -1,5 +1,6 @@
 -- Each event of a run is told.
-use Rattle.std.proofs.Common.{◌≤◌, ℕ, List, [], ◌∷◌, length, Option, subst, arith}
+use Rattle.std.proofs.Common.{◌≡◌, ◌≤◌, ◌+◌, ◌*◌, ℕ, suc, List, [], ◌∷◌, length, Option, refl, sym, ap, subst, arith}
+use Rattle.std.proofs.Math.Nat.{suc-mul}
 use Rattle.std.specs.List.{AllByRecursion}
 use Rattle.chor_base.specs.declared.event.Event.{Event}
 use Rattle.chor_base.specs.Meaning.{Hosts}
@@ -8,7 +9,7 @@ use Rattle.endpoint_code.specs.declared.endpoints.Endpoints.{Endpoints}
 use Rattle.endpoint_code.specs.Network.{NetworkState, standing_all, first_state, NetworkSteps, acts, begins}
 use Rattle.endpoint_code.specs.NetworkRuns.{NetworkLeads, IsNetworkRun}
 use Rattle.told_events.specs.Sizes.{AreLiteralsSized, AreMeaningsSized}
-use Rattle.told_events.specs.Told.{words_of, AreNumbersSmall, AreTold}
+use Rattle.told_events.specs.Told.{words_of, most_served, IsShort, AreNumbersSmall, AreTold}
 use Rattle.told_events.proofs.Values.{IsFineValue}
 use Rattle.told_events.proofs.States.{empty_holds, IsFinePart, IsFineMachine, IsFine, Told}
 use Rattle.told_events.proofs.Acts.{act_told}
@@ -23,25 +24,40 @@ module _ (e : Endpoints) where
   begins_fine = record { machines = standing_fine e.processes; queues = tt }
 
   module _ (hosts : Hosts) (cap : Option ℕ) (sized : AreLiteralsSized e) (meanings : AreMeaningsSized hosts) where
-    step_told : (n : NetworkState) (x : Event) (m : NetworkState) → IsFine (words_of e) n → NetworkSteps e hosts cap n x m → Told (words_of e) n x m
+    step_told : (n : NetworkState) (x : Event) (m : NetworkState) → IsFine (words_of e) n → NetworkSteps e hosts cap n x m → Told e n x m
     step_told n x m f (acts p v a h) = act_told e sized hosts meanings x m cap n p v f a h
     step_told n x m f (begins c ps h) = start_told e sized n f x m c ps h
 
     record Led (n : NetworkState) (h : List Event) (m : NetworkState) : Type 0 where
       machines : length n.machines ≤ length m.machines
+      more : length m.machines ≤ length n.machines + length h * most_served e.channels
       sessions : n.sid ≤ m.sid
+      next : m.sid ≤ n.sid + length h
       events : AreNumbersSmall m → AreTold e h
 
     led : (h : List Event) (n m : NetworkState) → IsFine (words_of e) n → NetworkLeads e hosts cap n h m → Led n h m
-    led [] n m f l = subst (Led n []) l (record { machines = omega arith; sessions = omega arith; events = λ small. tt })
+    led [] n m f l = subst (Led n []) l (record { machines = omega arith; more = omega arith; sessions = omega arith; next = omega arith; events = λ small. tt })
     led (x ∷ xs) n m f (mid, s, l) =
         let one = step_told n x mid f s in
         let rest = led xs mid m one.fine l in
+        let more : length m.machines ≤ length n.machines + (length xs * most_served e.channels + most_served e.channels) = omega (arith, one.more, rest.more) in
         record {
           machines = omega (arith, one.machines, rest.machines);
+          more = subst (λ (k : ℕ). length m.machines ≤ length n.machines + k) (sym (suc-mul (length xs) (most_served e.channels))) more;
           sessions = omega (arith, one.sessions, rest.sessions);
+          next = omega (arith, one.next, rest.next);
           events = λ small. (one.event (omega (arith, rest.machines, small.0), omega (arith, rest.sessions, small.1)), rest.events small);
         }
 
     pub run_told : (h : List Event) (last : NetworkState) → IsNetworkRun e hosts cap h last → AreNumbersSmall last → AreTold e h
     run_told h last run small = (led h (first_state e) last begins_fine run).events small
+
+    as_many : (ps : List Process) → length (standing_all ps) ≡ length ps
+    as_many [] = refl
+    as_many (p ∷ ps) = ap (λ k. suc k) (as_many ps)
+
+    -- a run of few events
+    pub short_run_told : (h : List Event) (last : NetworkState) → IsNetworkRun e hosts cap h last → IsShort e h → AreTold e h
+    short_run_told h last run short =
+        let all = led h (first_state e) last begins_fine run in
+        all.events (omega (arith, all.more, as_many e.processes, short.0), omega (arith, all.next, short.1))

@@ -1,6 +1,6 @@
 -- A start is told.
 use Rattle.std.proofs.Common.{◌≡◌, ◌<◌, ◌≤◌, ◌+◌, ◌^◌, ◌&&◌, ◌==◌, ◌++◌, ℕ, suc, Bool, true, false, List, [], ◌∷◌, length, Option, Some, None, refl, sym, ap, ◌∙◌, subst, arith, if◌then◌else◌, length-append}
-use Rattle.std.specs.Prelude.{All, slice_get, slice_set}
+use Rattle.std.specs.Prelude.{All, slice_get, slice_set, max}
 use Rattle.std.specs.List.{AllByRecursion, list_all}
 use Rattle.std.specs.FinMap as fin
 use Rattle.std.proofs.lemmas.Bool.{ltb-true}
@@ -19,7 +19,7 @@ use Rattle.endpoint_code.specs.Network.{Sessions, Machine, NetworkState, Place, 
 use Rattle.transcript.specs.Text.{Words}
 use Rattle.event_reader.specs.Known.{HasName, HasPart}
 use Rattle.told_events.specs.Sizes.{AreLiteralsSized}
-use Rattle.told_events.specs.Told.{words_of}
+use Rattle.told_events.specs.Told.{words_of, most_served}
 use Rattle.told_events.proofs.Values.{both_of, IsFineValue}
 use Rattle.told_events.proofs.States.{at_of, after_set, count_set, joined, along, within, empty_holds, insert_holds, IsFinePart, IsFineMachine, IsFine, later_machine, later_queues, Told, process_told}
 use Rattle.told_events.proofs.Places.{place_known}
@@ -27,6 +27,15 @@ use Rattle.told_events.proofs.Places.{place_known}
 all_named : (test : NameId → Bool) (xs : List NameId) → list_all test xs ≡ true → AllByRecursion (λ y. test y ≡ true) xs
 all_named test [] h = tt
 all_named test (y ∷ ys) h = let k = both_of (test y) (list_all test ys) h in (k.0, all_named test ys k.1)
+
+-- no channel has more service roles than the most
+few_served : (c : NameId) (k : Channel) (ks : List Channel) → channel_of ks c ≡ Some k → length k.serve ≤ most_served ks
+few_served c k [] i = absurd cc
+few_served c k (d ∷ ds) i = go (d.name.0 == c.0) (few_served c k ds) i
+  where
+    go : (b : Bool) → (channel_of ds c ≡ Some k → length k.serve ≤ most_served ds) → (if b then Some d else channel_of ds c) ≡ Some k → length k.serve ≤ max (length d.serve) (most_served ds)
+    go false others g = let h : length k.serve ≤ most_served ds = others g in omega arith
+    go true others g = let same : d ≡ k = cc in let h : length d.serve ≡ length k.serve = ap (λ (q : Channel). length q.serve) same in omega arith
 
 module _ (e : Endpoints) where
   abbrev w : Words
@@ -159,8 +168,8 @@ module _ (e : Endpoints) where
 
     -- ---- the start
 
-    module _ (x : Event) (m : NetworkState) (c : NameId) (k : Channel) (known : IsKnownChannel c k) where
-      begun_told : (qs : List (NameId × ℕ)) (o : Option (List (ℕ × Machine))) → joiners e n c n.sid qs ≡ o → AllByRecursion (λ q. HasName w q.0) qs → begun e n c k qs o ≡ Some (Makes x m) → Told w n x m
+    module _ (x : Event) (m : NetworkState) (c : NameId) (k : Channel) (known : IsKnownChannel c k) (few : length k.serve ≤ most_served e.channels) where
+      begun_told : (qs : List (NameId × ℕ)) (o : Option (List (ℕ × Machine))) → joiners e n c n.sid qs ≡ o → AllByRecursion (λ q. HasName w q.0) qs → begun e n c k qs o ≡ Some (Makes x m) → Told e n x m
       begun_told qs None j named i = absurd cc
       begun_told qs (Some ms) j named i =
           let all = joined_all c qs ms named j in
@@ -168,30 +177,32 @@ module _ (e : Endpoints) where
           let n' : NetworkState = record n { machines = with_machines n.machines ms ++ served e c n.sid k.serve; sid = suc n.sid } in
           let count : length n'.machines ≡ length n.machines + length k.serve =
           length-append (with_machines n.machines ms) (served e c n.sid k.serve) ∙ (λ t. as_many n.machines ms t + new_count c k.serve t) in
-          let told : Told w n y n' = record {
+          let told : Told e n y n' = record {
             fine = record {
               machines = joined IsFineAfter (with_machines n.machines ms) (served e c n.sid k.serve)
                   (placed n.machines ms (along (IsFineMachine w n.sid) IsFineAfter (later_machine w n.sid (suc n.sid) (omega arith)) n.machines f.machines) all.fine) (new_fine c k.serve known.serve);
               queues = later_queues w n.sid (suc n.sid) (omega arith) n.queues f.queues;
             };
             machines = omega (arith, count);
+            more = omega (arith, count, few);
             sessions = omega arith;
+            next = omega arith;
             event = λ small. (known.name, omega (arith, small.1), joined (HasPart w) qs (served_parts k.serve (length n.machines)) (active_told qs (omega (arith, count, small.0)) named all.there) (served_told k.serve (length n.machines) known.serve (omega (arith, count, small.0))));
           } in
           let a : y ≡ x = cc in
           let b : n' ≡ m = cc in
-          subst (λ (z : NetworkState). Told w n x z) b (subst (λ (z : Event). Told w n z n') a told)
+          subst (λ (z : NetworkState). Told e n x z) b (subst (λ (z : Event). Told e n z n') a told)
 
-      at_pairs : (o : Option (List (NameId × ℕ))) → ((qs : List (NameId × ℕ)) → o ≡ Some qs → AllByRecursion (λ q. HasName w q.0) qs) → starts_with e n c k o ≡ Some (Makes x m) → Told w n x m
+      at_pairs : (o : Option (List (NameId × ℕ))) → ((qs : List (NameId × ℕ)) → o ≡ Some qs → AllByRecursion (λ q. HasName w q.0) qs) → starts_with e n c k o ≡ Some (Makes x m) → Told e n x m
       at_pairs None h i = absurd cc
       at_pairs (Some []) h i = absurd cc
       at_pairs (Some (q ∷ qs)) h i = begun_told (q ∷ qs) (joiners e n c n.sid (q ∷ qs)) refl (h (q ∷ qs) refl) i
 
-    pub start_told : (x : Event) (m : NetworkState) (c : NameId) (ps : List ℕ) → starts e n c ps ≡ Some (Makes x m) → Told w n x m
+    pub start_told : (x : Event) (m : NetworkState) (c : NameId) (ps : List ℕ) → starts e n c ps ≡ Some (Makes x m) → Told e n x m
     start_told x m c ps i = go (channel_of e.channels c) refl i
       where
-        go : (o : Option Channel) → channel_of e.channels c ≡ o → channel_starts e n c ps o ≡ Some (Makes x m) → Told w n x m
+        go : (o : Option Channel) → channel_of e.channels c ≡ o → channel_starts e n c ps o ≡ Some (Makes x m) → Told e n x m
         go None j g = absurd cc
         go (Some k) j g =
             let known = channel_known c k e.channels e.numbered.in_channels j in
-            at_pairs x m c k known (paired k.active ps) (λ qs z. paired_named k.active ps qs known.active z) g
+            at_pairs x m c k known (few_served c k e.channels j) (paired k.active ps) (λ qs z. paired_named k.active ps qs known.active z) g

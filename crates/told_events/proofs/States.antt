@@ -1,5 +1,5 @@
 -- What holds of each state of a network.
-use Rattle.std.proofs.Common.{◌≡◌, ◌<◌, ◌≤◌, ◌^◌, ℕ, zero, suc, Bool, true, false, List, [], ◌∷◌, ◌++◌, length, map, cond, Some, None, refl, sym, ap, ◌∙◌, subst, arith, if◌then◌else◌}
+use Rattle.std.proofs.Common.{◌+◌, ◌≡◌, ◌<◌, ◌≤◌, ◌^◌, ℕ, zero, suc, Bool, true, false, List, [], ◌∷◌, ◌++◌, length, map, cond, Some, None, refl, sym, ap, ◌∙◌, subst, arith, if◌then◌else◌}
 use Rattle.std.specs.Prelude.{All, slice_get, slice_set}
 use Rattle.std.specs.List.{AllByRecursion}
 use Rattle.std.specs.Ordering.{nat_cmp, eq_by_cmp}
@@ -21,7 +21,7 @@ use Rattle.endpoint_code.specs.Kept.{has_name}
 use Rattle.endpoint_code.specs.Network.{Sessions, Machine, NetworkState, loads_for, with_loads}
 use Rattle.transcript.specs.Text.{Words}
 use Rattle.event_reader.specs.Known.{IsSmall, HasName, HasNameOf, HasProcess, HasValue, HasLoad, HasEvent}
-use Rattle.told_events.specs.Told.{words_of, AreNumbersSmall}
+use Rattle.told_events.specs.Told.{words_of, most_served, AreNumbersSmall}
 use Rattle.told_events.proofs.Values.{IsFineValue, AreFineVariables}
 
 -- ---- lists
@@ -162,11 +162,13 @@ module _ (w : Words) where
     load_told (Picks l) h = h
 
 -- what a step leads to
-pub record Told (w : Words) (n : NetworkState) (x : Event) (m : NetworkState) : Type 0 where
-  pub fine : IsFine w m
+pub record Told (e : Endpoints) (n : NetworkState) (x : Event) (m : NetworkState) : Type 0 where
+  pub fine : IsFine (words_of e) m
   pub machines : length n.machines ≤ length m.machines
+  pub more : length m.machines ≤ length n.machines + most_served e.channels
   pub sessions : n.sid ≤ m.sid
-  pub event : AreNumbersSmall m → HasEvent w x
+  pub next : m.sid ≤ suc n.sid
+  pub event : AreNumbersSmall m → HasEvent (words_of e) x
 
 -- ---- processes of the beginning
 

@@ -1,0 +1,10 @@
+pub mod Kept
+pub mod Words
+pub mod Naming
+mod Bodies
+mod Faults
+mod Units
+mod Alike
+mod Readings
+mod Rules
+pub mod Verdicts
