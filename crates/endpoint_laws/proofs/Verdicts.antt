@@ -42,7 +42,7 @@ use Rattle.endpoint_laws.proofs.Rules.{one_denial, names_are, begins_are}
 tokens_are : {bytes : List ℕ} (i : Input) (a : IsInputOf bytes i) → lexemes_of i ≡ a.lexemes
 tokens_are i a = spelled i i.tokens.now.items a.lexemes a.spelled
 
-named_so : {bytes : List ℕ} {u : Units} (i : Input) → IsInputOf bytes i → IsWritten (lexemes_of i) u → AreUnitsNamed i.names.now i.texts.now u
+pub named_so : {bytes : List ℕ} {u : Units} (i : Input) → IsInputOf bytes i → IsWritten (lexemes_of i) u → AreUnitsNamed i.names.now i.texts.now u
 named_so i a x = subst (AreUnitsNamed i.names.now i.texts.now) x.units (file_named i.names.now i.texts.now x.is (subst (AllByRecursion (IsFine i.names.now i.texts.now)) (sym (tokens_are i a)) (fine_tokens a)))
 
 one_program : (ts : List Lexeme) (x y : Derived endpoints) → Derives rules within_limits endpoints ts x [] → Derives rules within_limits endpoints ts y [] → x ≡ y

@@ -1,0 +1,7 @@
+mod Terms
+mod Deeds
+mod Laid
+mod Units
+mod Codes
+mod Inputs
+mod Verdicts
