@@ -41,12 +41,18 @@ file_of w names protocols services processes kept = record {
 }
 
 module _ (count : ℕ) where
+  abbrev protocols_at : List Protocol
+  protocols_at = round (at count) ∷ fork (at count) ∷ []
+
+  abbrev services_at : List Service
+  services_at = round_service (at count) ∷ fork_service (at count) ∷ []
+
   abbrev pub IsKept : Bodies → Type 0
-  IsKept w = Kept w (generated_names count) (round (at count) ∷ fork (at count) ∷ []) (round_service (at count) ∷ fork_service (at count) ∷ []) (p_and_q (at count))
+  IsKept w = Kept w (generated_names count) protocols_at services_at (p_and_q (at count))
 
   -- the file with these declarations
   abbrev pub file_at : (w : Bodies) → IsKept w → File
-  file_at w kept = file_of w (generated_names count) (round (at count) ∷ fork (at count) ∷ []) (round_service (at count) ∷ fork_service (at count) ∷ []) (p_and_q (at count)) kept
+  file_at w kept = file_of w (generated_names count) protocols_at services_at (p_and_q (at count)) kept
 
   -- what stands there is what is generated
   pub record AreRounds (w : Bodies) : Type 0 where
@@ -65,8 +71,8 @@ module _ (count : ℕ) where
       let w = bodies_of f in
       let s = source_at f g in
       let holds : AreRounds w = record { procedures = ap (λ (o : Source). o.items.procedures) s; main = ap (λ (o : Source). o.body) s } in
-      let one : Says P w (generated_names count) (round (at count) ∷ fork (at count) ∷ []) (round_service (at count) ∷ fork_service (at count) ∷ []) (p_and_q (at count)) = λ k. h w k holds in
-      let two = subst (λ (x : List Named). Says P w (generated_names count) (round (at count) ∷ fork (at count) ∷ []) (round_service (at count) ∷ fork_service (at count) ∷ []) x) (sym (ap (λ (o : Source). o.processes) s)) one in
-      let three = subst (λ (x : List Service). Says P w (generated_names count) (round (at count) ∷ fork (at count) ∷ []) x f.processes) (sym (ap (λ (o : Source). o.items.services) s)) two in
+      let one : Says P w (generated_names count) protocols_at services_at (p_and_q (at count)) = λ k. h w k holds in
+      let two = subst (λ (x : List Named). Says P w (generated_names count) protocols_at services_at x) (sym (ap (λ (o : Source). o.processes) s)) one in
+      let three = subst (λ (x : List Service). Says P w (generated_names count) protocols_at x f.processes) (sym (ap (λ (o : Source). o.items.services) s)) two in
       let four = subst (λ (x : List Protocol). Says P w (generated_names count) x f.services f.processes) (sym (ap (λ (o : Source). o.items.protocols) s)) three in
       subst (λ (x : List (List ℕ)). Says P w x f.protocols f.services f.processes) (sym g.names) four f.kept
