@@ -1,32 +1,36 @@
 -- Each event of a run is told.
 use Rattle.std.proofs.Common.{◌≡◌, ◌≤◌, ◌+◌, ◌*◌, ℕ, suc, List, [], ◌∷◌, length, Option, refl, sym, ap, subst, arith}
 use Rattle.std.proofs.Math.Nat.{suc-mul}
+use Rattle.std.specs.Prelude.{All}
+use Rattle.std.proofs.lemmas.List.Elements.{All-head, All-tail}
 use Rattle.std.specs.List.{AllByRecursion}
 use Rattle.chor_base.specs.declared.event.Event.{Event}
 use Rattle.chor_base.specs.Meaning.{Hosts}
 use Rattle.endpoint_code.specs.declared.endpoints.Process.{Process}
 use Rattle.endpoint_code.specs.declared.endpoints.Endpoints.{Endpoints}
+use Rattle.endpoint_code.specs.Faults.{IsFaultless}
 use Rattle.endpoint_code.specs.Network.{NetworkState, standing_all, first_state, NetworkSteps, acts, begins}
 use Rattle.endpoint_code.specs.NetworkRuns.{NetworkLeads, IsNetworkRun}
 use Rattle.told_events.specs.Sizes.{AreLiteralsSized, AreMeaningsSized}
 use Rattle.told_events.specs.Told.{words_of, most_served, IsShort, AreNumbersSmall, AreTold}
 use Rattle.told_events.proofs.Values.{IsFineValue}
-use Rattle.told_events.proofs.States.{empty_holds, IsFinePart, IsFineMachine, IsFine, Told}
+use Rattle.told_events.proofs.States.{IsSizedAt, empty_holds, IsFinePart, IsFineMachine, IsFine, Told}
 use Rattle.told_events.proofs.Acts.{act_told}
 use Rattle.told_events.proofs.Starts.{start_told}
 
 module _ (e : Endpoints) where
-  standing_fine : (ps : List Process) → AllByRecursion (IsFineMachine (words_of e) 0) (standing_all ps)
-  standing_fine [] = tt
-  standing_fine (p ∷ ps) = ((empty_holds (IsFineValue (words_of e) 0), empty_holds (IsFinePart (words_of e) 0)), standing_fine ps)
+  standing_fine : (ps : List Process) → All (λ p. IsSizedAt e p.body) ps → AllByRecursion (IsFineMachine e 0) (standing_all ps)
+  standing_fine [] h = tt
+  standing_fine (p ∷ ps) h =
+      ((empty_holds (IsFineValue (words_of e) 0), empty_holds (IsFinePart (words_of e) 0), All-head (λ q. IsSizedAt e q.body) p ps h), standing_fine ps (All-tail (λ q. IsSizedAt e q.body) p ps h))
 
-  begins_fine : IsFine (words_of e) (first_state e)
-  begins_fine = record { machines = standing_fine e.processes; queues = tt }
+  begins_fine : AreLiteralsSized e → IsFine e (first_state e)
+  begins_fine sized = record { machines = standing_fine e.processes sized.processes; queues = tt }
 
-  module _ (hosts : Hosts) (cap : Option ℕ) (sized : AreLiteralsSized e) (meanings : AreMeaningsSized hosts) where
-    step_told : (n : NetworkState) (x : Event) (m : NetworkState) → IsFine (words_of e) n → NetworkSteps e hosts cap n x m → Told e n x m
+  module _ (faultless : IsFaultless e) (hosts : Hosts) (cap : Option ℕ) (sized : AreLiteralsSized e) (meanings : AreMeaningsSized hosts) where
+    step_told : (n : NetworkState) (x : Event) (m : NetworkState) → IsFine e n → NetworkSteps e hosts cap n x m → Told e n x m
     step_told n x m f (acts p v a h) = act_told e sized hosts meanings x m cap n p v f a h
-    step_told n x m f (begins c ps h) = start_told e sized n f x m c ps h
+    step_told n x m f (begins c ps h) = start_told e sized n f faultless x m c ps h
 
     record Led (n : NetworkState) (h : List Event) (m : NetworkState) : Type 0 where
       machines : length n.machines ≤ length m.machines
@@ -35,7 +39,7 @@ module _ (e : Endpoints) where
       next : m.sid ≤ n.sid + length h
       events : AreNumbersSmall m → AreTold e h
 
-    led : (h : List Event) (n m : NetworkState) → IsFine (words_of e) n → NetworkLeads e hosts cap n h m → Led n h m
+    led : (h : List Event) (n m : NetworkState) → IsFine e n → NetworkLeads e hosts cap n h m → Led n h m
     led [] n m f l = subst (Led n []) l (record { machines = omega arith; more = omega arith; sessions = omega arith; next = omega arith; events = λ small. tt })
     led (x ∷ xs) n m f (mid, s, l) =
         let one = step_told n x mid f s in
@@ -50,7 +54,7 @@ module _ (e : Endpoints) where
         }
 
     pub run_told : (h : List Event) (last : NetworkState) → IsNetworkRun e hosts cap h last → AreNumbersSmall last → AreTold e h
-    run_told h last run small = (led h (first_state e) last begins_fine run).events small
+    run_told h last run small = (led h (first_state e) last (begins_fine sized) run).events small
 
     as_many : (ps : List Process) → length (standing_all ps) ≡ length ps
     as_many [] = refl
@@ -59,5 +63,5 @@ module _ (e : Endpoints) where
     -- a run of few events
     pub short_run_told : (h : List Event) (last : NetworkState) → IsNetworkRun e hosts cap h last → IsShort e h → AreTold e h
     short_run_told h last run short =
-        let all = led h (first_state e) last begins_fine run in
+        let all = led h (first_state e) last (begins_fine sized) run in
         all.events (omega (arith, all.more, as_many e.processes, short.0), omega (arith, all.next, short.1))

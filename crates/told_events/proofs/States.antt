@@ -14,13 +14,16 @@ use Rattle.chor_base.specs.declared.value.Load.{Load}
 use Rattle.chor_base.specs.declared.value.Load.TheVariants.{Value as Carries, Label as Picks}
 use Rattle.chor_base.specs.declared.event.Event.{Event}
 use Rattle.chor_base.specs.Events.{Triple, triple_eq}
-use Rattle.chor_base.specs.NameMap.{FromNames}
+use Rattle.chor_base.specs.NameMap.{FromNames, Variables}
+use Rattle.endpoint_code.specs.declared.code.CodeId.{CodeId}
 use Rattle.endpoint_code.specs.declared.endpoints.Process.{Process}
 use Rattle.endpoint_code.specs.declared.endpoints.Endpoints.{Endpoints}
 use Rattle.endpoint_code.specs.Kept.{has_name}
 use Rattle.endpoint_code.specs.Network.{Sessions, Machine, NetworkState, loads_for, with_loads}
+use Rattle.endpoint_code.specs.Trees.{code_at}
 use Rattle.transcript.specs.Text.{Words}
 use Rattle.event_reader.specs.Known.{IsSmall, HasName, HasNameOf, HasProcess, HasValue, HasLoad, HasEvent}
+use Rattle.told_events.specs.Sizes.{IsCodeSized}
 use Rattle.told_events.specs.Told.{words_of, most_served, AreNumbersSmall}
 use Rattle.told_events.proofs.Values.{IsFineValue, AreFineVariables}
 
@@ -97,19 +100,11 @@ module _ (w : Words) where
   IsFineLoad sid (Carries v) = IsFineValue w sid v
   IsFineLoad sid (Picks l) = HasName w l
 
-  abbrev pub IsFineMachine : ℕ → Machine → Type 0
-  IsFineMachine sid m = AreFineVariables w sid m.vars × AreFineSessions sid m.sessions
-
   abbrev pub AreFineLoads : ℕ → List Load → Type 0
   AreFineLoads sid ls = AllByRecursion (IsFineLoad sid) ls
 
   abbrev pub AreFineQueues : ℕ → List (Triple × List Load) → Type 0
   AreFineQueues sid qs = AllByRecursion (λ q. AreFineLoads sid q.1) qs
-
-  -- variables, sessions and queues have values of their sizes, with names and texts of the book, and sessions that have begun
-  pub record IsFine (n : NetworkState) : Type 0 where
-    pub machines : AllByRecursion (IsFineMachine n.sid) n.machines
-    pub queues : AreFineQueues n.sid n.queues
 
   -- ---- more sessions
 
@@ -124,8 +119,11 @@ module _ (w : Words) where
     later_load (Carries v) h = later_value v h
     later_load (Picks l) h = h
 
-    pub later_machine : (m : Machine) → IsFineMachine s m → IsFineMachine t m
-    later_machine m h = (λ x v e. later_value v (h.0 x v e), λ k q e. let p = h.1 k q e in (omega (arith, p.0), p.1))
+    pub later_variables : (vars : Variables) → AreFineVariables w s vars → AreFineVariables w t vars
+    later_variables vars h = λ x v e. later_value v (h x v e)
+
+    pub later_sessions : (m : Sessions) → AreFineSessions s m → AreFineSessions t m
+    later_sessions m h = λ k q e. let p = h k q e in (omega (arith, p.0), p.1)
 
     pub later_queues : (qs : List (Triple × List Load)) → AreFineQueues s qs → AreFineQueues t qs
     later_queues qs h = along (λ q. AreFineLoads s q.1) (λ q. AreFineLoads t q.1) (λ q k. along (IsFineLoad s) (IsFineLoad t) later_load q.1 k) qs h
@@ -161,9 +159,28 @@ module _ (w : Words) where
     load_told (Carries v) h = value_told v h
     load_told (Picks l) h = h
 
+module _ (e : Endpoints) where
+  abbrev w : Words
+  w = words_of e
+
+  -- a process stands at a code of such literals
+  abbrev pub IsSizedAt : CodeId → Type 0
+  IsSizedAt id = IsCodeSized (code_at e.code.nodes id)
+
+  abbrev pub IsFineMachine : ℕ → Machine → Type 0
+  IsFineMachine sid m = AreFineVariables w sid m.vars × AreFineSessions w sid m.sessions × IsSizedAt m.at
+
+  -- variables, sessions and queues have values of their sizes, with names and texts of the book, and sessions that have begun
+  pub record IsFine (n : NetworkState) : Type 0 where
+    pub machines : AllByRecursion (IsFineMachine n.sid) n.machines
+    pub queues : AreFineQueues w n.sid n.queues
+
+  pub later_machine : (s t : ℕ) → s ≤ t → (m : Machine) → IsFineMachine s m → IsFineMachine t m
+  later_machine s t le m h = (later_variables w s t le m.vars h.0, later_sessions w s t le m.sessions h.1, h.2)
+
 -- what a step leads to
 pub record Told (e : Endpoints) (n : NetworkState) (x : Event) (m : NetworkState) : Type 0 where
-  pub fine : IsFine (words_of e) m
+  pub fine : IsFine e m
   pub machines : length n.machines ≤ length m.machines
   pub more : length m.machines ≤ length n.machines + most_served e.channels
   pub sessions : n.sid ≤ m.sid
