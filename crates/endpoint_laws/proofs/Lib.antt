@@ -1,7 +1,7 @@
 pub mod Kept
 pub mod Words
 pub mod Naming
-mod Bodies
+pub mod Bodies
 mod Faults
 mod Units
 mod Alike

@@ -1,5 +1,5 @@
 -- Each name of a file's units is a word of the file, and each text in them a text of it.
-use Rattle.std.proofs.Common.{◌≡◌, ◌-◌, ℕ, true, List, [], ◌∷◌, inl, inr, sym, ap, subst}
+use Rattle.std.proofs.Common.{◌<◌, ◌^◌, ◌≡◌, ◌-◌, ℕ, true, List, [], ◌∷◌, inl, inr, sym, ap, subst}
 use Rattle.std.specs.Prelude.{codes}
 use Rattle.std.specs.List.{AllByRecursion}
 use Rattle.std.proofs.lemmas.Slice.Eq.{bytes_eq-Decides}
@@ -24,10 +24,10 @@ module _ (table texts : List (List ℕ)) where
   abbrev pub IsName : Lexeme → Type 0
   IsName l = IsWord l.symbol
 
-  -- a number, or a word or a text that has a number
+  -- a number below 2^63, or a word or a text that has a number
   abbrev pub IsLeaf : Symbol → Type 0
   IsLeaf (word w) = HasNumber table w
-  IsLeaf (number n) = Unit {0}
+  IsLeaf (number n) = n < 2 ^ 63
   IsLeaf (text t) = HasText texts t
   IsLeaf (mark m) = ⊥
   IsLeaf last = ⊥
@@ -113,12 +113,12 @@ module _ (table texts : List (List ℕ)) where
   a_name_is (mark m) i h = absurd cc
   a_name_is last i h = absurd cc
 
-  a_number_is : (s : Symbol) → is_of a_number s ≡ true → IsLeaf s
-  a_number_is (word w) i = absurd cc
-  a_number_is (number n) i = tt
-  a_number_is (text t) i = absurd cc
-  a_number_is (mark m) i = absurd cc
-  a_number_is last i = absurd cc
+  a_number_is : (s : Symbol) → is_of a_number s ≡ true → IsFineSymbol table texts s → IsLeaf s
+  a_number_is (word w) i h = absurd cc
+  a_number_is (number n) i h = h
+  a_number_is (text t) i h = absurd cc
+  a_number_is (mark m) i h = absurd cc
+  a_number_is last i h = absurd cc
 
   a_text_is : (s : Symbol) → is_of a_text s ≡ true → IsFineSymbol table texts s → IsLeaf s
   a_text_is (word w) i h = absurd cc
@@ -143,7 +143,7 @@ module _ (table texts : List (List ℕ)) where
 
   said : (c : Class) (l : Lexeme) → is_of c l.symbol ≡ true → IsFine table texts l → IsSaid c (says c l)
   said a_name l i h = a_name_is l.symbol i h
-  said a_number l i h = a_number_is l.symbol i
+  said a_number l i h = a_number_is l.symbol i h
   said a_text l i h = a_text_is l.symbol i h
   said (a_word w) l i h = a_word_is w l.symbol i h
   said (a_kept_word w) l i h = the_word_is w l.symbol i

@@ -1,5 +1,5 @@
 -- The number of a word in a table of names.
-use Rattle.std.proofs.Common.{◌≡◌, ◌<◌, ◌≤◌, ◌⊎◌, ℕ, suc, zero, Bool, true, false, List, [], ◌∷◌, ◌++◌, length, Some, None, refl, sym, ap, ◌∙◌, subst, if◌then◌else◌, inl, inr}
+use Rattle.std.proofs.Common.{◌^◌, ◌≡◌, ◌<◌, ◌≤◌, ◌⊎◌, ℕ, suc, zero, Bool, true, false, List, [], ◌∷◌, ◌++◌, length, Some, None, refl, sym, ap, ◌∙◌, subst, if◌then◌else◌, inl, inr}
 use Rattle.std.specs.Prelude.{slice_get, slice_index_or, bytes_eq}
 use Rattle.std.specs.List.{fold, list_any, AllByRecursion}
 use Rattle.std.proofs.lemmas.Slice.Eq.{bytes_eq-Decides}
@@ -89,10 +89,11 @@ pub record HasText (texts : List (List ℕ)) (t : List ℕ) : Type 0 where
   pub number : ℕ
   pub at : slice_get texts number ≡ Some t
 
--- a word or a text that is a token has a number
+-- a word or a text that is a token has a number; a number is below 2^63
 abbrev pub IsFineSymbol : List (List ℕ) → List (List ℕ) → Symbol → Type 0
 IsFineSymbol names texts (word w) = HasNumber names w
 IsFineSymbol names texts (text t) = HasText texts t
+IsFineSymbol names texts (number n) = n < 2 ^ 63
 IsFineSymbol names texts _ = Unit {0}
 
 abbrev pub IsFine : List (List ℕ) → List (List ℕ) → Lexeme → Type 0
@@ -116,7 +117,7 @@ fine names texts (kind.Word n) (text t) h known = absurd h
 fine names texts (kind.Number z) (text t) h known = absurd h
 fine names texts (kind.Mark m) (text t) h known = absurd h
 fine names texts kind.Last (text t) h known = absurd h
-fine names texts k (number n) h known = tt
+fine names texts k (number n) h known = known
 fine names texts k (mark m) h known = tt
 fine names texts k last h known = tt
 

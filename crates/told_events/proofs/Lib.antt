@@ -3,4 +3,4 @@ mod States
 mod Places
 mod Acts
 mod Starts
-mod Runs
+pub mod Runs
