@@ -22,7 +22,7 @@ use Rattle.endpoint_names.specs.Faults.{Setting, repeated, unbound, bound_again,
 use Rattle.endpoint_names.specs.Class.{opening_faults}
 use Rattle.endpoint_laws.proofs.Words.{number_of, same_number}
 use Rattle.endpoint_laws.proofs.Naming.{IsName, AreNames, IsDeedNamed, IsBodyNamed, AreArmsNamed}
-use Rattle.endpoint_laws.proofs.Bodies.{body_text, arms_text}
+use Rattle.faultless_endpoints.specs.Reading.{written_body, written_arms}
 
 -- ---- back from what is written
 
@@ -110,27 +110,27 @@ module _ (i : Input) (distinct : AllDistinct i.names.now) where
     bound bs (Show e) h = refl
     bound bs (Host x f a b) h = refl
 
-    labels : (arms : Arms) → AreArmsNamed ns xs (arms_text i arms) → labels_of (arms_back ns (arms_text i arms)) ≡ labels_of arms
+    labels : (arms : Arms) → AreArmsNamed ns xs (written_arms i arms) → labels_of (arms_back ns (written_arms i arms)) ≡ labels_of arms
     labels NoArms h = refl
     labels (Arm l b others) h = λ j. same_name l h.0 j ∷ labels others h.2 j
 
     mutual
-      pub body : (bs : List NameId) (b : Body) → IsBodyNamed ns xs (body_text i b) → body_faults s bs (body_back ns (body_text i b)) ≡ body_faults s bs b
+      pub body : (bs : List NameId) (b : Body) → IsBodyNamed ns xs (written_body i b) → body_faults s bs (body_back ns (written_body i b)) ≡ body_faults s bs b
       body bs (Does a rest) h =
-          let others = ap (λ cs. body_faults s cs (body_back ns (body_text i rest))) (bound bs a h.0) ∙ body (bound_after bs a) rest h.1 in
+          let others = ap (λ cs. body_faults s cs (body_back ns (written_body i rest))) (bound bs a h.0) ∙ body (bound_after bs a) rest h.1 in
           λ j. action bs a h.0 j ++ others j
       body bs (Offers k a arms) h = λ j. unbound bs (same_name k h.0 j) ++ repeated [] (map sign_of_name (labels arms h.2 j)) ++ of_arms bs arms h.2 j
       body bs (Tests e first second) h = λ j. body bs first h.0 j ++ body bs second h.1 j
       body bs (Calls p c) h = λ j. call_faults s bs (record { name = same_name c.name h.0 j; param = same_name c.param h.1 j; sessions = same_names c.sessions h.2 j })
       body bs Ends h = refl
 
-      of_arms : (bs : List NameId) (arms : Arms) → AreArmsNamed ns xs (arms_text i arms) → arms_faults s bs (arms_back ns (arms_text i arms)) ≡ arms_faults s bs arms
+      of_arms : (bs : List NameId) (arms : Arms) → AreArmsNamed ns xs (written_arms i arms) → arms_faults s bs (arms_back ns (written_arms i arms)) ≡ arms_faults s bs arms
       of_arms bs NoArms h = refl
       of_arms bs (Arm l b others) h = λ j. body bs b h.1 j ++ of_arms bs others h.2 j
 
 -- ---- how a body begins
 
-pub opening : (i : Input) (b : Body) → opening_faults (body_back i.names.now (body_text i b)) ≡ opening_faults b
+pub opening : (i : Input) (b : Body) → opening_faults (body_back i.names.now (written_body i b)) ≡ opening_faults b
 opening i (Does a rest) = refl
 opening i (Offers k a arms) = refl
 opening i (Tests e first second) = refl

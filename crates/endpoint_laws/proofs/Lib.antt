@@ -1,7 +1,6 @@
 pub mod Kept
 pub mod Words
 pub mod Naming
-pub mod Bodies
 mod Faults
 mod Units
 mod Alike

@@ -1,5 +1,5 @@
 -- The faults of a file, from its units as they are written.
-use Rattle.std.proofs.Common.{◌≡◌, ℕ, Bool, List, [], ◌∷◌, ◌++◌, refl, ap, ◌∙◌, subst}
+use Rattle.std.proofs.Common.{sym, ◌≡◌, ℕ, Bool, List, [], ◌∷◌, ◌++◌, refl, ap, ◌∙◌, subst}
 use Rattle.std.specs.Prelude.{map}
 use Rattle.std.specs.List.{flat_map, AllByRecursion}
 use Rattle.chor_base.specs.Words.{AllDistinct}
@@ -24,7 +24,7 @@ use Rattle.endpoint_names.specs.Bodies.{body_at}
 use Rattle.endpoint_names.specs.Faults.{Setting, repeated, names_in, channel_of, unserved, unknown_channel, body_faults, procedure_faults, service_faults, process_faults}
 use Rattle.endpoint_names.specs.Class.{opening_faults, begin_faults}
 use Rattle.endpoint_laws.proofs.Naming.{IsBodyNamed, IsChannelNamed, IsProcedureNamed, IsServiceNamed, IsProcessNamed, AreUnitsNamed}
-use Rattle.endpoint_laws.proofs.Bodies.{at_text}
+use Rattle.faultless_endpoints.proofs.Trees.{bodies_written}
 use Rattle.endpoint_laws.proofs.Faults.{name_back, names_back, signature_back, body_back, same_name, same_names, body, opening}
 
 -- ---- lists
@@ -107,7 +107,7 @@ module _ (i : Input) (distinct : AllDistinct i.names.now) (w : Written) where
 
     body_says : (bs : List NameId) (id : LineId) → IsBodyNamed ns xs (text.body_at i w.lines.items id) → body_faults s bs (body_back ns (text.body_at i w.lines.items id)) ≡ body_faults s bs (body_at w.lines.items id)
     body_says bs id h =
-        let e = at_text i w.lines.items id in
+        let e = sym (bodies_written i w.lines.items id) in
         ap (λ b. body_faults s bs (body_back ns b)) e ∙ body i distinct s bs (body_at w.lines.items id) (subst (IsBodyNamed ns xs) e h)
 
     procedure_same : (p : Procedure) → IsProcedureNamed ns xs (procedure_unit i w.lines.items p) → procedure_says ns s (procedure_unit i w.lines.items p) ≡ procedure_faults s p
@@ -127,7 +127,7 @@ module _ (i : Input) (distinct : AllDistinct i.names.now) (w : Written) where
     process_same p h = body_says [] p.body h.1
 
   beginning_same : (p : Procedure) → beginning_says ns (procedure_unit i w.lines.items p) ≡ opening_faults (body_at w.lines.items p.body)
-  beginning_same p = ap (λ b. opening_faults (body_back ns b)) (at_text i w.lines.items p.body) ∙ opening i (body_at w.lines.items p.body)
+  beginning_same p = ap (λ b. opening_faults (body_back ns b)) (sym (bodies_written i w.lines.items p.body)) ∙ opening i (body_at w.lines.items p.body)
 
   beginnings : (ps : List Procedure) → flat_map (beginning_says ns) (map (procedure_unit i w.lines.items) ps) ≡ flat_map (λ p. opening_faults (body_at w.lines.items p.body)) ps
   beginnings [] = refl

@@ -27,7 +27,8 @@ use Rattle.endpoint_making.proofs.Codes.{code_in}
 use Rattle.endpoint_making.proofs.Kept.{moved}
 use Rattle.endpoint_check.specs.Programs.{AreProgramsOf}
 use Rattle.endpoint_laws.proofs.Naming.{IsPhraseKnown, IsDeedNamed, IsBodyNamed, AreArmsNamed, IsProcedureNamed, IsServiceNamed, IsProcessNamed, AreUnitsNamed}
-use Rattle.endpoint_laws.proofs.Bodies.{body_text, arms_text, at_text}
+use Rattle.faultless_endpoints.specs.Reading.{written_body, written_arms}
+use Rattle.faultless_endpoints.proofs.Trees.{bodies_written}
 use Rattle.endpoint_laws.proofs.Verdicts.{named_so}
 use Rattle.event_reader.specs.Known.{IsInt}
 use Rattle.told_events.specs.Sizes.{IsTermSized, IsActionSized, IsCodeSized, AreArmsSized, AreLiteralsSized}
@@ -70,14 +71,14 @@ module _ (i : Input) where
   action_sized (Host x f a b) h = (term_sized (term_of a) h.2, term_sized (term_of b) h.3)
 
   mutual
-    body_sized : (b : Body) → IsBodyNamed ns xs (body_text i b) → IsCodeSized (code_of b)
+    body_sized : (b : Body) → IsBodyNamed ns xs (written_body i b) → IsCodeSized (code_of b)
     body_sized (Does a rest) h = (action_sized a h.0, body_sized rest h.1)
     body_sized (Offers k a arms) h = arms_sized arms h.2
     body_sized (Tests e first second) h = (term_sized (term_of e) h.2, body_sized first h.0, body_sized second h.1)
     body_sized (Calls p s) h = tt
     body_sized Ends h = tt
 
-    arms_sized : (arms : Arms) → AreArmsNamed ns xs (arms_text i arms) → AreArmsSized (arms_of arms)
+    arms_sized : (arms : Arms) → AreArmsNamed ns xs (written_arms i arms) → AreArmsSized (arms_of arms)
     arms_sized NoArms h = tt
     arms_sized (Arm l b others) h = (body_sized b h.1, arms_sized others h.2)
 
@@ -87,7 +88,7 @@ module _ (i : Input) where
     at_sized : (id : LineId) → IsBodyNamed ns xs (text.body_at i w.lines.items id) → IsCodeSized (code_at e.code.nodes (code_id id))
     at_sized id k =
         let is : code_at e.code.nodes (code_id id) ≡ code_of (body_at w.lines.items id) = ap (λ ts. tree_in ts (code_id id)) m.code ∙ code_in (bodies_of w.lines.items) id in
-        subst IsCodeSized (sym is) (body_sized (body_at w.lines.items id) (subst (IsBodyNamed ns xs) (at_text i w.lines.items id) k))
+        subst IsCodeSized (sym is) (body_sized (body_at w.lines.items id) (subst (IsBodyNamed ns xs) (sym (bodies_written i w.lines.items id)) k))
 
     made_sized : AreLiteralsSized e
     made_sized = record {
