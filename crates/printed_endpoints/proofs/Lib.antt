@@ -1,0 +1,4 @@
+pub mod Reordered
+pub mod Terms
+pub mod Codes
+pub mod Programs
