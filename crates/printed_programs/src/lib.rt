@@ -1,0 +1,14 @@
+//! The text of endpoint programs without a fault is that of endpoint programs.
+#![tactic(auto)]
+
+ghost use Rattle.printed_programs.specs.Laws.{TextIsOfPrograms};
+
+use programs_or_refused::accepted_or_refused;
+
+/// The text of endpoint programs without a fault, where it is no longer than a file may be, is the
+/// text of endpoint programs: what reads it has something to read.
+pub fn text_is_of_programs()
+    ensures { TextIsOfPrograms }
+{
+    accepted_or_refused()
+}
