@@ -1,0 +1,3 @@
+pub mod Merged
+pub mod Codes
+pub mod Services
