@@ -8,4 +8,6 @@ use Rattle.merged_codes.specs.Merges.{IsMadeOf}
 
 -- it is made of them by merging
 abbrev pub LeastIsMade : Type 0
-LeastIsMade = (c : CodeTree) (cs : List CodeTree) (q : CodeTree) → AllByRecursion HasDistinctLabels (c ∷ cs) → IsLeastAbove (c ∷ cs) q → IsMadeOf c cs q
+LeastIsMade =
+    (c : CodeTree) (cs : List CodeTree) (q : CodeTree) → AllByRecursion HasDistinctLabels (c ∷ cs)
+    → IsLeastAbove (c ∷ cs) q → IsMadeOf c cs q

@@ -17,8 +17,10 @@ mutual
   -- each arm of the first is alone or merged with the arm of its label, and then come those that are left of the second
   pub data AreMergedArms : Arms → Arms → Arms → Type 0 where
     left_over : {ds : Arms} → AreMergedArms NoArms ds ds
-    alone : {l : NameId} {c : CodeTree} {cs ds ms : Arms} → has_label l ds ≡ false → AreMergedArms cs ds ms → AreMergedArms (Arm l c cs) ds (Arm l c ms)
-    in_both : {l : NameId} {c d m : CodeTree} {cs ds others ms : Arms} → ArmIsIn l d others ds → IsMerge c d m → AreMergedArms cs others ms → AreMergedArms (Arm l c cs) ds (Arm l m ms)
+    alone : {l : NameId} {c : CodeTree} {cs ds ms : Arms}
+        → has_label l ds ≡ false → AreMergedArms cs ds ms → AreMergedArms (Arm l c cs) ds (Arm l c ms)
+    in_both : {l : NameId} {c d m : CodeTree} {cs ds others ms : Arms}
+        → ArmIsIn l d others ds → IsMerge c d m → AreMergedArms cs others ms → AreMergedArms (Arm l c cs) ds (Arm l m ms)
 
 -- a code merged with these, one after the other
 pub data IsMergeOf : CodeTree → List CodeTree → CodeTree → Type 0 where

@@ -13,4 +13,6 @@ ProjectionOfTextIsWritable = (bytes : List ℕ) (f : File) → IsFileOf bytes f 
 
 -- so it is where the text is accepted
 abbrev pub ProjectionIsWritable : Type 0
-ProjectionIsWritable = (words : List (List ℕ)) (bytes : List ℕ) (f : File) → IsAccepted rules.All words bytes f → (e : Endpoints) → Projects f e → AreWritable e
+ProjectionIsWritable =
+    (words : List (List ℕ)) (bytes : List ℕ) (f : File) → IsAccepted rules.All words bytes f
+    → (e : Endpoints) → Projects f e → AreWritable e

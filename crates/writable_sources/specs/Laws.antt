@@ -9,4 +9,6 @@ use Rattle.writable_sources.specs.Sources.{IsWritableSource}
 
 -- where it is within the limits, it can be written with the tables that the tokens fill
 abbrev pub SourcesAreWritable : Type 0
-SourcesAreWritable = (e : Endpoints) (bytes : List ℕ) (ts : List Token) (s : Source) → AreTokensOf bytes [] [] e.names e.texts ts → IsWithin e.names ts s → IsWritableSource e s
+SourcesAreWritable =
+    (e : Endpoints) (bytes : List ℕ) (ts : List Token) (s : Source) → AreTokensOf bytes [] [] e.names e.texts ts
+    → IsWithin e.names ts s → IsWritableSource e s
