@@ -9,8 +9,9 @@ use Rattle.delegation.specs.Checks.{all_differ}
 use Rattle.well_formed.proofs.References.{true_eq, or_left, or_rights, and_first, and_second}
 use Rattle.type_check.specs.Typed.{IsFine}
 use Rattle.faultless_projections.proofs.Files.{processes_differ}
-use Rattle.source_check.specs.Source.{IsFileOf}
-use Rattle.canonical_laws.proofs.Tables.{are_words}
+use Rattle.source_check.specs.Source.{IsFileOf, IsAccepted}
+use Rattle.source_check.specs.declared.rules.Rules.TheVariants.{All}
+use Rattle.canonical_laws.proofs.Tables.{are_words, distinct_names, distinct_texts}
 use Rattle.event_reader.specs.Known.{AreWords, ProcessesDiffer, IsBook}
 use Rattle.accepted_replays.specs.Sources.{book_of}
 
@@ -41,3 +42,12 @@ book_kept words f fine spelled names texts = record {
 
 pub read_words : (bytes : List ℕ) (f : File) → IsFileOf bytes f → AreWords f.names
 read_words bytes f r n w e = (are_words r.are n w e).0
+
+-- the book of an accepted source tells things apart
+pub book_accepted : (words : List (List ℕ)) (bytes : List ℕ) (f : File) → IsAccepted All words bytes f → IsBook (book_of f)
+book_accepted words bytes f a = record {
+  words = read_words bytes f a.file;
+  names = distinct_names a.file.are;
+  texts = distinct_texts a.file.are;
+  processes = differ (names_in f.processes) (processes_differ f words (record { names = a.faultless.0; protocols = a.faultless.1.0; types = a.faultless.1.1.1.0 }));
+}

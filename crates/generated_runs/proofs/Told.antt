@@ -1,0 +1,54 @@
+-- What is printed of the run of a generated file.
+use Rattle.std.proofs.Common.{◌≡◌, ℕ, suc, Bool, List, [], ◌∷◌, map, length, refl, sym, ap, ◌∙◌, subst}
+use Rattle.std.specs.Prelude.{Result, Ok, Err, IfOk, IfErr}
+use Rattle.chor_base.specs.declared.rule.Denied.{Denied}
+use Rattle.chor_base.specs.declared.rule.Denied.TheVariants.{Refused, Memory}
+use Rattle.chor_base.specs.declared.rule.Refusal.{Refusal}
+use Rattle.chor_tree.specs.declared.file.File.{File}
+use Rattle.source_check.specs.declared.rules.Rules.TheVariants.{All}
+use Rattle.source_check.specs.Classes.{classes_of}
+use Rattle.source_check.specs.Source.{IsBroken}
+use Rattle.generated_files.specs.Laws.{GeneratedIsDeniedByMemory}
+use Rattle.chor_base.specs.declared.event.Event.{Event}
+use Rattle.chor_base.specs.declared.event.Entry.{Entry}
+use Rattle.chor_host.specs.Functions.{Function}
+use Rattle.net_core.specs.Picks.{entries_of}
+use Rattle.simulation.specs.Accepted.{AcceptedView}
+use Rattle.simulation.specs.Runs.{IsOutcomeOf}
+use Rattle.simulation.specs.declared.running.Outcome.{Outcome}
+use Rattle.generated_sources.specs.Generated.{IsGenerated}
+use Rattle.generated_runs.specs.Counts.{events_of, sessions_in, processes_after}
+use Rattle.generated_runs.specs.Texts.{summary_line, IsLineFor, IsSummary}
+
+events_back : (h : List Event) → events_of (entries_of h) ≡ h
+events_back [] = refl
+events_back (x ∷ xs) = ap (λ ys. x ∷ ys) (events_back xs)
+
+as_long : (h : List Event) → length (entries_of h) ≡ length h
+as_long [] = refl
+as_long (x ∷ xs) = ap suc (as_long xs)
+
+pub summary_is : (functions : List Function) (n : ℕ) (a : AcceptedView) (o : Outcome) (text : List ℕ) → IsGenerated a.typed.file n → IsOutcomeOf a functions 0 1000000 o → IsLineFor a.typed.file o.history n text → IsSummary functions n text
+summary_is functions n a o text generated x is =
+    let events : events_of o.history ≡ x.history = ap events_of x.entries_are ∙ events_back x.history in
+    let long : length o.history ≡ length x.history = ap (λ (es : List Entry). length es) x.entries_are ∙ as_long x.history in
+    record {
+      file = a.typed.file;
+      generated = generated;
+      endpoints = a.endpoints;
+      history = x.history;
+      ended = o.ended;
+      run = x.run;
+      text_is = is ∙ (λ i. summary_line n (long i) (sessions_in (events i)) (processes_after (length a.typed.file.processes) (events i)));
+    }
+
+pub ok_so : {X E : Type 0} (P Q : X → Type 0) → ((x : X) → P x → Q x) → (r : Result X E) → IfOk r P → IfOk r Q
+ok_so P Q f (Ok x) h = f x h
+ok_so P Q f (Err e) h = h
+
+-- who judges a generated file doesn't refuse it
+pub not_refused : {X : Type 0} (hosts : List (List ℕ)) (f : File) (n : ℕ) (r : Result X Denied) (x : Refusal) → IsGenerated f n → GeneratedIsDeniedByMemory → IfErr r (IsBroken (classes_of All) hosts f) → r ≡ Err (Refused x) → ⊥
+not_refused hosts f n (Ok a) x generated law h e = cc
+not_refused hosts f n (Err d) x generated law h e =
+    let none : d ≡ Memory = law f n hosts d generated h in
+    cc
