@@ -6,7 +6,8 @@ use Rattle.chor_base.specs.declared.rule.Denied.TheVariants.{Refused, Memory}
 use Rattle.chor_tree.specs.declared.file.File.{File}
 use Rattle.source_check.specs.Source.{IsFileOf, IsDenialOfTokens}
 use Rattle.source_check.proofs.Checked.{unread_so, broken_so}
-use Rattle.chor_cmd.specs.Words.{Reading, Source, Programs}
+use Rattle.source_check.specs.declared.rules.Rules.{Rules}
+use Rattle.chor_cmd.specs.Readings.{Reading, Source, Programs, Nothing}
 use Rattle.chor_cmd.specs.Outputs.{IsFlawed, IsDenied}
 
 -- ---- results
@@ -26,13 +27,16 @@ err_is P (Err d) e h p = subst P (sym h) p
 -- ---- commands that read sources
 
 -- bytes that are no source, for such a command
-pub unread_by : (reading : Reading) (words : List (List ℕ)) (bytes : List ℕ) (d : Denied) → reading ≢ Programs → IsDenialOfTokens bytes d → IsDenied reading words bytes d
-unread_by (Source r) words bytes (Refused x) source h = unread_so r words bytes (Refused x) h
-unread_by (Source r) words bytes Memory source h = tt
-unread_by Programs words bytes d source h = absurd (source refl)
+pub unread_by : (reading : Reading) (rules : Rules) (words : List (List ℕ)) (bytes : List ℕ) (d : Denied) → reading ≡ Source rules → IsDenialOfTokens bytes d → IsDenied reading words bytes d
+unread_by reading rules words bytes d reads h = subst (λ (r : Reading). IsDenied r words bytes d) (sym reads) (go d h)
+  where
+    go : (d : Denied) → IsDenialOfTokens bytes d → IsDenied (Source rules) words bytes d
+    go (Refused x) h = unread_so rules words bytes (Refused x) h
+    go Memory h = tt
 
 -- and a file with a fault
 pub flawed_so : (reading : Reading) (words : List (List ℕ)) (bytes : List ℕ) (f : File) (d : Denied) → IsFileOf bytes f → IsFlawed reading words f d → IsDenied reading words bytes d
 flawed_so (Source r) words bytes f (Refused x) i h = broken_so r words bytes f (Refused x) i h
 flawed_so (Source r) words bytes f Memory i h = tt
 flawed_so Programs words bytes f d i h = absurd h
+flawed_so Nothing words bytes f d i h = absurd h

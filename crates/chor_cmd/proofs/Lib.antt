@@ -1,10 +1,11 @@
 pub mod Written
 pub mod Calls
+pub mod Fetched
 pub mod Answered
+pub mod Asked
 pub mod RunTexts
 pub mod Typed
 pub mod SameTexts
-pub mod OptionWords
-pub mod SameWords
+pub mod Replayed
 pub mod Settled
 pub mod Executed

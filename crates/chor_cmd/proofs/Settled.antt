@@ -1,30 +1,34 @@
--- The words, and the file that was read, settle how a call ends.
-use Rattle.std.proofs.Common.{◌≡◌, ◌<◌, ◌≤◌, ℕ, List, None, Some, length, refl, sym, ap, ◌∙◌, subst, arith}
+-- The words, and the files that were read, settle how a call ends.
+use Rattle.std.proofs.Common.{◌≡◌, ◌<◌, ◌≤◌, ℕ, Bool, List, [], ◌∷◌, None, Some, length, refl, sym, ap, ◌∙◌, subst, arith}
+use Rattle.std.specs.Prelude.{Result, Ok, Err}
 use Rattle.chor_base.specs.declared.rule.Refusal.{Refusal}
 use Rattle.chor_io.specs.Outside.{Risen, ShelfState, SinkState}
 use Rattle.chor_tree.specs.declared.file.File.{File}
 use Rattle.chor_print.specs.Text.{canonical_text}
-use Rattle.chor_cmd.specs.declared.words.Words.{Words}
-use Rattle.chor_cmd.specs.declared.words.Command.{Command}
-use Rattle.chor_cmd.specs.declared.words.Command.TheVariants.{Fmt, Exec}
-use Rattle.chor_cmd.specs.declared.status.Status.{Status}
-use Rattle.chor_cmd.specs.declared.status.Status.TheVariants.{Done, Refused, Usage, ReadFault, WriteFault, Memory, Stuck, TooLarge}
-use Rattle.chor_cmd.specs.declared.options.Options.{Options}
-use Rattle.chor_cmd.specs.Words.{Reading, Source, Programs, reading_of, limit_of, IsForm, NamesFile, HasNoForm}
+use Rattle.replay.specs.declared.answer.Replayed.{Replayed}
+use Rattle.replay.specs.declared.answer.ReplayFault.{ReplayFault}
+use Rattle.replay.specs.declared.answer.ReplayFault.TheVariants.{Unmatched as unlike}
+use Rattle.command_words.specs.declared.words.Words.{Words}
+use Rattle.command_words.specs.declared.words.Command.{Command}
+use Rattle.command_words.specs.declared.words.Command.TheVariants.{Fmt, Exec, Replay, Gen}
+use Rattle.command_words.specs.declared.options.Options.{Options}
+use Rattle.command_words.specs.Words.{IsForm, HasForm, NamesFile, HasNoForm}
+use Rattle.command_words.proofs.SameWords.{same_names, same_command}
 use Rattle.source_check.specs.declared.rules.Rules.{Rules}
-use Rattle.source_check.specs.declared.rules.Rules.TheVariants as rules
+use Rattle.source_check.specs.declared.rules.Rules.TheVariants.{All, Grammar}
 use Rattle.chor_host.specs.Functions.{Function, names_of}
 use Rattle.source_check.specs.Source.{IsFileOf, IsAccepted, Violates, unread, broken}
-use Rattle.chor_cmd.specs.Outputs.{Violated, IsFine, IsAnswer, Answers, of_source, of_programs, usage_line, too_large_line, refused_line}
-use Rattle.chor_cmd.specs.Endings.{Told, Tells, MayTell, MayAsk, Asks, Ends, usage, read_fault, too_large, refused, done, stuck, Wrote, HasEnded, Comes, so, no_memory, unread as not_read, unwritten, GivesUsage, GivesTooLarge, GivesRefusal, GivesAnswer, GivesCanonical, GivesSame}
-use Rattle.chor_cmd.proofs.SameWords.{same_name, same_command}
 use Rattle.source_check.proofs.OneFault.{one_refusal, never_refused}
+use Rattle.chor_cmd.specs.declared.status.Status.{Status}
+use Rattle.chor_cmd.specs.declared.status.Status.TheVariants.{Done, Refused, Usage, ReadFault, WriteFault, Memory, Unmatched, Stuck, TooLarge}
+use Rattle.chor_cmd.specs.Readings.{Reading, Source, Programs, Nothing, reading_of, limits_of}
+use Rattle.chor_cmd.specs.Outputs.{Violated, IsFine, IsAnswer, IsReplayOf, IsGenerated, Answers, of_source, of_programs, of_replay, of_number, usage_line, too_large_line, refused_line, replayed_line, unmatched_line}
+use Rattle.chor_cmd.specs.Endings.{Told, Tells, MayTell, Hold, Exceeds, MayAsk, Asks, MayExceed, IsTooLong, AreFine, Ends, usage, read_fault, too_large, refused, done, unmatched, stuck, Wrote, HasEnded, Comes, so, no_memory, unread as not_read, unwritten}
+use Rattle.chor_cmd.specs.Endings.{GivesUsage, GivesTooLarge, GivesRefusal, GivesAnswer, GivesReplay, GivesUnmatched, GivesGenerated, GivesCanonical, GivesSame}
+use Rattle.chor_cmd.proofs.Asked.{first_is, second_is, first_before, first_after, fits as not_long, none_after, one_long, few_second, fewer_before, two_limits, is_replay}
 use Rattle.chor_cmd.proofs.SameTexts.{text_alike, text_is_source, text_of_text}
-
--- the bytes that may be told of a file are those that are told of it
-same_bytes : (files : Told) (m n b bytes : List ℕ) → m ≡ n → MayTell files m b → Tells files n bytes → b ≡ bytes
-same_bytes None m n b bytes e h t = absurd t
-same_bytes (Some files) m n b bytes e h t = let same : Some b ≡ Some bytes = sym h ∙ ap files e ∙ t in cc
+use Rattle.event_files.specs.Networks.{TellsMore}
+use Rattle.chor_cmd.proofs.Replayed.{one_answer}
 
 module _ (functions : List Function) (words : Words) (shelf shelf' : ShelfState) where
   abbrev hosts : List (List ℕ)
@@ -35,62 +39,167 @@ module _ (functions : List Function) (words : Words) (shelf shelf' : ShelfState)
     as_said : {text : List ℕ} → Says text → Expected status Says status text
     read_failed : {text : List ℕ} (name : List ℕ) → NamesFile words name → Risen (shelf.faults name) (shelf'.faults name) → Expected status Says ReadFault text
 
-  -- what came of a file that is told, and isn't too long
+  -- what came of a command whose first file is told, and isn't too long
   data Became (command : Command) (bytes : List ℕ) : Status → List ℕ → Type 0 where
     violates : (r : Refusal) → Violated (reading_of command) hosts bytes r → Became command bytes Refused (refused_line r)
-    fits : {text : List ℕ} → Answers functions command bytes text → Became command bytes Done text
+    answers : {text : List ℕ} (more : List (List ℕ)) → Answers functions command (bytes ∷ more) text → Became command bytes Done text
+    unlike_at : (file events : ℕ) (log : List ℕ) (i : ℕ) → command ≡ Replay file events → IsReplayOf functions bytes log (Err (unlike i)) → Became command bytes Unmatched (unmatched_line i)
     jammed : {text : List ℕ} (word : ℕ) (options : Options) → command ≡ Exec word options → Became command bytes Stuck text
     failed : {text : List ℕ} (name : List ℕ) → NamesFile words name → Risen (shelf.faults name) (shelf'.faults name) → Became command bytes ReadFault text
+    next_long : {text : List ℕ} (file events : ℕ) (f : File) → command ≡ Replay file events → IsAccepted All hosts bytes f → Became command bytes TooLarge text
 
-  -- the command and the bytes are those that are asked for
-  moved : (P : Command → List ℕ → Type 0) (command c : Command) (bytes b : List ℕ) → Asks words shelf command bytes → MayAsk words shelf c b → P c b → P command bytes
-  moved P command c bytes b a m h =
-      let alike = same_command words c command m.name a.name m.form a.form in
-      let name = same_name words m.name a.name (c, m.form) (command, a.form) in
-      subst (λ (x : List ℕ). P command x) (same_bytes shelf.files m.name a.name b bytes name m.told a.told) (subst (λ (d : Command). P d b) alike h)
+  -- the commands and the names that are asked for are the same
+  module _ (command : Command) (contents : List (List ℕ)) (a : Asks words shelf command contents) where
+    held : (c : Command) (may : List (List ℕ)) → (m : MayAsk words shelf c may) → Hold (MayTell shelf.files) a.names (limits_of command) may
+    held c may m =
+        subst (λ (d : Command). Hold (MayTell shelf.files) a.names (limits_of d) may) (same_command words c command m.names a.names m.form a.form)
+        (subst (λ (ns : List (List ℕ)). Hold (MayTell shelf.files) ns (limits_of c) may) (same_names words c command m.names a.names m.form a.form) m.hold)
 
-  became : (command : Command) (bytes : List ℕ) → Asks words shelf command bytes → (s : Status) (t : List ℕ) → Ends functions words shelf shelf' s t → Became command bytes s t
-  became command bytes a s t (usage none) = absurd (none a.name (command, a.form))
-  became command bytes a s t (read_fault name n r) = failed name n r
-  became command bytes a s t (too_large c name b form told l) =
-      let e = same_bytes shelf.files name a.name b bytes (same_name words name a.name (c, form) (command, a.form)) told a.told in
-      let alike = same_command words c command name a.name form a.form in
-      let k = subst (λ (d : Command). limit_of (reading_of d) < length b) alike l in
-      absurd (omega (arith, ap length e, a.few, k))
-  became command bytes a s t (refused c b r m v) = violates r (moved (λ d x. Violated (reading_of d) hosts x r) command c bytes b a m v)
-  became command bytes a s t (done c b text m x) = fits (moved (λ d y. Answers functions d y text) command c bytes b a m x)
-  became command bytes a s t (stuck w o b text m x) = jammed w o (sym (same_command words (Exec w o) command m.name a.name m.form a.form))
+    exceeded : (c : Command) (may : List (List ℕ)) (name : List ℕ) → (m : MayExceed words shelf c may name) → Exceeds (MayTell shelf.files) a.names (limits_of command) may name
+    exceeded c may name m =
+        subst (λ (d : Command). Exceeds (MayTell shelf.files) a.names (limits_of d) may name) (same_command words c command m.names a.names m.form a.form)
+        (subst (λ (ns : List (List ℕ)). Exceeds (MayTell shelf.files) ns (limits_of c) may name) (same_names words c command m.names a.names m.form a.form) m.exceeds)
+
+    asked : (c : Command) (may : List (List ℕ)) → MayAsk words shelf c may → c ≡ command
+    asked c may m = same_command words c command m.names a.names m.form a.form
+
+  module _ (command : Command) (bytes : List ℕ) (a : Asks words shelf command (bytes ∷ [])) where
+    first : (c : Command) (b : List ℕ) (more : List (List ℕ)) → MayAsk words shelf c (b ∷ more) → b ≡ bytes
+    first c b more m = first_is shelf.files a.names (limits_of command) bytes b [] more a.hold (held command (bytes ∷ []) a c (b ∷ more) m)
+
+    -- a command that reads a file makes none of a number
+    no_number : (n : ℕ) (whole : Bool) → command ≡ Gen n whole → ⊥
+    no_number n whole e = none a.names (subst (λ (d : Command). Hold (Tells shelf.files) a.names (limits_of d) (bytes ∷ [])) e a.hold)
+      where
+        none : (names : List (List ℕ)) → Hold (Tells shelf.files) names [] (bytes ∷ []) → ⊥
+        none [] h = h
+        none (name ∷ names) h = h
+
+    became_done : (c : Command) (contents : List (List ℕ)) (text : List ℕ) → MayAsk words shelf c contents → Answers functions c contents text → Became command bytes Done text
+    became_done c [] text m x = nothing (subst (λ (d : Command). Answers functions d [] text) (asked command (bytes ∷ []) a c [] m) x)
+      where
+        nothing : Answers functions command [] text → Became command bytes Done text
+        nothing (of_source b f e i o) = absurd (omega (arith, ap length e))
+        nothing (of_programs b w o e k r) = absurd (omega (arith, ap length e))
+        nothing (of_replay b l i j r e k p t) = absurd (omega (arith, ap length e))
+        nothing (of_number n whole e k g) = absurd (no_number n whole k)
+    became_done c (b ∷ more) text m x =
+        answers more (subst (λ (y : List ℕ). Answers functions command (y ∷ more) text) (first c b more m)
+        (subst (λ (d : Command). Answers functions d (b ∷ more) text) (asked command (bytes ∷ []) a c (b ∷ more) m) x))
+
+    became_long : (c : Command) (before : List (List ℕ)) (name text : List ℕ) → MayExceed words shelf c before name → AreFine functions before → Became command bytes TooLarge text
+    became_long c [] name text m fine = absurd (not_long shelf.files a.names (limits_of command) (bytes ∷ []) [] name a.hold (omega arith) (exceeded command (bytes ∷ []) a c [] name m))
+    became_long c (b ∷ more) name text m fine =
+        let e = exceeded command (bytes ∷ []) a c (b ∷ more) name m in
+        let fewer = fewer_before (MayTell shelf.files) a.names (limits_of command) (b ∷ more) name e in
+        let is = is_replay command (omega (arith, fewer)) in
+        let same = first_before shelf.files a.names (limits_of command) bytes b name [] more a.hold e in
+        next_long is.0 is.1.0 fine.0 is.1.1 (subst (λ (y : List ℕ). IsAccepted All hosts y fine.0) same fine.1)
+
+    became : (s : Status) (t : List ℕ) → Ends functions words shelf shelf' s t → Became command bytes s t
+    became s t (usage none) = absurd (none (record { command = command; names = a.names; form = a.form }))
+    became s t (read_fault name n r) = failed name n r
+    became s t (too_large c before name m fine) = became_long c before name _ m fine
+    became s t (refused c b r m v) =
+        violates r (subst (λ (y : List ℕ). Violated (reading_of command) hosts y r) (first c b [] m) (subst (λ (d : Command). Violated (reading_of d) hosts b r) (asked command (bytes ∷ []) a c (b ∷ []) m) v))
+    became s t (done c contents text m x) = became_done c contents text m x
+    became s t (unmatched file events b log i m x) =
+        unlike_at file events log i (sym (asked command (bytes ∷ []) a (Replay file events) (b ∷ log ∷ []) m)) (subst (λ (y : List ℕ). IsReplayOf functions y log (Err (unlike i))) (first (Replay file events) b (log ∷ []) m) x)
+    became s t (stuck w o b text m x) = jammed w o (sym (asked command (bytes ∷ []) a (Exec w o) (b ∷ []) m))
 
   -- ---- what is expected
 
   usual : HasNoForm words → (s : Status) (t : List ℕ) → Ends functions words shelf shelf' s t → Expected Usage (λ text. text ≡ usage_line) s t
   usual none s t (usage i) = as_said refl
-  usual none s t (read_fault name n r) = absurd (none name n)
-  usual none s t (too_large c name b form told l) = absurd (none name (c, form))
-  usual none s t (refused c b r m v) = absurd (none m.name (c, m.form))
-  usual none s t (done c b text m x) = absurd (none m.name (c, m.form))
-  usual none s t (stuck w o b text m x) = absurd (none m.name (Exec w o, m.form))
+  usual none s t (read_fault name n r) = absurd (none (record { command = n.command; names = n.names; form = n.form }))
+  usual none s t (too_large c before name m fine) = absurd (none (record { command = c; names = m.names; form = m.form }))
+  usual none s t (refused c b r m v) = absurd (none (record { command = c; names = m.names; form = m.form }))
+  usual none s t (done c contents text m x) = absurd (none (record { command = c; names = m.names; form = m.form }))
+  usual none s t (unmatched i j b log k m x) = absurd (none (record { command = Replay i j; names = m.names; form = m.form }))
+  usual none s t (stuck w o b text m x) = absurd (none (record { command = Exec w o; names = m.names; form = m.form }))
 
-  module _ (command : Command) (name bytes : List ℕ) (form : IsForm words command name) (told : Tells shelf.files name bytes) (long : limit_of (reading_of command) < length bytes) where
-    not_few : (c : Command) (b : List ℕ) → MayAsk words shelf c b → ⊥
-    not_few c b m =
-        let e = same_bytes shelf.files m.name name b bytes (same_name words m.name name (c, m.form) (command, form)) m.told told in
-        let alike = same_command words c command m.name name m.form form in
-        let few = subst (λ (d : Command). length b ≤ limit_of (reading_of d)) alike m.few in
-        omega (arith, ap length e, few, long)
+  -- ---- a file that is too long
+
+  module _ (command : Command) (contents : List (List ℕ)) (name : List ℕ) (l : IsTooLong words shelf command contents name) (fine : AreFine functions contents) where
+    long_as : (c : Command) → (names : List (List ℕ)) → IsForm words c names → c ≡ command
+    long_as c names form = same_command words c command names l.names form l.form
+
+    read_of : (c : Command) (may : List (List ℕ)) → (m : MayAsk words shelf c may) → Hold (MayTell shelf.files) l.names (limits_of command) may
+    read_of c may m =
+        subst (λ (d : Command). Hold (MayTell shelf.files) l.names (limits_of d) may) (long_as c m.names m.form)
+        (subst (λ (ns : List (List ℕ)). Hold (MayTell shelf.files) ns (limits_of c) may) (same_names words c command m.names l.names m.form l.form) m.hold)
+
+    long_of : (c : Command) (before : List (List ℕ)) (other : List ℕ) → (m : MayExceed words shelf c before other) → Exceeds (MayTell shelf.files) l.names (limits_of command) before other
+    long_of c before other m =
+        subst (λ (d : Command). Exceeds (MayTell shelf.files) l.names (limits_of d) before other) (long_as c m.names m.form)
+        (subst (λ (ns : List (List ℕ)). Exceeds (MayTell shelf.files) ns (limits_of c) before other) (same_names words c command m.names l.names m.form l.form) m.exceeds)
+
+    fewer_read : (c : Command) (may : List (List ℕ)) → MayAsk words shelf c may → length may < length (limits_of command)
+    fewer_read c may m =
+        let after = none_after shelf.files l.names (limits_of command) contents may name l.exceeds (read_of c may m) in
+        let fewer = fewer_before (Tells shelf.files) l.names (limits_of command) contents name l.exceeds in
+        omega (arith, after, fewer)
+
+    -- where a file was read, the next is an events file
+    reads_events : (c : Command) (b : List ℕ) (more : List (List ℕ)) → MayAsk words shelf c (b ∷ more) → (file : ℕ) × ((events : ℕ) × (command ≡ Replay file events))
+    reads_events c b more m = let fewer = fewer_read c (b ∷ more) m in is_replay command (omega (arith, fewer))
+
+    not_two : (c : Command) (b d : List ℕ) → MayAsk words shelf c (b ∷ d ∷ []) → ⊥
+    not_two c b d m = let fewer = fewer_read c (b ∷ d ∷ []) m in let two = two_limits command in omega (arith, fewer, two)
+
+    not_exec : (w : ℕ) (o : Options) (b : List ℕ) → MayAsk words shelf (Exec w o) (b ∷ []) → ⊥
+    not_exec w o b m =
+        let is = reads_events (Exec w o) b [] m in
+        let other : Exec w o ≡ Replay is.0 is.1.0 = long_as (Exec w o) m.names m.form ∙ is.1.1 in
+        cc
+
+    -- a source that was read before an events file isn't refused
+    not_refused : (c : Command) (b : List ℕ) (r : Refusal) → MayAsk words shelf c (b ∷ []) → Violated (reading_of c) hosts b r → ⊥
+    not_refused c b r m v = go contents l.exceeds fine
+      where
+        go : (cs : List (List ℕ)) → Exceeds (Tells shelf.files) l.names (limits_of command) cs name → AreFine functions cs → ⊥
+        go [] e f = let after = none_after shelf.files l.names (limits_of command) [] (b ∷ []) name e (read_of c (b ∷ []) m) in omega (arith, after)
+        go (t ∷ ts) e f =
+            let is = reads_events c b [] m in
+            let same = first_after shelf.files l.names (limits_of command) t b name ts [] e (read_of c (b ∷ []) m) in
+            let w = subst (λ (d : Command). Violated (reading_of d) hosts b r) (long_as c m.names m.form ∙ is.1.1) v in
+            never_refused All hosts t f.0 r f.1 (subst (λ (y : List ℕ). Violates All hosts y r) same w)
+
+    not_done : (c : Command) (cs : List (List ℕ)) (text : List ℕ) → MayAsk words shelf c cs → Answers functions c cs text → ⊥
+    not_done c cs text m (of_source b f e i o) =
+        let m' = subst (λ (k : List (List ℕ)). MayAsk words shelf c k) e m in
+        let is = reads_events c b [] m' in
+        let o' = subst (λ (d : Command). IsAnswer functions d f text) (long_as c m.names m.form ∙ is.1.1) o in
+        o'.output
+    not_done c cs text m (of_programs b w o e k r) = not_exec w o b (subst (λ (d : Command). MayAsk words shelf d (b ∷ [])) k (subst (λ (x : List (List ℕ)). MayAsk words shelf c x) e m))
+    not_done c cs text m (of_replay b log i j r e k p t) = not_two c b log (subst (λ (x : List (List ℕ)). MayAsk words shelf c x) e m)
+    not_done c cs text m (of_number n whole e k g) =
+        let fewer = fewer_read c cs m in
+        let none = subst (λ (d : Command). length cs < length (limits_of d)) (sym (long_as c m.names m.form) ∙ k) fewer in
+        omega (arith, none)
 
     too_long : (s : Status) (t : List ℕ) → Ends functions words shelf shelf' s t → Expected TooLarge (λ text. text ≡ too_large_line name) s t
-    too_long s t (usage none) = absurd (none name (command, form))
+    too_long s t (usage none) = absurd (none (record { command = command; names = l.names; form = l.form }))
     too_long s t (read_fault m n r) = read_failed m n r
-    too_long s t (too_large c m b f may l) = as_said (ap too_large_line (same_name words m name (c, f) (command, form)))
-    too_long s t (refused c b r m v) = absurd (not_few c b m)
-    too_long s t (done c b text m x) = absurd (not_few c b m)
-    too_long s t (stuck w o b text m x) = absurd (not_few (Exec w o) b m)
+    too_long s t (too_large c before other m f) = as_said (ap too_large_line (one_long shelf.files l.names (limits_of command) contents before name other l.exceeds (long_of c before other m)))
+    too_long s t (refused c b r m v) = absurd (not_refused c b r m v)
+    too_long s t (done c cs text m x) = absurd (not_done c cs text m x)
+    too_long s t (unmatched i j b log k m x) = absurd (not_two (Replay i j) b log m)
+    too_long s t (stuck w o b text m x) = absurd (not_exec w o b m)
+
+  -- ---- a source
 
   module _ (command : Command) (rules : Rules) (bytes : List ℕ) (reads : reading_of command ≡ Source rules) where
     -- such a command runs no endpoint programs
     no_programs : (word : ℕ) (options : Options) → command ≡ Exec word options → ⊥
     no_programs word options e = let other : Programs ≡ Source rules = sym (ap reading_of e) ∙ reads in cc
+
+    -- a replay asks all rules
+    all_rules : (file events : ℕ) → command ≡ Replay file events → All ≡ rules
+    all_rules file events e = let other : Source All ≡ Source rules = sym (ap reading_of e) ∙ reads in cc
+
+    accepted_so : (file events : ℕ) (f : File) → command ≡ Replay file events → IsAccepted All hosts bytes f → IsAccepted rules hosts bytes f
+    accepted_so file events f e i = subst (λ (q : Rules). IsAccepted q hosts bytes f) (all_rules file events e) i
 
     by_rules : (r : Refusal) → Violated (reading_of command) hosts bytes r → Violates rules hosts bytes r
     by_rules r v = subst (λ (x : Reading). Violated x hosts bytes r) reads v
@@ -98,38 +207,179 @@ module _ (functions : List Function) (words : Words) (shelf shelf' : ShelfState)
     accepted : (file : File) {text : List ℕ} → IsFileOf bytes file → IsAnswer functions command file text → IsAccepted rules hosts bytes file
     accepted file i a = record { file = i; faultless = subst (λ (x : Reading). IsFine x hosts file) reads a.faultless }
 
+    not_answered : (q : Refusal) (more : List (List ℕ)) (text : List ℕ) → Violates rules hosts bytes q → Answers functions command (bytes ∷ more) text → ⊥
+    not_answered q more text v (of_source b file e i a) =
+        let same : b ≡ bytes = cc in
+        never_refused rules hosts bytes file q (accepted file (subst (λ (y : List ℕ). IsFileOf y file) same i) a) v
+    not_answered q more text v (of_programs b w o e k x) = no_programs w o k
+    not_answered q more text v (of_replay b log i j r e k p t) =
+        let same : b ≡ bytes = cc in
+        never_refused rules hosts bytes p.file q (accepted_so i j p.file k (subst (λ (y : List ℕ). IsAccepted All hosts y p.file) same p.accepted)) v
+    not_answered q more text v (of_number n whole e k g) = omega (arith, ap length e)
+
     is_refused : (q : Refusal) → Violates rules hosts bytes q → (s : Status) (t : List ℕ) → Became command bytes s t → Expected Refused (λ text. text ≡ refused_line q) s t
     is_refused q v s t (violates r w) = as_said (ap refused_line (one_refusal rules hosts bytes r q (by_rules r w) v))
-    is_refused q v s t (fits (of_source file i a)) = absurd (never_refused rules hosts bytes file q (accepted file i a) v)
-    is_refused q v s t (fits (of_programs w o e x)) = absurd (no_programs w o e)
+    is_refused q v s t (answers more x) = absurd (not_answered q more t v x)
+    is_refused q v s t (unlike_at i j log k e p) = absurd (never_refused rules hosts bytes p.file q (accepted_so i j p.file e p.accepted) v)
     is_refused q v s t (jammed w o e) = absurd (no_programs w o e)
     is_refused q v s t (failed name n r) = read_failed name n r
+    is_refused q v s t (next_long i j f e p) = absurd (never_refused rules hosts bytes f q (accepted_so i j f e p) v)
 
-    is_done : (g : File) → IsAccepted rules hosts bytes g → (s : Status) (t : List ℕ) → Became command bytes s t → Expected Done (Answers functions command bytes) s t
-    is_done g i s t (violates r w) = absurd (never_refused rules hosts bytes g r i (by_rules r w))
-    is_done g i s t (fits x) = as_said x
-    is_done g i s t (jammed w o e) = absurd (no_programs w o e)
-    is_done g i s t (failed name n r) = read_failed name n r
+    module _ (one : length (limits_of command) ≡ 1) where
+      no_replay : (file events : ℕ) → command ≡ Replay file events → ⊥
+      no_replay file events e = omega (arith, one, ap (λ c. length (limits_of c)) e)
+
+      alone : (more : List (List ℕ)) (text : List ℕ) → Answers functions command (bytes ∷ more) text → Answers functions command (bytes ∷ []) text
+      alone more text (of_source b file e i a) = let same : bytes ≡ b = cc in of_source b file (ap (λ x. x ∷ []) same) i a
+      alone more text (of_programs b w o e k x) = absurd (no_programs w o k)
+      alone more text (of_replay b log i j r e k p t) = absurd (no_replay i j k)
+      alone more text (of_number n whole e k g) = absurd (omega (arith, ap length e))
+
+      is_done : (g : File) → IsAccepted rules hosts bytes g → (s : Status) (t : List ℕ) → Became command bytes s t → Expected Done (Answers functions command (bytes ∷ [])) s t
+      is_done g i s t (violates r w) = absurd (never_refused rules hosts bytes g r i (by_rules r w))
+      is_done g i s t (answers more x) = as_said (alone more t x)
+      is_done g i s t (unlike_at k j log n e p) = absurd (no_replay k j e)
+      is_done g i s t (jammed w o e) = absurd (no_programs w o e)
+      is_done g i s t (failed name n r) = read_failed name n r
+      is_done g i s t (next_long k j f e p) = absurd (no_replay k j e)
+
+  -- ---- `fmt`
 
   module _ (word : ℕ) (bytes : List ℕ) (g : File) (i : IsFileOf bytes g) where
-    no_exec : (w : ℕ) (options : Options) → Fmt word ≡ Exec w options → ⊥
-    no_exec w options e = cc
+    -- what is written of a file is its canonical text
+    written_of : (b : List ℕ) (more : List (List ℕ)) (text : List ℕ) → Answers functions (Fmt word) (b ∷ more) text → (file : File) × (IsFileOf b file × (text ≡ canonical_text file))
+    written_of b more text (of_source c file e k a) = let same : c ≡ b = cc in (file, (subst (λ (y : List ℕ). IsFileOf y file) same k, a.output))
+    written_of b more text (of_programs c w o e k x) = absurd cc
+    written_of b more text (of_replay c log m j r e k p t) = absurd cc
+    written_of b more text (of_number n whole e k x) = absurd cc
 
     is_canonical : (s : Status) (t : List ℕ) → Became (Fmt word) bytes s t → Expected Done (λ text. text ≡ canonical_text g) s t
-    is_canonical s t (violates r w) = absurd (never_refused rules.Grammar hosts bytes g r (record { file = i; faultless = tt }) w)
-    is_canonical s t (fits (of_source file k a)) = as_said (a.output ∙ text_alike bytes file g k i)
-    is_canonical s t (fits (of_programs w o e x)) = absurd (no_exec w o e)
-    is_canonical s t (jammed w o e) = absurd (no_exec w o e)
+    is_canonical s t (violates r w) = absurd (never_refused Grammar hosts bytes g r (record { file = i; faultless = tt }) w)
+    is_canonical s t (answers more x) = let o = written_of bytes more t x in as_said (o.1.1 ∙ text_alike bytes o.0 g o.1.0 i)
+    is_canonical s t (unlike_at k j log n e p) = absurd cc
+    is_canonical s t (jammed w o e) = absurd cc
     is_canonical s t (failed name n r) = read_failed name n r
+    is_canonical s t (next_long k j f e p) = absurd cc
 
     -- what the canonical text itself gets
     is_same : (s : Status) (t : List ℕ) → Became (Fmt word) (canonical_text g) s t → Expected Done (λ text. text ≡ canonical_text g) s t
     is_same s t (violates r (unread v none)) = absurd (text_is_source bytes g i r.rule r.place v)
     is_same s t (violates r (broken k b)) = absurd b
-    is_same s t (fits (of_source file k a)) = as_said (a.output ∙ text_of_text bytes g i file k)
-    is_same s t (fits (of_programs w o e x)) = absurd (no_exec w o e)
-    is_same s t (jammed w o e) = absurd (no_exec w o e)
+    is_same s t (answers more x) = let o = written_of (canonical_text g) more t x in as_said (o.1.1 ∙ text_of_text bytes g i o.0 o.1.0)
+    is_same s t (unlike_at k j log n e p) = absurd cc
+    is_same s t (jammed w o e) = absurd cc
     is_same s t (failed name n r) = read_failed name n r
+    is_same s t (next_long k j f e p) = absurd cc
+
+  -- ---- `replay`
+
+  module _ (file events : ℕ) (bytes log : List ℕ) (a : Asks words shelf (Replay file events) (bytes ∷ log ∷ [])) (answer : Result Replayed ReplayFault) (told : IsReplayOf functions bytes log answer) where
+    alike : (c : Command) (names : List (List ℕ)) → IsForm words c names → c ≡ Replay file events
+    alike c names form = same_command words c (Replay file events) names a.names form a.form
+
+    same_contents : (c : Command) (b l : List ℕ) → MayAsk words shelf c (b ∷ l ∷ []) → (b ≡ bytes) × (l ≡ log)
+    same_contents c b l m =
+        let h = held (Replay file events) (bytes ∷ log ∷ []) a c (b ∷ l ∷ []) m in
+        (first_is shelf.files a.names (limits_of (Replay file events)) bytes b (log ∷ []) (l ∷ []) a.hold h, second_is shelf.files a.names (limits_of (Replay file events)) bytes b log l [] [] a.hold h)
+
+    few_log : length log ≤ 67108864
+    few_log = few_second shelf.files a.names 1048576 67108864 bytes log a.hold
+
+    agrees : (c : Command) (b l : List ℕ) (other : Result Replayed ReplayFault) → MayAsk words shelf c (b ∷ l ∷ []) → IsReplayOf functions b l other → IsReplayOf functions bytes log other
+    agrees c b l other m x =
+        let same = same_contents c b l m in
+        subst (λ (y : List ℕ). IsReplayOf functions bytes y other) same.1 (subst (λ (y : List ℕ). IsReplayOf functions y l other) same.0 x)
+
+    short : (c : Command) (before : List (List ℕ)) (name : List ℕ) → MayExceed words shelf c before name → ⊥
+    short c before name m =
+        let e = exceeded (Replay file events) (bytes ∷ log ∷ []) a c before name m in
+        let fewer = fewer_before (MayTell shelf.files) a.names (limits_of (Replay file events)) before name e in
+        not_long shelf.files a.names (limits_of (Replay file events)) (bytes ∷ log ∷ []) before name a.hold (omega (arith, fewer)) e
+
+    fine : (c : Command) (b : List ℕ) (r : Refusal) → MayAsk words shelf c (b ∷ []) → Violated (reading_of c) hosts b r → ⊥
+    fine c b r m v =
+        let h = held (Replay file events) (bytes ∷ log ∷ []) a c (b ∷ []) m in
+        let same = first_is shelf.files a.names (limits_of (Replay file events)) bytes b (log ∷ []) [] a.hold h in
+        let w = subst (λ (d : Command). Violated (reading_of d) hosts b r) (alike c m.names m.form) v in
+        never_refused All hosts bytes told.file r told.accepted (subst (λ (y : List ℕ). Violates All hosts y r) same w)
+
+    no_exec : (w : ℕ) (o : Options) (names : List (List ℕ)) → IsForm words (Exec w o) names → ⊥
+    no_exec w o names form = let other = alike (Exec w o) names form in cc
+
+    -- each line matches
+    is_replayed : (r : Replayed) → answer ≡ Ok r → (s : Status) (t : List ℕ) → Ends functions words shelf shelf' s t → Expected Done (λ text. text ≡ replayed_line r) s t
+    is_replayed r is s t (usage none) = absurd (none (record { command = Replay file events; names = a.names; form = a.form }))
+    is_replayed r is s t (read_fault name n q) = read_failed name n q
+    is_replayed r is s t (too_large c before name m f) = absurd (short c before name m)
+    is_replayed r is s t (refused c b q m v) = absurd (fine c b q m v)
+    is_replayed r is s t (done c cs text m x) = as_said (replay_text c cs t m x)
+      where
+        replay_text : (c : Command) (cs : List (List ℕ)) (text : List ℕ) → MayAsk words shelf c cs → Answers functions c cs text → text ≡ replayed_line r
+        replay_text c cs text m (of_source b f e i o) = absurd (let p = subst (λ (d : Command). IsAnswer functions d f text) (alike c m.names m.form) o in p.output)
+        replay_text c cs text m (of_programs b w o e k x) = absurd (no_exec w o m.names (subst (λ (d : Command). IsForm words d m.names) k m.form))
+        replay_text c cs text m (of_replay b l i j q e k p u) =
+            let m' = subst (λ (x : List (List ℕ)). MayAsk words shelf c x) e m in
+            let same = one_answer functions bytes log answer (Ok q) few_log told (agrees c b l (Ok q) m' p) (told_more r is) tt in
+            let alike_answers : Ok r ≡ Ok q = sym is ∙ same in
+            u ∙ ap replayed_line (cc)
+          where
+            told_more : (r : Replayed) → answer ≡ Ok r → TellsMore answer
+            told_more r is = subst TellsMore (sym is) tt
+        replay_text c cs text m (of_number n whole e k x) = absurd (let other = alike c m.names m.form in let gen : Gen n whole ≡ Replay file events = sym k ∙ other in cc)
+    is_replayed r is s t (unmatched i j b l k m x) =
+        let same = one_answer functions bytes log answer (Err (unlike k)) few_log told (agrees (Replay i j) b l (Err (unlike k)) m x) (subst TellsMore (sym is) tt) tt in
+        absurd (let other : Ok r ≡ Err (unlike k) = sym is ∙ same in cc)
+    is_replayed r is s t (stuck w o b text m x) = absurd (no_exec w o m.names m.form)
+
+    -- a line is the first that doesn't
+    is_unmatched : (n : ℕ) → answer ≡ Err (unlike n) → (s : Status) (t : List ℕ) → Ends functions words shelf shelf' s t → Expected Unmatched (λ text. text ≡ unmatched_line n) s t
+    is_unmatched n is s t (usage none) = absurd (none (record { command = Replay file events; names = a.names; form = a.form }))
+    is_unmatched n is s t (read_fault name k q) = read_failed name k q
+    is_unmatched n is s t (too_large c before name m f) = absurd (short c before name m)
+    is_unmatched n is s t (refused c b q m v) = absurd (fine c b q m v)
+    is_unmatched n is s t (done c cs text m x) = absurd (no_text c cs text m x)
+      where
+        no_text : (c : Command) (cs : List (List ℕ)) (text : List ℕ) → MayAsk words shelf c cs → Answers functions c cs text → ⊥
+        no_text c cs text m (of_source b f e i o) = let p = subst (λ (d : Command). IsAnswer functions d f text) (alike c m.names m.form) o in p.output
+        no_text c cs text m (of_programs b w o e k x) = no_exec w o m.names (subst (λ (d : Command). IsForm words d m.names) k m.form)
+        no_text c cs text m (of_replay b l i j q e k p u) =
+            let m' = subst (λ (x : List (List ℕ)). MayAsk words shelf c x) e m in
+            let same = one_answer functions bytes log answer (Ok q) few_log told (agrees c b l (Ok q) m' p) (subst TellsMore (sym is) tt) tt in
+            let other : Err (unlike n) ≡ Ok q = sym is ∙ same in
+            cc
+        no_text c cs text m (of_number k whole e g x) = let other = alike c m.names m.form in let gen : Gen k whole ≡ Replay file events = sym g ∙ other in cc
+    is_unmatched n is s t (unmatched i j b l k m x) =
+        let same = one_answer functions bytes log answer (Err (unlike k)) few_log told (agrees (Replay i j) b l (Err (unlike k)) m x) (subst TellsMore (sym is) tt) tt in
+        let other : Err (unlike n) ≡ Err (unlike k) = sym is ∙ same in
+        as_said (ap unmatched_line (cc))
+    is_unmatched n is s t (stuck w o b text m x) = absurd (no_exec w o m.names m.form)
+
+  -- ---- `gen`
+
+  module _ (n : ℕ) (whole : Bool) (a : Asks words shelf (Gen n whole) []) where
+    made : (c : Command) (names : List (List ℕ)) → IsForm words c names → c ≡ Gen n whole
+    made c names form = same_command words c (Gen n whole) names a.names form a.form
+
+    is_generated : (s : Status) (t : List ℕ) → Ends functions words shelf shelf' s t → Expected Done (IsGenerated functions n whole) s t
+    is_generated s t (usage none) = absurd (none (record { command = Gen n whole; names = a.names; form = a.form }))
+    is_generated s t (read_fault name k q) = read_failed name k q
+    is_generated s t (too_large c before name m f) =
+        let fewer = fewer_before (MayTell shelf.files) a.names [] before name (exceeded (Gen n whole) [] a c before name m) in
+        absurd (omega (arith, fewer))
+    is_generated s t (refused c b q m v) = absurd (subst (λ (d : Command). Violated (reading_of d) hosts b q) (made c m.names m.form) v)
+    is_generated s t (done c cs text m x) = as_said (number_text c cs t m x)
+      where
+        number_text : (c : Command) (cs : List (List ℕ)) (text : List ℕ) → MayAsk words shelf c cs → Answers functions c cs text → IsGenerated functions n whole text
+        number_text c cs text m (of_source b f e i o) = absurd (let p = subst (λ (d : Command). IsAnswer functions d f text) (made c m.names m.form) o in p.output)
+        number_text c cs text m (of_programs b w o e k x) = absurd (let other : Exec w o ≡ Gen n whole = sym k ∙ made c m.names m.form in cc)
+        number_text c cs text m (of_replay b l i j q e k p u) = absurd (let other : Replay i j ≡ Gen n whole = sym k ∙ made c m.names m.form in cc)
+        number_text c cs text m (of_number k all e g x) =
+            let same : Gen k all ≡ Gen n whole = sym g ∙ made c m.names m.form in
+            let numbers : k ≡ n = cc in
+            let wholes : all ≡ whole = cc in
+            subst (λ (z : ℕ). IsGenerated functions z whole text) numbers (subst (λ (z : Bool). IsGenerated functions k z text) wholes x)
+    is_generated s t (unmatched i j b l k m x) = absurd (let other = made (Replay i j) m.names m.form in cc)
+    is_generated s t (stuck w o b text m x) = absurd (let other = made (Exec w o) m.names m.form in cc)
 
   -- ---- the call
 
@@ -146,22 +396,32 @@ module _ (functions : List Function) (words : Words) (shelf shelf' : ShelfState)
         go Refused h = written status Says Refused h.0 (expected Refused h.0 h.1) h.2
         go Usage h = written status Says Usage h.0 (expected Usage h.0 h.1) h.2
         go ReadFault h = written status Says ReadFault h.0 (expected ReadFault h.0 h.1) h.2
+        go Unmatched h = written status Says Unmatched h.0 (expected Unmatched h.0 h.1) h.2
         go Stuck h = written status Says Stuck h.0 (expected Stuck h.0 h.1) h.2
         go TooLarge h = written status Says TooLarge h.0 (expected TooLarge h.0 h.1) h.2
         go WriteFault h = unwritten h.0
-        go Memory h = no_memory h.0.0 h.0.1
+        go Memory h = no_memory h.0
 
     pub gives_usage : GivesUsage functions words shelf shelf' sink sink' result
     gives_usage = λ none. comes Usage _ (usual none)
 
     pub gives_too_large : GivesTooLarge functions words shelf shelf' sink sink' result
-    gives_too_large = λ command name bytes form told long. comes TooLarge _ (too_long command name bytes form told long)
+    gives_too_large = λ command contents name long fine. comes TooLarge _ (too_long command contents name long fine)
 
     pub gives_refusal : GivesRefusal functions words shelf shelf' sink sink' result
     gives_refusal = λ command rules bytes r reads a v. comes Refused _ (λ s t e. is_refused command rules bytes reads r v s t (became command bytes a s t e))
 
     pub gives_answer : GivesAnswer functions words shelf shelf' sink sink' result
-    gives_answer = λ command rules bytes f reads a i. comes Done _ (λ s t e. is_done command rules bytes reads f i s t (became command bytes a s t e))
+    gives_answer = λ command rules bytes f reads one a i. comes Done _ (λ s t e. is_done command rules bytes reads one f i s t (became command bytes a s t e))
+
+    pub gives_replay : GivesReplay functions words shelf shelf' sink sink' result
+    gives_replay = λ file events bytes log r a told. comes Done _ (is_replayed file events bytes log a (Ok r) told r refl)
+
+    pub gives_unmatched : GivesUnmatched functions words shelf shelf' sink sink' result
+    gives_unmatched = λ file events bytes log i a told. comes Unmatched _ (is_unmatched file events bytes log a (Err (unlike i)) told i refl)
+
+    pub gives_generated : GivesGenerated functions words shelf shelf' sink sink' result
+    gives_generated = λ n whole a. comes Done _ (is_generated n whole a)
 
     pub gives_canonical : GivesCanonical functions words shelf shelf' sink sink' result
     gives_canonical = λ word bytes f a i. comes Done _ (λ s t e. is_canonical word bytes f i s t (became (Fmt word) bytes a s t e))

@@ -3,9 +3,9 @@ use Rattle.std.proofs.Common.{ℕ, List, Option, Some, None, sym, ap, ◌∙◌,
 use Rattle.chor_host.specs.Functions.{Function}
 use Rattle.chor_io.specs.Outside.{PutTells, Risen, ShelfState, SinkState}
 use Rattle.chor_io.specs.declared.outside.Put.TheVariants as put
-use Rattle.chor_cmd.specs.declared.words.Words.{Words}
+use Rattle.command_words.specs.declared.words.Words.{Words}
 use Rattle.chor_cmd.specs.declared.status.Status.{Status}
-use Rattle.chor_cmd.specs.declared.status.Status.TheVariants.{Done, Refused, Usage, ReadFault, WriteFault, Memory, Stuck, TooLarge}
+use Rattle.chor_cmd.specs.declared.status.Status.TheVariants.{Done, Refused, Usage, ReadFault, WriteFault, Memory, Unmatched, Stuck, TooLarge}
 use Rattle.chor_cmd.specs.Endings.{Ends, Wrote, WroteFront, HasEnded}
 
 wrote : (old new : Option (List ℕ)) (text : List ℕ) → PutTells old new text put.All → Wrote old new text
@@ -23,6 +23,7 @@ module _ (functions : List Function) (words : Words) (shelf shelf' : ShelfState)
   wrote_all Refused text e h = (text, e, wrote sink.written sink'.written text h)
   wrote_all Usage text e h = (text, e, wrote sink.written sink'.written text h)
   wrote_all ReadFault text e h = (text, e, wrote sink.written sink'.written text h)
+  wrote_all Unmatched text e h = (text, e, wrote sink.written sink'.written text h)
   wrote_all Stuck text e h = (text, e, wrote sink.written sink'.written text h)
   wrote_all TooLarge text e h = (text, e, wrote sink.written sink'.written text h)
   wrote_all WriteFault text e h = elim e [ ]

@@ -1,5 +1,5 @@
 -- How a call of the program ends, and with which text (this project's own).
-use Rattle.std.specs.Prelude.{ℕ, ℤ, ◌≡◌, ◌<◌, ◌≤◌, true, List, ◌++◌, length, Option, Some, None}
+use Rattle.std.specs.Prelude.{ℕ, ℤ, ◌≡◌, ◌<◌, ◌≤◌, Bool, true, List, [], ◌∷◌, ◌++◌, length, Option, Some, None, Ok, Err}
 use denote.Param.Members.{Mut}
 use Rattle.chor_base.specs.declared.rule.Refusal.{Refusal}
 use Rattle.chor_tree.specs.declared.file.File.{File}
@@ -8,22 +8,26 @@ use Rattle.chor_host.specs.Functions.{Function, names_of}
 use Rattle.chor_host.specs.Tables.{functions_of}
 use Rattle.chor_io.specs.Outside.{Risen, GrowsByFront, ShelfState, SinkState}
 use Rattle.chor_print.specs.Text.{canonical_text}
-use Rattle.chor_cmd.specs.declared.words.Words.{Words}
+use Rattle.replay.specs.declared.answer.Replayed.{Replayed}
+use Rattle.replay.specs.declared.answer.ReplayFault.TheVariants.{Unmatched as unlike}
+use Rattle.command_words.specs.declared.words.Words.{Words}
 use Rattle.chor_cmd.specs.declared.status.Status.{Status}
-use Rattle.chor_cmd.specs.declared.status.Status.TheVariants.{Done, Refused, Usage, ReadFault, WriteFault, Memory, Stuck, TooLarge}
-use Rattle.chor_cmd.specs.declared.words.Command.{Command}
-use Rattle.chor_cmd.specs.declared.words.Command.TheVariants.{Fmt, Exec}
-use Rattle.chor_cmd.specs.Words.{Source, reading_of, limit_of, IsForm, NamesFile, HasNoForm}
-use Rattle.chor_cmd.specs.declared.options.Options.{Options}
+use Rattle.chor_cmd.specs.declared.status.Status.TheVariants.{Done, Refused, Usage, ReadFault, WriteFault, Memory, Unmatched, Stuck, TooLarge}
+use Rattle.command_words.specs.declared.words.Command.{Command}
+use Rattle.command_words.specs.declared.words.Command.TheVariants.{Fmt, Exec, Replay, Gen}
+use Rattle.command_words.specs.Words.{IsForm, HasForm, NamesFile, HasNoForm}
+use Rattle.chor_cmd.specs.Readings.{Source, reading_of, limit_of, limits_of}
+use Rattle.command_words.specs.declared.options.Options.{Options}
 use Rattle.source_check.specs.declared.rules.Rules.{Rules}
+use Rattle.source_check.specs.declared.rules.Rules.TheVariants.{All}
 use Rattle.source_check.specs.Source.{IsFileOf, IsAccepted, Violates}
-use Rattle.chor_cmd.specs.Outputs.{Violated, IsExecution, Answers, usage_line, read_fault_line, too_large_line, refused_line}
+use Rattle.chor_cmd.specs.Outputs.{Violated, IsExecution, IsReplayOf, IsGenerated, Answers, usage_line, read_fault_line, too_large_line, refused_line, replayed_line, unmatched_line}
 
 -- the names of the host functions that a file may call
 abbrev pub host_names : {X : Type 0} {g : Mut X (ℤ × (ℤ × Unit {0})) ℤ} → HostTable X g → List (List ℕ)
 host_names hosts = names_of (functions_of hosts)
 
--- ---- the file that is asked of the shelf
+-- ---- the files that are asked of the shelf
 
 -- the files by name, where they are told
 abbrev pub Told : Type 0
@@ -39,21 +43,48 @@ abbrev pub MayTell : Told → List ℕ → List ℕ → Type 0
 MayTell None name bytes = Unit {0}
 MayTell (Some files) name bytes = files name ≡ Some bytes
 
--- the words ask for this command on a file that may have these bytes, which aren't too many
-pub record MayAsk (words : Words) (shelf : ShelfState) (command : Command) (bytes : List ℕ) : Type 0 where
-  pub name : List ℕ
-  pub form : IsForm words command name
-  pub told : MayTell shelf.files name bytes
-  pub few : length bytes ≤ limit_of (reading_of command)
+-- The first of the files with these names have these contents, as far as is said of a name and bytes, and none is longer than its limit
+abbrev pub Hold : (List ℕ → List ℕ → Type 0) → List (List ℕ) → List ℕ → List (List ℕ) → Type 0
+Hold Has names limits [] = Unit {0}
+Hold Has (name ∷ names) (limit ∷ limits) (bytes ∷ more) = Has name bytes × (length bytes ≤ limit) × Hold Has names limits more
+Hold Has _ _ (bytes ∷ more) = ⊥
 
--- the same where the file is told with these bytes
-pub record Asks (words : Words) (shelf : ShelfState) (command : Command) (bytes : List ℕ) : Type 0 where
-  pub name : List ℕ
-  pub form : IsForm words command name
-  pub told : Tells shelf.files name bytes
-  pub few : length bytes ≤ limit_of (reading_of command)
+-- The first have these contents, and the next one has this name and is longer than its limit
+abbrev pub Exceeds : (List ℕ → List ℕ → Type 0) → List (List ℕ) → List ℕ → List (List ℕ) → List ℕ → Type 0
+Exceeds Has (file ∷ names) (limit ∷ limits) [] name = (file ≡ name) × ((bytes : List ℕ) × Has file bytes × (limit < length bytes))
+Exceeds Has (file ∷ names) (limit ∷ limits) (bytes ∷ more) name = Has file bytes × (length bytes ≤ limit) × Exceeds Has names limits more name
+Exceeds Has _ _ _ name = ⊥
 
--- no fetch has failed but those of the file that the words name
+-- the words ask for this command, and its files may have these contents, as far as they go
+pub record MayAsk (words : Words) (shelf : ShelfState) (command : Command) (contents : List (List ℕ)) : Type 0 where
+  pub names : List (List ℕ)
+  pub form : IsForm words command names
+  pub hold : Hold (MayTell shelf.files) names (limits_of command) contents
+
+-- the same where the files are told with these contents
+pub record Asks (words : Words) (shelf : ShelfState) (command : Command) (contents : List (List ℕ)) : Type 0 where
+  pub names : List (List ℕ)
+  pub form : IsForm words command names
+  pub hold : Hold (Tells shelf.files) names (limits_of command) contents
+
+-- the file of this name, which follows these contents, may be too long
+pub record MayExceed (words : Words) (shelf : ShelfState) (command : Command) (contents : List (List ℕ)) (name : List ℕ) : Type 0 where
+  pub names : List (List ℕ)
+  pub form : IsForm words command names
+  pub exceeds : Exceeds (MayTell shelf.files) names (limits_of command) contents name
+
+-- the same where the files are told so
+pub record IsTooLong (words : Words) (shelf : ShelfState) (command : Command) (contents : List (List ℕ)) (name : List ℕ) : Type 0 where
+  pub names : List (List ℕ)
+  pub form : IsForm words command names
+  pub exceeds : Exceeds (Tells shelf.files) names (limits_of command) contents name
+
+-- a command reads its next file only after a source that violates no rule
+abbrev pub AreFine : List Function → List (List ℕ) → Type 0
+AreFine functions [] = Unit {0}
+AreFine functions (bytes ∷ more) = (f : File) × IsAccepted All (names_of functions) bytes f
+
+-- no fetch has failed but those of the files that the words name
 abbrev pub FetchesOnly : Words → ShelfState → ShelfState → Type 0
 FetchesOnly words shelf shelf' = (other : List ℕ) → (NamesFile words other → ⊥) → shelf'.faults other ≡ shelf.faults other
 
@@ -64,10 +95,11 @@ FetchesOnly words shelf shelf' = (other : List ℕ) → (NamesFile words other �
 pub data Ends (functions : List Function) (words : Words) (shelf shelf' : ShelfState) : Status → List ℕ → Type 0 where
   usage : HasNoForm words → Ends functions words shelf shelf' Usage usage_line
   read_fault : (name : List ℕ) → NamesFile words name → Risen (shelf.faults name) (shelf'.faults name) → Ends functions words shelf shelf' ReadFault (read_fault_line name)
-  too_large : (command : Command) (name bytes : List ℕ) → IsForm words command name → MayTell shelf.files name bytes → limit_of (reading_of command) < length bytes → Ends functions words shelf shelf' TooLarge (too_large_line name)
-  refused : (command : Command) (bytes : List ℕ) (r : Refusal) → MayAsk words shelf command bytes → Violated (reading_of command) (names_of functions) bytes r → Ends functions words shelf shelf' Refused (refused_line r)
-  done : (command : Command) (bytes text : List ℕ) → MayAsk words shelf command bytes → Answers functions command bytes text → Ends functions words shelf shelf' Done text
-  stuck : (word : ℕ) (options : Options) (bytes text : List ℕ) → MayAsk words shelf (Exec word options) bytes → IsExecution functions options bytes text true → Ends functions words shelf shelf' Stuck text
+  too_large : (command : Command) (contents : List (List ℕ)) (name : List ℕ) → MayExceed words shelf command contents name → AreFine functions contents → Ends functions words shelf shelf' TooLarge (too_large_line name)
+  refused : (command : Command) (bytes : List ℕ) (r : Refusal) → MayAsk words shelf command (bytes ∷ []) → Violated (reading_of command) (names_of functions) bytes r → Ends functions words shelf shelf' Refused (refused_line r)
+  done : (command : Command) (contents : List (List ℕ)) (text : List ℕ) → MayAsk words shelf command contents → Answers functions command contents text → Ends functions words shelf shelf' Done text
+  unmatched : (file events : ℕ) (bytes log : List ℕ) (i : ℕ) → MayAsk words shelf (Replay file events) (bytes ∷ log ∷ []) → IsReplayOf functions bytes log (Err (unlike i)) → Ends functions words shelf shelf' Unmatched (unmatched_line i)
+  stuck : (word : ℕ) (options : Options) (bytes text : List ℕ) → MayAsk words shelf (Exec word options) (bytes ∷ []) → IsExecution functions options bytes text true → Ends functions words shelf shelf' Stuck text
 
 -- where the bytes written are told, exactly this text was added
 abbrev pub Wrote : Option (List ℕ) → Option (List ℕ) → List ℕ → Type 0
@@ -84,16 +116,16 @@ WroteFront (Some old) (Some new) text = GrowsByFront old new text
 abbrev pub HasEnded : List Function → Words → ShelfState → ShelfState → SinkState → SinkState → Status → Type 0
 HasEnded functions words shelf shelf' sink sink' WriteFault =
     Risen sink.faults sink'.faults × ((status : Status) × (text : List ℕ) × Ends functions words shelf shelf' status text × WroteFront sink.written sink'.written text)
-HasEnded functions words shelf shelf' sink sink' Memory = ((name : List ℕ) × NamesFile words name) × (sink'.written ≡ sink.written)
+HasEnded functions words shelf shelf' sink sink' Memory = HasForm words × (sink'.written ≡ sink.written)
 HasEnded functions words shelf shelf' sink sink' status = (text : List ℕ) × Ends functions words shelf shelf' status text × Wrote sink.written sink'.written text
 
 -- ---- which status comes
 
--- A call ends with this status and has written such a text, or there was no memory, or a fetch of the file or a write failed,
+-- A call ends with this status and has written such a text, or there was no memory, or a fetch of a file or a write failed,
 -- and was counted
 pub data Comes (words : Words) (shelf shelf' : ShelfState) (sink sink' : SinkState) (status : Status) (Says : List ℕ → Type 0) : Status → Type 0 where
   so : (text : List ℕ) → Says text → Wrote sink.written sink'.written text → Comes words shelf shelf' sink sink' status Says status
-  no_memory : (name : List ℕ) → NamesFile words name → Comes words shelf shelf' sink sink' status Says Memory
+  no_memory : HasForm words → Comes words shelf shelf' sink sink' status Says Memory
   unread : (name : List ℕ) → NamesFile words name → Risen (shelf.faults name) (shelf'.faults name) → Comes words shelf shelf' sink sink' status Says ReadFault
   unwritten : Risen sink.faults sink'.faults → Comes words shelf shelf' sink sink' status Says WriteFault
 
@@ -102,32 +134,49 @@ module _ (functions : List Function) (words : Words) (shelf shelf' : ShelfState)
   abbrev pub GivesUsage : Type 0
   GivesUsage = HasNoForm words → Comes words shelf shelf' sink sink' Usage (λ text. text ≡ usage_line) result
 
-  -- for a file that is told and too long
+  -- for a file that is told and too long; an events file after a source that violates no rule
   abbrev pub GivesTooLarge : Type 0
   GivesTooLarge =
-      (command : Command) (name bytes : List ℕ) → IsForm words command name → Tells shelf.files name bytes → limit_of (reading_of command) < length bytes
+      (command : Command) (contents : List (List ℕ)) (name : List ℕ) → IsTooLong words shelf command contents name → AreFine functions contents
       → Comes words shelf shelf' sink sink' TooLarge (λ text. text ≡ too_large_line name) result
 
   -- for a source that is told and violates a rule that the command applies
   abbrev pub GivesRefusal : Type 0
   GivesRefusal =
-      (command : Command) (rules : Rules) (bytes : List ℕ) (r : Refusal) → reading_of command ≡ Source rules → Asks words shelf command bytes → Violates rules (names_of functions) bytes r
+      (command : Command) (rules : Rules) (bytes : List ℕ) (r : Refusal) → reading_of command ≡ Source rules → Asks words shelf command (bytes ∷ []) → Violates rules (names_of functions) bytes r
       → Comes words shelf shelf' sink sink' Refused (λ text. text ≡ refused_line r) result
 
-  -- for a source that is told and that the command accepts
+  -- for a command on one source that is told and that it accepts
   abbrev pub GivesAnswer : Type 0
   GivesAnswer =
-      (command : Command) (rules : Rules) (bytes : List ℕ) (f : File) → reading_of command ≡ Source rules → Asks words shelf command bytes → IsAccepted rules (names_of functions) bytes f
-      → Comes words shelf shelf' sink sink' Done (Answers functions command bytes) result
+      (command : Command) (rules : Rules) (bytes : List ℕ) (f : File) → reading_of command ≡ Source rules → length (limits_of command) ≡ 1
+      → Asks words shelf command (bytes ∷ []) → IsAccepted rules (names_of functions) bytes f
+      → Comes words shelf shelf' sink sink' Done (Answers functions command (bytes ∷ [])) result
+
+  -- `replay`, for a source that is told and violates no rule and an events file that is told, each line of which matches
+  abbrev pub GivesReplay : Type 0
+  GivesReplay =
+      (file events : ℕ) (bytes log : List ℕ) (r : Replayed) → Asks words shelf (Replay file events) (bytes ∷ log ∷ []) → IsReplayOf functions bytes log (Ok r)
+      → Comes words shelf shelf' sink sink' Done (λ text. text ≡ replayed_line r) result
+
+  -- and for one whose line with this number is the first that doesn't
+  abbrev pub GivesUnmatched : Type 0
+  GivesUnmatched =
+      (file events : ℕ) (bytes log : List ℕ) (i : ℕ) → Asks words shelf (Replay file events) (bytes ∷ log ∷ []) → IsReplayOf functions bytes log (Err (unlike i))
+      → Comes words shelf shelf' sink sink' Unmatched (λ text. text ≡ unmatched_line i) result
+
+  -- `gen`
+  abbrev pub GivesGenerated : Type 0
+  GivesGenerated = (n : ℕ) (whole : Bool) → Asks words shelf (Gen n whole) [] → Comes words shelf shelf' sink sink' Done (IsGenerated functions n whole) result
 
   -- `fmt`, for a source that is told: its canonical text, whichever file of these bytes is read
   abbrev pub GivesCanonical : Type 0
   GivesCanonical =
-      (word : ℕ) (bytes : List ℕ) (f : File) → Asks words shelf (Fmt word) bytes → IsFileOf bytes f
+      (word : ℕ) (bytes : List ℕ) (f : File) → Asks words shelf (Fmt word) (bytes ∷ []) → IsFileOf bytes f
       → Comes words shelf shelf' sink sink' Done (λ text. text ≡ canonical_text f) result
 
   -- `fmt`, for the canonical text of a file that was read: the same text again
   abbrev pub GivesSame : Type 0
   GivesSame =
-      (word : ℕ) (bytes : List ℕ) (f : File) → IsFileOf bytes f → Asks words shelf (Fmt word) (canonical_text f)
+      (word : ℕ) (bytes : List ℕ) (f : File) → IsFileOf bytes f → Asks words shelf (Fmt word) (canonical_text f ∷ [])
       → Comes words shelf shelf' sink sink' Done (λ text. text ≡ canonical_text f) result

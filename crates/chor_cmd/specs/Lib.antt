@@ -1,6 +1,6 @@
 pub mod Types
-pub mod Options
-pub mod Words
+pub mod Readings
 pub mod Status
 pub mod Outputs
 pub mod Endings
+pub mod Fetches

@@ -1,5 +1,5 @@
 -- What the commands write for a file, and the lines that say what is wrong (this project's own).
-use Rattle.std.specs.Prelude.{ℕ, ◌≡◌, Bool, true, false, List, [], ◌∷◌, ◌++◌, length, map, Option, Some, None, codes}
+use Rattle.std.specs.Prelude.{ℕ, ◌≡◌, Bool, true, false, List, [], ◌∷◌, ◌++◌, length, map, Option, Some, None, Result, Ok, Err, codes}
 use Rattle.std.specs.Fmt.{decimal}
 use Rattle.chor_base.specs.declared.rule.Refusal.{Refusal}
 use Rattle.chor_base.specs.declared.rule.Denied.{Denied}
@@ -14,23 +14,24 @@ use Rattle.projection.specs.Projects.{Projects}
 use Rattle.endpoint_text.specs.Text.{endpoints_text}
 use Rattle.transcript.specs.Text.{Words as Book, transcript}
 use Rattle.chor_print.specs.Text.{canonical_text}
-use Rattle.chor_cmd.specs.declared.words.Command.{Command}
-use Rattle.chor_cmd.specs.declared.words.Command.TheVariants.{Check, Fmt, Types, Project, Run, Exec}
-use Rattle.chor_cmd.specs.declared.options.Options.{Options}
-use Rattle.chor_cmd.specs.Words.{Reading, Source, Programs, reading_of}
+use Rattle.command_words.specs.declared.words.Command.{Command}
+use Rattle.command_words.specs.declared.words.Command.TheVariants.{Check, Fmt, Types, Project, Run, Exec, Replay, Gen}
+use Rattle.command_words.specs.declared.options.Options.{Options}
+use Rattle.chor_cmd.specs.Readings.{Reading, Source, Programs, Nothing, reading_of}
 use Rattle.chor_host.specs.Functions.{Function, names_of, hosts_in}
 use Rattle.simulation.specs.Runs.{close_of, IsRunOf}
 use Rattle.source_check.specs.Classes.{classes_of, IsFaultless}
-use Rattle.source_check.specs.Source.{IsFileOf, IsBroken, Violates}
+use Rattle.source_check.specs.declared.rules.Rules.TheVariants.{All}
+use Rattle.source_check.specs.Source.{IsFileOf, IsAccepted, IsBroken, Violates}
+use Rattle.replay.specs.declared.answer.Replayed.{Replayed}
+use Rattle.replay.specs.declared.answer.ReplayFault.{ReplayFault}
+use Rattle.accepted_replays.specs.Sources.{book_of, ReplaysSource}
+use Rattle.generated_runs.specs.Texts.{IsGeneratedText, IsSummary}
 use Rattle.endpoint_check.specs.Programs.{AreProgramsOf, ViolatesPrograms}
 use Rattle.program_runs.specs.Transcripts.{IsTranscriptOf}
 use Rattle.chor_cmd.specs.Types.{IsTypesText}
 
 -- ---- the texts
-
--- what the transcripts of a file are written with
-abbrev pub book_of : File → Book
-book_of f = record { names = f.names; texts = f.texts; processes = names_in f.processes }
 
 abbrev pub events_of : List Entry → List Event
 events_of entries = map (λ entry. entry.event) entries
@@ -72,6 +73,8 @@ IsOutput functions (Types word) f text = IsTypesText f text
 IsOutput functions (Project word) f text = IsProjectionText f text
 IsOutput functions (Run word options) f text = IsRunText functions f options text
 IsOutput functions (Exec word options) f text = ⊥
+IsOutput functions (Replay file events) f text = ⊥
+IsOutput functions (Gen n whole) f text = ⊥
 
 -- ---- judging
 
@@ -79,40 +82,24 @@ IsOutput functions (Exec word options) f text = ⊥
 abbrev pub IsFine : Reading → List (List ℕ) → File → Type 0
 IsFine (Source rules) words f = IsFaultless words f (classes_of rules)
 IsFine Programs words f = ⊥
+IsFine Nothing words f = ⊥
 
 -- a file with a fault of them
 abbrev pub IsFlawed : Reading → List (List ℕ) → File → Denied → Type 0
 IsFlawed (Source rules) words f d = IsBroken (classes_of rules) words f d
 IsFlawed Programs words f d = ⊥
+IsFlawed Nothing words f d = ⊥
 
 -- the refusal tells which of the rules the bytes violate, and where
 abbrev pub Violated : Reading → List (List ℕ) → List ℕ → Refusal → Type 0
 Violated (Source rules) words bytes r = Violates rules words bytes r
 Violated Programs words bytes r = ViolatesPrograms words bytes r
+Violated Nothing words bytes r = ⊥
 
 -- the bytes are refused so; want of memory tells nothing
 abbrev pub IsDenied : Reading → List (List ℕ) → List ℕ → Denied → Type 0
 IsDenied reading words bytes (Refused r) = Violated reading words bytes r
 IsDenied reading words bytes Memory = Unit {0}
-
--- ---- answers
-
--- the file violates no rule that the command applies, and this is what the command writes for it
-pub record IsAnswer (functions : List Function) (command : Command) (f : File) (text : List ℕ) : Type 0 where
-  pub faultless : IsFine (reading_of command) (names_of functions) f
-  pub output : IsOutput functions command f text
-
--- the bytes are the text of endpoint programs without fault, and the text is the transcript of their scheduled run with the
--- asked seed and number of steps, which is stuck or not
-pub record IsExecution (functions : List Function) (options : Options) (bytes text : List ℕ) (stuck : Bool) : Type 0 where
-  pub programs : Endpoints
-  pub are : AreProgramsOf (names_of functions) bytes programs
-  pub run : IsTranscriptOf functions programs options.seed options.steps text stuck
-
--- What a command writes for a file with these bytes: for the source that they are, or for a run of endpoint programs that isn't stuck
-pub data Answers (functions : List Function) (command : Command) (bytes text : List ℕ) : Type 0 where
-  of_source : (file : File) → IsFileOf bytes file → IsAnswer functions command file text → Answers functions command bytes text
-  of_programs : (word : ℕ) (options : Options) → command ≡ Exec word options → IsExecution functions options bytes text false → Answers functions command bytes text
 
 -- ---- the lines
 
@@ -136,3 +123,49 @@ who_told (Some name) = 32 ∷ name
 -- `refused`, the rule, its place as line and column, and who it is about
 abbrev pub refused_line : Refusal → List ℕ
 refused_line r = codes "refused " ++ rule_name r.rule ++ codes " " ++ decimal r.place.line ++ codes ":" ++ decimal r.place.col ++ who_told r.who ++ 10 ∷ []
+
+-- whether a run has ended
+abbrev pub state_word : Bool → List ℕ
+state_word true = codes "ended"
+state_word false = codes "open"
+
+-- `replayed 10 ended`, or `open` for a run that hasn't ended
+abbrev pub replayed_line : Replayed → List ℕ
+replayed_line r = codes "replayed " ++ decimal r.count ++ codes " " ++ state_word r.ended ++ 10 ∷ []
+
+-- `unmatched 2`
+abbrev pub unmatched_line : ℕ → List ℕ
+unmatched_line i = codes "unmatched " ++ decimal i ++ 10 ∷ []
+
+-- ---- answers
+
+-- the file violates no rule that the command applies, and this is what the command writes for it
+pub record IsAnswer (functions : List Function) (command : Command) (f : File) (text : List ℕ) : Type 0 where
+  pub faultless : IsFine (reading_of command) (names_of functions) f
+  pub output : IsOutput functions command f text
+
+-- the bytes are the text of endpoint programs without fault, and the text is the transcript of their scheduled run with the
+-- asked seed and number of steps, which is stuck or not
+pub record IsExecution (functions : List Function) (options : Options) (bytes text : List ℕ) (stuck : Bool) : Type 0 where
+  pub programs : Endpoints
+  pub are : AreProgramsOf (names_of functions) bytes programs
+  pub run : IsTranscriptOf functions programs options.seed options.steps text stuck
+
+-- the bytes are the text of a source that violates no rule, and so a replay of the events file in its choreography answers
+pub record IsReplayOf (functions : List Function) (bytes events : List ℕ) (answer : Result Replayed ReplayFault) : Type 0 where
+  pub file : File
+  pub accepted : IsAccepted All (names_of functions) bytes file
+  pub replays : ReplaysSource file (hosts_in file.names functions) events answer
+
+-- what `gen` writes: the generated file's text, or how many events, sessions and processes its run has
+abbrev pub IsGenerated : List Function → ℕ → Bool → List ℕ → Type 0
+IsGenerated functions n true text = IsGeneratedText n text
+IsGenerated functions n false text = IsSummary functions n text
+
+-- What a command writes for files with these contents: for the source that they are, for a run of endpoint programs that isn't stuck,
+-- for a source and an events file each line of which matches, or for no file
+pub data Answers (functions : List Function) (command : Command) (contents : List (List ℕ)) (text : List ℕ) : Type 0 where
+  of_source : (bytes : List ℕ) (file : File) → contents ≡ bytes ∷ [] → IsFileOf bytes file → IsAnswer functions command file text → Answers functions command contents text
+  of_programs : (bytes : List ℕ) (word : ℕ) (options : Options) → contents ≡ bytes ∷ [] → command ≡ Exec word options → IsExecution functions options bytes text false → Answers functions command contents text
+  of_replay : (bytes events : List ℕ) (i j : ℕ) (r : Replayed) → contents ≡ bytes ∷ events ∷ [] → command ≡ Replay i j → IsReplayOf functions bytes events (Ok r) → text ≡ replayed_line r → Answers functions command contents text
+  of_number : (n : ℕ) (whole : Bool) → contents ≡ [] → command ≡ Gen n whole → IsGenerated functions n whole text → Answers functions command contents text

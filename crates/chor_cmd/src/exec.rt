@@ -9,9 +9,9 @@ ghost use Rattle.endpoint_check.specs.Programs.{IsDenialOfPrograms};
 ghost use Rattle.chor_cmd.specs.Endings.{host_names};
 ghost use Rattle.chor_cmd.specs.Outputs.{IsExecution};
 
-use crate::options::Options;
 use chor_base::{Denied, Memory};
 use chor_host::HostTable;
+use command_words::Options;
 use endpoint_check::read_programs;
 use endpoint_code::Endpoints;
 use known_functions::{asks_known, host_names};

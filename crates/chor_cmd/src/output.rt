@@ -1,15 +1,15 @@
 //! Writing the text with which a call ends.
 
-ghost use Rattle.std.specs.Prelude.{◌≡◌, ◌++◌, ℕ, List, IfOk, OnOk};
-ghost use Rattle.chor_cmd.specs.declared.words.Words.{Words as CommandWords};
+ghost use Rattle.std.specs.Prelude.{◌≡◌, ◌++◌, List, IfOk, OnOk};
+ghost use Rattle.command_words.specs.declared.words.Words.{Words as CommandWords};
 ghost use Rattle.chor_host.specs.Functions.{Function};
 ghost use Rattle.chor_io.specs.Outside.{ShelfState};
+ghost use Rattle.command_words.specs.Words.{HasForm};
 ghost use Rattle.chor_cmd.specs.Outputs.{line_naming, refused_line, who_told};
 ghost use Rattle.chor_cmd.specs.Endings.{Ends, HasEnded};
-ghost use Rattle.chor_base.specs.declared.rule.Refusal.{Refusal as RefusalIs};
-ghost use Rattle.chor_base.specs.declared.rule.Denied.TheVariants as denials;
-ghost use Rattle.chor_cmd.specs.Words.{NamesFile};
+ghost use Rattle.chor_cmd.specs.Fetches.{EndsUnread, EndsDenied};
 
+use crate::fetching::Unread;
 use crate::status::Status;
 use chor_base::{Denied, Memory, Refusal, Word, put_bytes, put_number};
 use chor_io::{Put, Sink};
@@ -26,19 +26,30 @@ pub fn finish<K: Sink>(out: &mut K, text: &[u8], status: Status) -> Status
     }
 }
 
-/// Writes a line of these bytes and the name of a file, and answers the status.
-pub fn finish_naming<K: Sink>(
-    alloc: Global,
-    out: &mut K,
-    what: &[u8],
-    name: &Word,
-    status: Status,
-) -> Status
-    ensures { (functions : List Function) (words : CommandWords) (before after : ShelfState) → NamesFile words name.now → Ends functions words before after status (line_naming what.now name.now) → HasEnded functions words before after (K.state out.old) (K.state out.new) result }
+/// Writes a line that was made, or nothing where there was no memory for it, and answers the status.
+pub fn finish_line<K: Sink>(out: &mut K, line: Result<Vec<u8>, Memory>, status: Status) -> Status
+    ensures { (functions : List Function) (words : CommandWords) (before after : ShelfState) → HasForm words → IfOk line (λ l. Ends functions words before after status l.items) → HasEnded functions words before after (K.state out.old) (K.state out.new) result }
 {
-    match naming_line(alloc, what, name) {
+    match line {
         Ok(line) => finish(out, line.as_slice(), status),
         Err(Memory) => Status::Memory,
+    }
+}
+
+/// Writes why the file of this name wasn't read, and answers the status.
+pub fn finish_unread<K: Sink>(alloc: Global, out: &mut K, name: &Word, unread: Unread) -> Status
+    ensures { (functions : List Function) (words : CommandWords) (before after : ShelfState) → HasForm words → EndsUnread functions words before after name.now unread → HasEnded functions words before after (K.state out.old) (K.state out.new) result }
+{
+    match unread {
+        Unread::Failed => {
+            let line = naming_line(alloc, b"read fault ".as_slice(), name);
+            finish_line(out, line, Status::ReadFault)
+        }
+        Unread::TooLong => {
+            let line = naming_line(alloc, b"too large ".as_slice(), name);
+            finish_line(out, line, Status::TooLarge)
+        }
+        Unread::Memory => Status::Memory,
     }
 }
 
@@ -51,22 +62,12 @@ fn naming_line(alloc: Global, what: &[u8], name: &Word) -> Result<Vec<u8>, Memor
     Ok(line)
 }
 
-// Writes the line of a refusal, and answers the status.
-fn finish_refusing<K: Sink>(alloc: Global, out: &mut K, refusal: &Refusal) -> Status
-    ensures { (functions : List Function) (words : CommandWords) (before after : ShelfState) (name : List ℕ) → NamesFile words name → Ends functions words before after Status.Refused (refused_line refusal.now) → HasEnded functions words before after (K.state out.old) (K.state out.new) result }
-{
-    match refused_line(alloc, refusal) {
-        Ok(line) => finish(out, line.as_slice(), Status::Refused),
-        Err(Memory) => Status::Memory,
-    }
-}
-
 /// Writes the line of a refusal, or nothing where there was no memory, and answers the status.
 pub fn finish_denying<K: Sink>(alloc: Global, out: &mut K, denied: &Denied) -> Status
-    ensures { (functions : List Function) (words : CommandWords) (before after : ShelfState) (name : List ℕ) → NamesFile words name → ((r : RefusalIs) → denied.now ≡ denials.Refused r → Ends functions words before after Status.Refused (refused_line r)) → HasEnded functions words before after (K.state out.old) (K.state out.new) result }
+    ensures { (functions : List Function) (words : CommandWords) (before after : ShelfState) → HasForm words → EndsDenied functions words before after denied.now → HasEnded functions words before after (K.state out.old) (K.state out.new) result }
 {
     match denied {
-        Denied::Refused(refusal) => finish_refusing(alloc, out, refusal),
+        Denied::Refused(refusal) => finish_line(out, refused_line(alloc, refusal), Status::Refused),
         Denied::Memory => Status::Memory,
     }
 }

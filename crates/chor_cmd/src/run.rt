@@ -8,13 +8,14 @@ ghost use Rattle.chor_host.specs.Tables.{functions_of};
 ghost use Rattle.source_check.specs.Classes.{IsFaultless, classes_of};
 ghost use Rattle.source_check.specs.Source.{IsBroken};
 ghost use Rattle.source_check.specs.declared.rules.Rules.TheVariants as rules;
-ghost use Rattle.chor_cmd.specs.Outputs.{book_of, events_of, last_line, IsRunText};
+ghost use Rattle.accepted_replays.specs.Sources.{book_of};
+ghost use Rattle.chor_cmd.specs.Outputs.{events_of, last_line, IsRunText};
 ghost use Rattle.chor_cmd.specs.Endings.{host_names};
 
-use crate::options::Options;
 use chor_base::{Denied, Entry, List, Memory, NameId};
 use chor_host::HostTable;
 use chor_tree::{File, Named};
+use command_words::Options;
 use simulation::{Accepted, Outcome, accept, run_accepted};
 use std::alloc::Global;
 use transcript::{Book, print_events};

@@ -18,6 +18,8 @@ pub enum Status {
     WriteFault,
     /// There was no memory.
     Memory,
+    /// A line of an events file doesn't match.
+    Unmatched,
     /// Endpoint programs can't go on.
     Stuck,
     /// The file is longer than its limit.
@@ -36,6 +38,7 @@ impl Status {
             Status::ReadFault => 3,
             Status::WriteFault => 4,
             Status::Memory => 5,
+            Status::Unmatched => 6,
             Status::Stuck => 7,
             Status::TooLarge => 8,
         }

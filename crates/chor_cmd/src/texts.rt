@@ -1,11 +1,11 @@
 //! What the commands write for a source.
 
-ghost use Rattle.std.specs.Prelude.{◌≡◌, ◌≢◌, ◌≤◌, ◌^◌, IfOk, IfErr, OnOk, length, codes};
+ghost use Rattle.std.specs.Prelude.{◌≡◌, ◌≤◌, ◌^◌, [], ◌∷◌, IfOk, IfErr, OnOk, length, codes};
 ghost use Rattle.chor_host.specs.Tables.{functions_of};
 ghost use Rattle.source_check.specs.Classes.{IsFaultless, classes_of};
 ghost use Rattle.source_check.specs.Source.{IsBroken};
 ghost use Rattle.source_check.specs.declared.rules.Rules.TheVariants as rules;
-ghost use Rattle.chor_cmd.specs.Words.{Programs, reading_of};
+ghost use Rattle.chor_cmd.specs.Readings.{reading_of, IsOnSource};
 ghost use Rattle.chor_cmd.specs.Types.{IsTypesText};
 ghost use Rattle.chor_cmd.specs.Outputs.{IsProjectionText, IsAnswer, IsFlawed, IsDenied, Answers};
 ghost use Rattle.chor_cmd.specs.Endings.{host_names};
@@ -14,10 +14,10 @@ use crate::canonical::canonical_of;
 use crate::endpoints::text_of_endpoints;
 use crate::run::run_text;
 use crate::types::types_of;
-use crate::words::Command;
 use chor_base::{Denied, Memory};
 use chor_host::HostTable;
 use chor_tree::File;
+use command_words::Command;
 use simulation::{Accepted, accept};
 use source_check::{check, read};
 use std::alloc::Global;
@@ -30,8 +30,8 @@ pub fn text_of(
     hosts: &HostTable,
 ) -> Result<Vec<u8>, Denied>
     requires few { length bytes.now ≤ 2 ^ 20 }
-    requires source { reading_of command ≢ Programs }
-    ensures text { IfOk result (λ text. Answers (functions_of hosts.now) command bytes.now text.items) }
+    requires source { IsOnSource command }
+    ensures text { IfOk result (λ text. Answers (functions_of hosts.now) command (bytes.now ∷ []) text.items) }
     ensures denied { IfErr result (IsDenied (reading_of command) (host_names hosts.now) bytes.now) }
 {
     let file = read(alloc, bytes)?;
@@ -45,7 +45,7 @@ fn file_text(
     file: File,
     hosts: &HostTable,
 ) -> Result<Vec<u8>, Denied>
-    requires { reading_of command ≢ Programs }
+    requires { IsOnSource command }
     ensures text { IfOk result (λ text. IsAnswer (functions_of hosts.now) command file text.items) }
     ensures broken { IfErr result (IsFlawed (reading_of command) (host_names hosts.now) file) }
 {
@@ -58,7 +58,7 @@ fn file_text(
         Command::Types(_) => types_text(alloc, file, hosts),
         Command::Project(_) => project_text(alloc, file, hosts),
         Command::Run(_, options) => run_text(alloc, file, options, hosts),
-        Command::Exec(_, _) => unreachable!(),
+        Command::Exec(_, _) | Command::Replay(_, _) | Command::Gen(_, _) => unreachable!(),
     }
 }
 

@@ -1,0 +1,4 @@
+pub mod OptionWords
+pub mod SameWords
+pub mod Forms
+pub mod Numbers
