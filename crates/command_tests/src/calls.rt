@@ -18,6 +18,26 @@ pub struct Call<'a> {
     pub hosts: &'a HostTable,
 }
 
+/// A call with a second file on the shelf, whose name is `EVENTS`. A call of the shelf whose number,
+/// counted from 1, is among `fails` fails.
+#[derive(Clone, Copy)]
+pub struct Replay<'a> {
+    pub call: Call<'a>,
+    pub events: &'a [u8],
+    pub fails: &'a [u64],
+}
+
+impl<'a> Replay<'a> {
+    /// One in which no call of the shelf fails.
+    pub fn new(call: Call<'a>, events: &'a [u8]) -> Self {
+        Replay {
+            call,
+            events,
+            fails: &[],
+        }
+    }
+}
+
 // The words of a command line, between which one space stands each.
 fn words_of(alloc: Global, line: &str) -> anyhow::Result<Words> {
     let mut items = List::new(alloc);
@@ -31,13 +51,31 @@ fn words_of(alloc: Global, line: &str) -> anyhow::Result<Words> {
     Ok(Words { items })
 }
 
+// A file of this name with these bytes.
+fn file_of(alloc: Global, name: &[u8], bytes: &[u8]) -> anyhow::Result<(Word, Word)> {
+    Ok((
+        Word::from_slice(alloc, name)?,
+        Word::from_slice(alloc, bytes)?,
+    ))
+}
+
 // A shelf with one file.
 fn shelf_of(alloc: Global, source: &[u8]) -> anyhow::Result<MemoryShelf> {
-    let name = Word::from_slice(alloc, b"FILE".as_slice())?;
-    let bytes = Word::from_slice(alloc, source)?;
     let mut files = List::new(alloc);
-    files.push((name, bytes))?;
+    files.push(file_of(alloc, b"FILE".as_slice(), source)?)?;
     Ok(MemoryShelf::new(alloc, files, List::new(alloc)))
+}
+
+// A shelf with a source and a file of events.
+fn shelf_of_replay(alloc: Global, replay: &Replay<'_>) -> anyhow::Result<MemoryShelf> {
+    let mut files = List::new(alloc);
+    files.push(file_of(alloc, b"FILE".as_slice(), replay.call.source)?)?;
+    files.push(file_of(alloc, b"EVENTS".as_slice(), replay.events)?)?;
+    let mut fails = List::new(alloc);
+    for number in replay.fails {
+        fails.push(*number)?;
+    }
+    Ok(MemoryShelf::new(alloc, files, fails))
 }
 
 /// Writes the title of a call, the number of its status and its text.
@@ -52,9 +90,36 @@ pub fn answer_within(
     call: Call<'_>,
     room: u32,
 ) -> anyhow::Result<()> {
+    let shelf = shelf_of(alloc, call.source)?;
+    answer_on(rt, alloc, call, shelf, room)
+}
+
+/// Writes the title of a call with a second file, the number of its status and its text.
+pub fn answer_replay(rt: &impl Print, alloc: Global, replay: Replay<'_>) -> anyhow::Result<()> {
+    answer_replay_within(rt, alloc, replay, ROOM)
+}
+
+/// The same where the sink takes no more than so many bytes.
+pub fn answer_replay_within(
+    rt: &impl Print,
+    alloc: Global,
+    replay: Replay<'_>,
+    room: u32,
+) -> anyhow::Result<()> {
+    let shelf = shelf_of_replay(alloc, &replay)?;
+    answer_on(rt, alloc, replay.call, shelf, room)
+}
+
+// The same with this shelf.
+fn answer_on(
+    rt: &impl Print,
+    alloc: Global,
+    call: Call<'_>,
+    mut shelf: MemoryShelf,
+    room: u32,
+) -> anyhow::Result<()> {
     let (line, _) = call.title.split_once(": ").unwrap_or((call.title, ""));
     let words = words_of(alloc, line)?;
-    let mut shelf = shelf_of(alloc, call.source)?;
     let mut out = MemorySink::new(alloc, room, List::new(alloc))?;
     let status = chor(alloc, &words, call.hosts, &mut shelf, &mut out, &OpenGate);
     println!(rt; "=== {}", call.title)?;

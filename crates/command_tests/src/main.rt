@@ -7,13 +7,16 @@
 //! lines after it, up to the next `===`, are the source. What stands after a line `=== head` comes
 //! before each source of that file. What stands after a line `=== base` is a source of which the
 //! cases after it are changes: the text of lines that begin with `- ` stands in it once, and
-//! the text of the lines with `+ ` that follow comes in its place.
+//! the text of the lines with `+ ` that follow comes in its place. What stands after a line
+//! `=== source` is the source of the cases after it, and the lines of these cases are a file of
+//! events, whose name is `EVENTS`.
 #![tactic(auto)]
 
 use crate::cases::answer_cases;
 use crate::hosts::host_names;
 use crate::made::answer_made;
 use crate::programs::answer_programs;
+use crate::replays::answer_replays;
 use chor_base::{HostOp, Meaning};
 use chor_host::{HostFn, HostTable, host_gap, host_max, host_min};
 use std::fs;
@@ -24,6 +27,7 @@ mod changes;
 mod hosts;
 mod made;
 mod programs;
+mod replays;
 
 fn main(rt: HostRuntime) -> anyhow::Result<()> {
     let names = host_names(rt.alloc())?;
@@ -40,5 +44,7 @@ fn main(rt: HostRuntime) -> anyhow::Result<()> {
     println!(rt; "##### made")?;
     answer_made(&rt, rt.alloc(), &hosts)?;
     println!(rt; "##### programs")?;
-    answer_programs(&rt, rt.alloc(), &hosts)
+    answer_programs(&rt, rt.alloc(), &hosts)?;
+    println!(rt; "##### replays")?;
+    answer_replays(&rt, rt.alloc(), &hosts)
 }
