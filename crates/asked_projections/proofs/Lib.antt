@@ -1,0 +1,4 @@
+mod Codes
+mod Bodies
+mod Services
+pub mod Whole
