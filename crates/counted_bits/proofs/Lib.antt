@@ -1,0 +1,5 @@
+pub mod Amounts
+pub mod Changes
+pub mod Found
+pub mod Places
+pub mod Sums

@@ -1,0 +1,19 @@
+use Rattle.std.proofs.Common.{refl, ap, arith, length}
+use Rattle.counted_bits.proofs.Changes.{counted_alike, tops_grown, groups_grown, blocks_grown, clear_pushed}
+use Rattle.counted_bits.proofs.bits.CountedBits.push_clear.Goals as goal
+
+pub invariant_of-self-in_err-make_room-2 : goal.invariant_of-self-in_err-make_room-2
+invariant_of-self-in_err-make_room-2 c =
+    groups_grown (tops_grown c.self.invariant _ c.in_ok-make_room.ensures.grown) _ c.in_err-make_room-2.ensures.grown (omega (arith, c.in_ok-make_room.ensures.ok))
+
+pub invariant_of-self-in_err-make_room-3 : goal.invariant_of-self-in_err-make_room-3
+invariant_of-self-in_err-make_room-3 c =
+    blocks_grown (groups_grown (tops_grown c.self.invariant _ c.in_ok-make_room.ensures.grown) _ c.in_ok-make_room-2.ensures.grown (omega (arith, c.in_ok-make_room.ensures.ok))) _ c.in_err-make_room-3.ensures.grown (omega (arith, c.in_ok-make_room-2.ensures.ok))
+
+pub invariant_of-self-in_err-push : goal.invariant_of-self-in_err-push
+invariant_of-self-in_err-push c =
+    counted_alike (blocks_grown (groups_grown (tops_grown c.self.invariant _ c.in_ok-make_room.ensures.grown) _ c.in_ok-make_room-2.ensures.grown (omega (arith, c.in_ok-make_room.ensures.ok))) _ c.in_ok-make_room-3.ensures.grown (omega (arith, c.in_ok-make_room-2.ensures.ok))) c.in_err-push.ensures.items refl refl refl
+
+pub invariant_of-self-2 : goal.invariant_of-self-2
+invariant_of-self-2 c =
+    counted_alike (clear_pushed (blocks_grown (groups_grown (tops_grown c.self.invariant _ c.in_ok-make_room.ensures.grown) _ c.in_ok-make_room-2.ensures.grown (omega (arith, c.in_ok-make_room.ensures.ok))) _ c.in_ok-make_room-3.ensures.grown (omega (arith, c.in_ok-make_room-2.ensures.ok))) (omega (arith, ap length c.self.view_is)) (omega (arith, c.in_ok-make_room-3.ensures.ok))) c.in_ok-push.ensures.items refl refl refl

@@ -1,0 +1,156 @@
+//! Bits with counts above them.
+
+ghost use Rattle.std.specs.Prelude.{◌≡◌, ◌<◌, ◌+◌, ◌++◌, ◌∷◌, [], ◌^◌, true, false, length, slice_get, slice_set, Some, OnOk, OnErr};
+ghost use Rattle.counted_bits.specs.Places.{places};
+
+use crate::counts::{find, find_bit, lower, make_room, raise};
+use chor_base::Memory;
+use std::alloc::Global;
+use std::marker::Model;
+
+/// Bits in order, fewer than 2^32 of them. Contracts see the list of the bits.
+#[derive(Drop)]
+pub struct CountedBits {
+    bits: Vec<bool>,
+    total: u32,
+    // How many of each 64 bits are set, of each 64 blocks, and of each 64 groups.
+    blocks: Vec<u32>,
+    groups: Vec<u32>,
+    tops: Vec<u32>,
+}
+
+impl Model for CountedBits {
+    ghost use Rattle.std.specs.Prelude.{List, Bool};
+
+    ghost Value = { List Bool };
+
+    ghost use Rattle.counted_bits.specs.Counts.{AreCounted};
+
+    ghost view = { λ a. a.bits.items };
+
+    ghost invariant = { λ a. AreCounted a.bits.items a.total a.blocks.items a.groups.items a.tops.items };
+}
+
+impl CountedBits {
+    /// No bits. It takes no memory.
+    pub fn new(alloc: Global) -> Self
+        ensures { result ≡ [] }
+    {
+        CountedBits {
+            bits: Vec::new(alloc),
+            total: 0,
+            blocks: Vec::new(alloc),
+            groups: Vec::new(alloc),
+            tops: Vec::new(alloc),
+        }
+    }
+
+    /// How many bits there are.
+    pub fn len(&self) -> u32
+        ensures { result ≡ length self.now }
+    {
+        self.bits.len() as u32
+    }
+
+    /// Adds a bit after all others. 2^32 - 1 bits answer `Memory`.
+    pub fn push(&mut self, bit: bool) -> Result<(), Memory>
+        ensures ok { OnOk result (self.new ≡ self.old ++ bit ∷ []) }
+        ensures err { OnErr result (self.new ≡ self.old) }
+        ensures short { length self.new < 2 ^ 32 }
+    {
+        let place = self.bits.len();
+        if place >= u32::MAX as usize {
+            return Err(Memory);
+        }
+        self.push_clear()?;
+        if bit {
+            self.raise(place);
+        }
+        Ok(())
+    }
+
+    /// Whether the bit at a place is set.
+    pub fn get(&self, place: u32) -> bool
+        requires { place < length self.now }
+        ensures { slice_get self.now place ≡ Some result }
+    {
+        self.bits[place as usize]
+    }
+
+    /// Sets the bit at a place, or clears it. It takes no memory.
+    pub fn set(&mut self, place: u32, bit: bool)
+        requires { place < length self.old }
+        ensures { self.new ≡ slice_set self.old place bit }
+    {
+        if self.get(place) == bit {
+            return;
+        }
+        if bit {
+            self.raise(place as usize);
+        } else {
+            self.lower(place as usize);
+        }
+    }
+
+    /// How many bits are set.
+    pub fn count(&self) -> u32
+        ensures { result ≡ length (places 0 self.now) }
+    {
+        self.total
+    }
+
+    /// The place of the set bit that so many set bits stand before, if there is one.
+    pub fn nth(&self, number: u32) -> Option<u32>
+        ensures { result ≡ slice_get (places 0 self.now) number }
+    {
+        if number >= self.total {
+            return None;
+        }
+        let top = find(&self.tops, 0, number);
+        let group = find(&self.groups, 64 * top.place, top.rest);
+        let block = find(&self.blocks, 64 * group.place, group.rest);
+        let bit = find_bit(&self.bits, 64 * block.place, block.rest);
+        Some(bit.place as u32)
+    }
+
+    // Adds a bit that isn't set.
+    fn push_clear(&mut self) -> Result<(), Memory>
+        requires { length self.old + 1 < 2 ^ 32 }
+        ensures ok { OnOk result (self.new ≡ self.old ++ false ∷ []) }
+        ensures err { OnErr result (self.new ≡ self.old) }
+    {
+        make_room(&mut self.tops, self.groups.len())?;
+        make_room(&mut self.groups, self.blocks.len())?;
+        make_room(&mut self.blocks, self.bits.len())?;
+        self.bits.push(false)?;
+        Ok(())
+    }
+
+    // Sets a bit that isn't set.
+    fn raise(&mut self, place: usize)
+        requires { slice_get self.old place ≡ Some false }
+        ensures { self.new ≡ slice_set self.old place true }
+    {
+        let block = place / 64;
+        let group = block / 64;
+        self.bits[place] = true;
+        self.total += 1;
+        raise(&mut self.blocks, block);
+        raise(&mut self.groups, group);
+        raise(&mut self.tops, group / 64);
+    }
+
+    // Clears a bit that is set.
+    fn lower(&mut self, place: usize)
+        requires { slice_get self.old place ≡ Some true }
+        ensures { self.new ≡ slice_set self.old place false }
+    {
+        let block = place / 64;
+        let group = block / 64;
+        self.bits[place] = false;
+        self.total -= 1;
+        lower(&mut self.blocks, block);
+        lower(&mut self.groups, group);
+        lower(&mut self.tops, group / 64);
+    }
+}
