@@ -4,16 +4,26 @@ use Rattle.counted_bits.proofs.bits.CountedBits.push_clear.Goals as goal
 
 pub invariant_of-self-in_err-make_room-2 : goal.invariant_of-self-in_err-make_room-2
 invariant_of-self-in_err-make_room-2 c =
-    groups_grown (tops_grown c.self.invariant _ c.in_ok-make_room.ensures.grown) _ c.in_err-make_room-2.ensures.grown (omega (arith, c.in_ok-make_room.ensures.ok))
+    let with_tops = tops_grown c.self.invariant _ c.in_ok-make_room.ensures.grown in
+    groups_grown with_tops _ c.in_err-make_room-2.ensures.grown (omega (arith, c.in_ok-make_room.ensures.ok))
 
 pub invariant_of-self-in_err-make_room-3 : goal.invariant_of-self-in_err-make_room-3
 invariant_of-self-in_err-make_room-3 c =
-    blocks_grown (groups_grown (tops_grown c.self.invariant _ c.in_ok-make_room.ensures.grown) _ c.in_ok-make_room-2.ensures.grown (omega (arith, c.in_ok-make_room.ensures.ok))) _ c.in_err-make_room-3.ensures.grown (omega (arith, c.in_ok-make_room-2.ensures.ok))
+    let with_tops = tops_grown c.self.invariant _ c.in_ok-make_room.ensures.grown in
+    let with_groups = groups_grown with_tops _ c.in_ok-make_room-2.ensures.grown (omega (arith, c.in_ok-make_room.ensures.ok)) in
+    blocks_grown with_groups _ c.in_err-make_room-3.ensures.grown (omega (arith, c.in_ok-make_room-2.ensures.ok))
 
 pub invariant_of-self-in_err-push : goal.invariant_of-self-in_err-push
 invariant_of-self-in_err-push c =
-    counted_alike (blocks_grown (groups_grown (tops_grown c.self.invariant _ c.in_ok-make_room.ensures.grown) _ c.in_ok-make_room-2.ensures.grown (omega (arith, c.in_ok-make_room.ensures.ok))) _ c.in_ok-make_room-3.ensures.grown (omega (arith, c.in_ok-make_room-2.ensures.ok))) c.in_err-push.ensures.items refl refl refl
+    let with_tops = tops_grown c.self.invariant _ c.in_ok-make_room.ensures.grown in
+    let with_groups = groups_grown with_tops _ c.in_ok-make_room-2.ensures.grown (omega (arith, c.in_ok-make_room.ensures.ok)) in
+    let with_blocks = blocks_grown with_groups _ c.in_ok-make_room-3.ensures.grown (omega (arith, c.in_ok-make_room-2.ensures.ok)) in
+    counted_alike with_blocks c.in_err-push.ensures.items refl refl refl
 
 pub invariant_of-self-2 : goal.invariant_of-self-2
 invariant_of-self-2 c =
-    counted_alike (clear_pushed (blocks_grown (groups_grown (tops_grown c.self.invariant _ c.in_ok-make_room.ensures.grown) _ c.in_ok-make_room-2.ensures.grown (omega (arith, c.in_ok-make_room.ensures.ok))) _ c.in_ok-make_room-3.ensures.grown (omega (arith, c.in_ok-make_room-2.ensures.ok))) (omega (arith, ap length c.self.view_is)) (omega (arith, c.in_ok-make_room-3.ensures.ok))) c.in_ok-push.ensures.items refl refl refl
+    let with_tops = tops_grown c.self.invariant _ c.in_ok-make_room.ensures.grown in
+    let with_groups = groups_grown with_tops _ c.in_ok-make_room-2.ensures.grown (omega (arith, c.in_ok-make_room.ensures.ok)) in
+    let with_blocks = blocks_grown with_groups _ c.in_ok-make_room-3.ensures.grown (omega (arith, c.in_ok-make_room-2.ensures.ok)) in
+    let with_bit = clear_pushed with_blocks (omega (arith, ap length c.self.view_is)) (omega (arith, c.in_ok-make_room-3.ensures.ok)) in
+    counted_alike with_bit c.in_ok-push.ensures.items refl refl refl
