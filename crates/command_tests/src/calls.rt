@@ -78,9 +78,32 @@ fn shelf_of_replay(alloc: Global, replay: &Replay<'_>) -> anyhow::Result<MemoryS
     Ok(MemoryShelf::new(alloc, files, fails))
 }
 
-/// Writes the title of a call, the number of its status and its text.
+/// Writes the title of a call, the number of its status and its text. Where ` | ` stands in its line,
+/// what the words before it write is the file of the words after it.
 pub fn answer(rt: &impl Print, alloc: Global, call: Call<'_>) -> anyhow::Result<()> {
-    answer_within(rt, alloc, call, ROOM)
+    let Some((first, _)) = line_of(call.title).split_once(" | ") else {
+        return answer_within(rt, alloc, call, ROOM);
+    };
+    let written = written_by(alloc, first, call)?;
+    let shelf = shelf_of(alloc, written.bytes())?;
+    answer_on(rt, alloc, call, shelf, ROOM)
+}
+
+// The words of a command line, or of two.
+fn line_of(title: &str) -> &str {
+    match title.split_once(": ") {
+        Some((line, _)) => line,
+        None => title,
+    }
+}
+
+// What a command writes.
+fn written_by(alloc: Global, line: &str, call: Call<'_>) -> anyhow::Result<MemorySink> {
+    let words = words_of(alloc, line)?;
+    let mut shelf = shelf_of(alloc, call.source)?;
+    let mut out = MemorySink::new(alloc, ROOM, List::new(alloc))?;
+    let _ = chor(alloc, &words, call.hosts, &mut shelf, &mut out, &OpenGate);
+    Ok(out)
 }
 
 /// The same where the sink takes no more than so many bytes.
@@ -118,8 +141,9 @@ fn answer_on(
     mut shelf: MemoryShelf,
     room: u32,
 ) -> anyhow::Result<()> {
-    let (line, _) = call.title.split_once(": ").unwrap_or((call.title, ""));
-    let words = words_of(alloc, line)?;
+    let line = line_of(call.title);
+    let (_, last) = line.split_once(" | ").unwrap_or(("", line));
+    let words = words_of(alloc, last)?;
     let mut out = MemorySink::new(alloc, room, List::new(alloc))?;
     let status = chor(alloc, &words, call.hosts, &mut shelf, &mut out, &OpenGate);
     println!(rt; "=== {}", call.title)?;

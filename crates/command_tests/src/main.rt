@@ -3,7 +3,8 @@
 //! crate has the right answers, worked out by hand.
 //!
 //! A file of cases begins with lines that say what it is about. A line `=== WORDS: NAME` begins a case: the
-//! words of the command line, in which `FILE` is the case's source, and what the case shows. The
+//! words of the command line, in which `FILE` is the case's source, and what the case shows. Where
+//! ` | ` stands between two command lines, what the first writes is the second's `FILE`. The
 //! lines after it, up to the next `===`, are the source. What stands after a line `=== head` comes
 //! before each source of that file. What stands after a line `=== base` is a source of which the
 //! cases after it are changes: the text of lines that begin with `- ` stands in it once, and
