@@ -57,7 +57,7 @@ join_place (Some p) c r h = at_node p.node h
     at_node End h = absurd cc
 
 -- some process joins
-joined_at : (e : Endpoints) (ms : List Machine) (c r : NameId) → is_joined e ms c r ≡ true → (i : ℕ) × (m : Machine) × (slice_get ms i ≡ Some m) × (joins_there (place_of e m) c r ≡ true)
+pub joined_at : (e : Endpoints) (ms : List Machine) (c r : NameId) → is_joined e ms c r ≡ true → (i : ℕ) × (m : Machine) × (slice_get ms i ≡ Some m) × (joins_there (place_of e m) c r ≡ true)
 joined_at e [] c r h = absurd cc
 joined_at e (m ∷ ms) c r h = go (joins_there (place_of e m) c r) refl (joined_at e ms c r) h
   where
@@ -65,7 +65,7 @@ joined_at e (m ∷ ms) c r h = go (joins_there (place_of e m) c r) refl (joined_
     go true t more k = (zero, m, refl, t)
     go false t more k = let f = more k in (suc f.0, f.1, f.2, f.3)
 
-joined_by : (e : Endpoints) (ms : List Machine) (c r : NameId) (i : ℕ) (m : Machine) → slice_get ms i ≡ Some m → joins_there (place_of e m) c r ≡ true → is_joined e ms c r ≡ true
+pub joined_by : (e : Endpoints) (ms : List Machine) (c r : NameId) (i : ℕ) (m : Machine) → slice_get ms i ≡ Some m → joins_there (place_of e m) c r ≡ true → is_joined e ms c r ≡ true
 joined_by e [] c r i m h j = absurd cc
 joined_by e (x ∷ ms) c r zero m h j =
     let same : x ≡ m = cc in

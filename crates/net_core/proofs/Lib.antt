@@ -16,3 +16,8 @@ pub mod Casts
 pub mod Begins
 pub mod Leaders
 pub mod Runs
+pub mod Listed
+pub mod Anew
+pub mod Taken
+pub mod Becoming
+pub mod Joining

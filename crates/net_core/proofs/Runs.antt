@@ -1,5 +1,5 @@
 -- Turns and runs by the pick rule.
-use Rattle.std.proofs.Common.{◌≡◌, ℕ, zero, suc, ◌+◌, ◌-◌, ◌*◌, ◌%◌, ◌^◌, ◌<◌, ◌≤◌, ◌&&◌, Bool, true, false, cond, List, [], ◌∷◌, ◌++◌, length, refl, sym, ap, ◌∙◌, subst, Option, Some, None, arith, is_some, append_assoc}
+use Rattle.std.proofs.Common.{◌≡◌, inl, inr, ℕ, zero, suc, ◌+◌, ◌-◌, ◌*◌, ◌%◌, ◌^◌, ◌<◌, ◌≤◌, ◌&&◌, Bool, true, false, cond, List, [], ◌∷◌, ◌++◌, length, refl, sym, ap, ◌∙◌, subst, Option, Some, None, arith, is_some, append_assoc}
 use Rattle.std.specs.Prelude.{slice_get, ◌≢◌}
 use Rattle.std.proofs.lemmas.Option.{slice_get_within, some_pair_parts}
 use Rattle.std.proofs.lemmas.List.{append-nil, length-append, length-map, map-append}
@@ -21,6 +21,7 @@ use Rattle.net_core.specs.Views.{NetworkView}
 use Rattle.net_core.specs.Steps.{FitsMore, HasGrown, most_served}
 use Rattle.net_core.specs.Picks.{GoesOn, stays, goes, entries_of, HasRun, HasGone, Runs, HasTurned, HasClosed, Turns, IsStuck}
 use Rattle.session_starts.proofs.Places.{both_true}
+use Rattle.net_core.proofs.Leaders.{some_there}
 
 -- ---- the first process that hasn't ended
 
@@ -113,6 +114,14 @@ picked_steps e n seed events p h =
       subst (λ (k : ℕ). k < length n.machines) same (slice_get_within n.machines f.place f.item.machine f.item.there),
       subst (λ (k : ℕ). steps_at e n k ≡ true) same (ap (steps_of e n) f.item.there ∙ steps),
     )
+
+-- where no process is picked, none is listed
+pub none_picked : (xs : List ℕ) (k : ℕ) → picked_of xs k ≡ None → xs ≡ []
+none_picked [] k h = refl
+none_picked (x ∷ xs) k h = absurd (some_there (x ∷ xs) (k % length (x ∷ xs)) (mod_within k (length xs)) h)
+  where
+    mod_within : (a b : ℕ) → a % suc b < suc b
+    mod_within a b = grind arith
 
 -- a process that can step neither waits nor has ended
 pub steps_no_wait : (e : Endpoints) (n : NetworkState) (p : ℕ) (w : Why) → steps_at e n p ≡ true → why_at e n p ≡ Some w → ⊥
@@ -243,7 +252,7 @@ pub closes_run : (hosts : Hosts) (seed steps : ℕ) (first old new : NetworkView
 closes_run hosts seed steps first old new Ended u h = closed_run hosts seed steps first old new close.Ended u h
 closes_run hosts seed steps first old new Limit u h = closed_run hosts seed steps first old new close.Limit u h
 closes_run hosts seed steps first old new (Stuck p why) u h = closed_run hosts seed steps first old new (close.Stuck p why) u h
-closes_run hosts seed steps first old new Memory u h =
+closes_run hosts seed steps first old new Memory u (inl h) =
     let g = u.gone in
     record {
       events = g.events;
@@ -251,3 +260,4 @@ closes_run hosts seed steps first old new Memory u h =
       history = h.history ∙ g.history;
       run = subst (λ (n : NetworkState). GoesOn first.endpoints hosts seed steps first.state (length first.history) g.events n) (sym h.state) g.run;
     }
+closes_run hosts seed steps first old new Memory u (inr t) = (underway_more hosts seed steps first old new u t).gone

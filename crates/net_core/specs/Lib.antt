@@ -6,4 +6,5 @@ pub mod Heads
 pub mod Starts
 pub mod Steps
 pub mod Picks
+pub mod Candidates
 pub mod Follows

@@ -1,5 +1,5 @@
 -- Runs by the pick rule.
-use Rattle.std.specs.Prelude.{ℕ, suc, ◌≡◌, ◌≢◌, ◌++◌, false, List, [], ◌∷◌, length, map, Option, Some, None}
+use Rattle.std.specs.Prelude.{ℕ, suc, ◌≡◌, ◌≢◌, ◌⊎◌, ◌++◌, false, List, [], ◌∷◌, length, map, Option, Some, None}
 use Rattle.chor_base.specs.declared.event.Event.{Event}
 use Rattle.chor_base.specs.declared.event.Entry.{Entry}
 use Rattle.chor_base.specs.declared.event.Why.{Why}
@@ -72,13 +72,13 @@ pub record HasClosed (steps : ℕ) (old new : NetworkView) (c : Close) : Type 0 
   pub same : IsSame old new
   pub closes : Closes old.endpoints None steps old.state (length old.history) c
 
--- what one turn of a scheduled run answers
+-- What one turn of a scheduled run answers. Where there was no memory, there may be one event more
 abbrev pub Turns : Hosts → ℕ → ℕ → NetworkView → Option Picked → NetworkView → Type 0
 Turns hosts seed steps old None new = HasTurned hosts seed steps old new
 Turns hosts seed steps old (Some Ended) new = HasClosed steps old new close.Ended
 Turns hosts seed steps old (Some Limit) new = HasClosed steps old new close.Limit
 Turns hosts seed steps old (Some (Stuck p why)) new = HasClosed steps old new (close.Stuck p why)
-Turns hosts seed steps old (Some Memory) new = IsSame old new
+Turns hosts seed steps old (Some Memory) new = IsSame old new ⊎ HasTurned hosts seed steps old new
 
 -- the first process that hasn't ended waits for this cause
 abbrev pub IsStuck : Endpoints → NetworkState → Picked → Type 0

@@ -3,8 +3,10 @@
 
 mod acts;
 mod answer;
+mod candidates;
 mod follow_starts;
 mod following;
+mod joiners;
 mod network;
 mod parts;
 mod queues;

@@ -205,7 +205,7 @@ impl<'a> Network<'a> {
     }
 
     // Whether a process that joins does so in its channel's first active role.
-    fn leads(&self, pid: u32) -> bool
+    pub(crate) fn leads(&self, pid: u32) -> bool
         requires { pid < length self.now.state.machines }
         ensures { result ≡ leads_at self.now.endpoints self.now.state pid }
     {

@@ -1,6 +1,6 @@
 //! Parts of a network: its first processes, its history and its channels.
 
-ghost use Rattle.std.specs.Prelude.{◌≡◌, ◌<◌, ◌^◌, ◌++◌, ◌∷◌, [], length, map, IfOk, vec_len, vec_capacity};
+ghost use Rattle.std.specs.Prelude.{◌≡◌, ◌<◌, ◌+◌, ◌%◌, ◌^◌, ◌++◌, ◌∷◌, [], length, map, IfOk, vec_len, vec_capacity};
 ghost use Rattle.std.specs.Option.{option_copied};
 ghost use Rattle.endpoint_code.specs.Network.{channel_of, standing_all};
 ghost use Rattle.session_starts.specs.Machines.{standing_of, AreCounted};
@@ -46,4 +46,15 @@ pub fn channel_named(channels: &[Channel], name: NameId) -> Option<&Channel>
         }
     }
     None
+}
+
+// The place of what the seed picks among so many after so many events.
+pub fn place_of_pick(seed: u64, events: u64, count: u64) -> u64
+    requires positive { 0 < count }
+    requires small { seed < 2 ^ 32 }
+    requires few { events < 2 ^ 63 }
+    ensures place { result ≡ (seed + events) % count }
+    ensures within { result < count }
+{
+    (seed + events) % count
 }

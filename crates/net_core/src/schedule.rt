@@ -1,28 +1,20 @@
 //! Runs by the pick rule.
 
-ghost use Rattle.std.specs.Prelude.{◌≡◌, ◌≢◌, ◌<◌, ◌≤◌, ◌+◌, ◌-◌, ◌%◌, ◌^◌, [], length, None, Some, ◌↔◌, true, false, slice_get};
+ghost use Rattle.std.specs.Prelude.{◌≡◌, ◌≢◌, ◌<◌, ◌≤◌, ◌-◌, ◌^◌, [], length, None, Some, ◌↔◌, true, false, slice_get};
 ghost use Rattle.chor_host.specs.Functions.{hosts_in, names_of};
 ghost use Rattle.chor_host.specs.Tables.{functions_of};
 ghost use Rattle.endpoint_code.specs.Faults.{AsksKnown, is_listed};
 ghost use Rattle.endpoint_code.specs.NetworkRuns.{all_ended, none_can_step};
 ghost use Rattle.endpoint_code.specs.Scheduled.{listed, picked, first_waiting};
 ghost use Rattle.net_core.specs.Steps.{FitsMore};
+ghost use Rattle.net_core.specs.Candidates.{IsUpToDate};
 ghost use Rattle.net_core.specs.Picks.{waiting_at, Runs, Turns, IsStuck};
 
-use crate::answer::{Picked, Step};
+use crate::answer::Picked;
+use crate::candidates::{Candidates, Past};
 use crate::network::Network;
+use crate::parts::place_of_pick;
 use chor_host::HostTable;
-
-// The place of what the seed picks among so many after so many events.
-fn place_of_pick(seed: u64, events: u64, count: u64) -> u64
-    requires positive { 0 < count }
-    requires small { seed < 2 ^ 32 }
-    requires few { events < 2 ^ 63 }
-    ensures place { result ≡ (seed + events) % count }
-    ensures within { result < count }
-{
-    (seed + events) % count
-}
 
 impl Network<'_> {
     // How many events there are.
@@ -106,31 +98,44 @@ impl Network<'_> {
     }
 
     // One event of a scheduled run, unless it is closed.
-    fn turn(&mut self, hosts: &HostTable, seed: u64, steps: u64) -> Option<Picked>
+    fn turn(
+        &mut self,
+        candidates: &mut Candidates,
+        hosts: &HostTable,
+        seed: u64,
+        steps: u64,
+    ) -> Option<Picked>
         requires hosts { AsksKnown (is_listed (names_of (functions_of hosts.now)) self.old.endpoints) self.old.endpoints }
         requires seed { seed < 2 ^ 32 }
         requires fits { length self.old.history ≢ steps → FitsMore self.old 1 }
-        ensures { Turns (hosts_in self.old.endpoints.names (functions_of hosts.now)) seed steps self.old result self.new }
+        requires candidates { IsUpToDate self.old.endpoints self.old.state candidates.old }
+        ensures turns { Turns (hosts_in self.old.endpoints.names (functions_of hosts.now)) seed steps self.old result self.new }
+        ensures candidates { result ≡ None → IsUpToDate self.new.endpoints self.new.state candidates.new }
     {
-        if self.finished() {
+        if candidates.have_ended() {
             return Some(Picked::Ended);
         }
         if self.events() == steps {
             return Some(Picked::Limit);
         }
-        let Some(pid) = self.pick(seed) else {
+        let count = self.count();
+        let Some(pid) = candidates.pick(seed, self.events()) else {
             return Some(self.stuck());
         };
-        match self.step(pid, hosts) {
-            Step::Did => None,
-            Step::Memory => Some(Picked::Memory),
-            Step::Waits(_) => unreachable!(),
-            Step::Ended => unreachable!(),
+        let head = self.head(pid);
+        match self.go(pid, hosts) {
+            Ok(()) => match candidates.follow(self.alloc, self, Past { pid, head, count }) {
+                Ok(()) => None,
+                Err(_) => Some(Picked::Memory),
+            },
+            Err(_) => Some(Picked::Memory),
         }
     }
 
     /// Goes on by the pick rule until every process has ended, there are as many events as asked
-    /// for, or no process can step. After `Memory` the events made so far stand.
+    /// for, or no process can step. After `Memory` the events made so far stand. An event costs
+    /// what its own processes do, and those that wait for what it changes; a start also looks for
+    /// its partners, from the first process on.
     pub fn run_picked(&mut self, hosts: &HostTable, seed: u64, steps: u64) -> Picked
         requires hosts { AsksKnown (is_listed (names_of (functions_of hosts.now)) self.old.endpoints) self.old.endpoints }
         requires seed { seed < 2 ^ 32 }
@@ -139,8 +144,11 @@ impl Network<'_> {
         requires fits { FitsMore self.old (steps - length self.old.history) }
         ensures { Runs (hosts_in self.old.endpoints.names (functions_of hosts.now)) seed steps self.old result self.new }
     {
+        let Ok(mut candidates) = Candidates::new(self.alloc, self) else {
+            return Picked::Memory;
+        };
         loop {
-            if let Some(picked) = self.turn(hosts, seed, steps) {
+            if let Some(picked) = self.turn(&mut candidates, hosts, seed, steps) {
                 return picked;
             }
         }

@@ -1,37 +1,61 @@
-use Rattle.std.proofs.Common.{◌∙◌, sym, refl, length}
+use Rattle.std.proofs.Common.{◌∙◌, sym, refl, subst, ◌≡◌, ◌<◌, None, ℕ, true}
 use Rattle.chor_host.specs.Functions.{hosts_in}
 use Rattle.chor_host.specs.Tables.{functions_of}
-use Rattle.endpoint_code.specs.Scheduled.{ended, limit}
-use Rattle.net_core.proofs.Runs.{picked_steps, steps_no_wait, steps_no_end, stuck_closes}
+use Rattle.endpoint_code.specs.NetworkRuns.{none_can_step}
+use Rattle.endpoint_code.specs.Scheduled.{listed, ended, limit}
+use Rattle.net_core.proofs.Leaders.{none_listed}
+use Rattle.net_core.proofs.Runs.{picked_steps, none_picked, stuck_closes}
+use Rattle.net_core.proofs.Becoming.{has_moved}
 use Rattle.net_core.proofs.network.Network.turn.Goals as goal
 
-pub returns-then-finished : goal.returns-then-finished
-returns-then-finished g c = record { same = record { endpoints = refl; state = refl; history = refl }; closes = ended (sym c.finished.ensures ∙ c.if-finished.true) }
+pub returns-then-have_ended : goal.returns-then-have_ended
+returns-then-have_ended g c =
+    let v = c.args.self.now in
+    record {
+      turns = record { same = record { endpoints = refl; state = refl; history = refl }; closes = ended (sym (c.have_ended.ensures v.endpoints v.state c.requires.candidates) ∙ c.if-have_ended.true) };
+      candidates = λ i. absurd cc;
+    }
 
 pub returns-then-events-steps : goal.returns-then-events-steps
-returns-then-events-steps g c = record {
-  same = record { endpoints = refl; state = refl; history = refl };
-  closes = limit (sym c.finished.ensures ∙ c.if-finished.false) (sym c.events.ensures.events ∙ c.if-events-steps.true);
-}
+returns-then-events-steps g c =
+    let v = c.args.self.now in
+    record {
+      turns = record {
+        same = record { endpoints = refl; state = refl; history = refl };
+        closes = limit (sym (c.have_ended.ensures v.endpoints v.state c.requires.candidates) ∙ c.if-have_ended.false) (sym c.events.ensures.events ∙ c.if-events-steps.true);
+      };
+      candidates = λ i. absurd cc;
+    }
 
 pub returns-in_default : goal.returns-in_default
 returns-in_default g c =
     let v = c.args.self.now in
-    stuck_closes (hosts_in v.endpoints.names (functions_of c.args.hosts.now)) c.args.seed c.args.steps v c.stuck.result c.stuck.ensures (λ h. c.if-events-steps.false (c.events.ensures.events ∙ h)) (c.pick.ensures.none.0 c.in_default.is)
+    let none : none_can_step v.endpoints None v.state v.state.machines ≡ true =
+    none_listed v.endpoints v.state c.count-count.ensures.stand (none_picked (listed v.endpoints None v.state) _ (sym (c.pick.ensures v.endpoints v.state c.requires.candidates) ∙ c.in_default.is)) in
+    record {
+      turns = stuck_closes (hosts_in v.endpoints.names (functions_of c.args.hosts.now)) c.args.seed c.args.steps v c.stuck.result c.stuck.ensures (λ h. c.if-events-steps.false (c.events.ensures.events ∙ h)) none;
+      candidates = λ i. absurd cc;
+    }
 
-pub step-requires-clause-there : goal.step-requires-clause-there
-step-requires-clause-there g c = let v = c.args.self.now in (picked_steps v.endpoints v.state c.args.seed (length v.history) c.in-Some.pid (sym c.in-Some.ensures.pick)).0
+pub stuck-requires-clause-unended : goal.stuck-requires-clause-unended
+stuck-requires-clause-unended g c = let v = c.args.self.now in sym (c.have_ended.ensures v.endpoints v.state c.requires.candidates) ∙ c.if-have_ended.false
 
-pub unreachable-requires : goal.unreachable-requires
-unreachable-requires g c =
+pub stuck-requires-clause-none : goal.stuck-requires-clause-none
+stuck-requires-clause-none g c =
     let v = c.args.self.now in
-    let s = (picked_steps v.endpoints v.state c.args.seed (length v.history) c.in-Some.pid (sym c.in-Some.ensures.pick)).1 in
-    let w = c.in-Waits.ensures in
-    steps_no_wait v.endpoints v.state c.in-Some.pid c.in-Waits.field-0 s w.0
+    none_listed v.endpoints v.state c.count-count.ensures.stand (none_picked (listed v.endpoints None v.state) _ (sym (c.pick.ensures v.endpoints v.state c.requires.candidates) ∙ c.in_default.is))
 
-pub unreachable-requires-in-Ended : goal.unreachable-requires-in-Ended
-unreachable-requires-in-Ended g c =
+pub head-head-requires : goal.head-head-requires
+head-head-requires g c = let v = c.args.self.now in (picked_steps v.endpoints v.state c.args.seed c.events-2.result c.in-Some.pid (sym (c.in-Some.ensures v.endpoints v.state c.requires.candidates))).0
+
+pub go-requires-clause-there : goal.go-requires-clause-there
+go-requires-clause-there g c = let v = c.args.self.now in (picked_steps v.endpoints v.state c.args.seed c.events-2.result c.in-Some.pid (sym (c.in-Some.ensures v.endpoints v.state c.requires.candidates))).0
+
+pub go-requires-clause-steps : goal.go-requires-clause-steps
+go-requires-clause-steps g c = let v = c.args.self.now in (picked_steps v.endpoints v.state c.args.seed c.events-2.result c.in-Some.pid (sym (c.in-Some.ensures v.endpoints v.state c.requires.candidates))).1
+
+pub follow-requires : goal.follow-requires
+follow-requires g c =
     let v = c.args.self.now in
-    let s = (picked_steps v.endpoints v.state c.args.seed (length v.history) c.in-Some.pid (sym c.in-Some.ensures.pick)).1 in
-    let w = c.in-Ended.ensures in
-    steps_no_end v.endpoints v.state c.in-Some.pid s w.0
+    let there = subst (λ (k : ℕ). c.in-Some.pid < k) (sym c.count-count.ensures.count) (picked_steps v.endpoints v.state c.args.seed c.events-2.result c.in-Some.pid (sym (c.in-Some.ensures v.endpoints v.state c.requires.candidates))).0 in
+    has_moved (hosts_in v.endpoints.names (functions_of c.args.hosts.now)) v c.go.new.self (record { pid = c.in-Some.pid; head = c.head-head.result; count = c.count-count.result }) c.args.candidates.now c.head-head.ensures c.count-count.ensures.count there c.in-Ok.ensures.ok c.in-Ok.ensures.grown c.requires.candidates

@@ -1,0 +1,243 @@
+-- Processes that are noted and judged anew.
+use Rattle.std.proofs.Common.{◌≡◌, ◌⊎◌, inl, inr, ℕ, zero, suc, ◌+◌, ◌==◌, ◌<◌, Bool, true, false, List, [], ◌∷◌, ◌++◌, length, refl, sym, ap, ◌∙◌, subst, Option, Some, arith}
+use Rattle.std.specs.Prelude.{slice_get, slice_set, not, ◌≢◌, if◌then◌else◌}
+use Rattle.std.proofs.lemmas.Bool.Decides.{nat_tests}
+use Rattle.std.proofs.lemmas.Option.{slice_get_within}
+use Rattle.std.proofs.lemmas.List.{length-append}
+use Rattle.chor_base.specs.declared.names.NameId.{NameId}
+use Rattle.endpoint_code.specs.declared.endpoints.Endpoints.{Endpoints}
+use Rattle.endpoint_code.specs.Network.{NetworkState}
+use Rattle.endpoint_machine.specs.declared.head.Head.{Head}
+use Rattle.waiting_processes.specs.declared.waits.Awaited.{Awaited}
+use Rattle.waiting_processes.specs.declared.waits.Awaited.TheVariants.{Channel}
+use Rattle.waiting_processes.specs.declared.lists.WaitingLists.{WaitingLists}
+use Rattle.waiting_processes.specs.Waits.{awaited_by, awaited_in, awaited_at, awaited_of}
+use Rattle.waiting_processes.specs.Lists.{waiting_for, same_awaited}
+use Rattle.waiting_processes.proofs.Left.{get_other}
+use Rattle.waiting_processes.proofs.Entries.{is_same, same_itself}
+use Rattle.net_core.specs.declared.candidates.Candidates.{Candidates}
+use Rattle.net_core.specs.Heads.{ended_at, is_listed_at, Shows}
+use Rattle.net_core.specs.Candidates.{IsIn, AreWithin, ListsAll, IsKept, IsNoted, IsJudged, HasPlaces, HasGrownTo, Enters, Judges, Renews}
+use Rattle.net_core.proofs.Lone.{taker}
+
+-- ---- lists
+
+pub get_set : {X : Type 0} (xs : List X) (i : ℕ) (x : X) → i < length xs → slice_get (slice_set xs i x) i ≡ Some x
+get_set [] i x lt = absurd (omega arith)
+get_set (y ∷ xs) zero x lt = refl
+get_set (y ∷ xs) (suc i) x lt = get_set xs i x (omega arith)
+
+pub length_set : {X : Type 0} (xs : List X) (i : ℕ) (x : X) → length (slice_set xs i x) ≡ length xs
+length_set [] i x = refl
+length_set (y ∷ xs) zero x = refl
+length_set (y ∷ xs) (suc i) x = ap suc (length_set xs i x)
+
+pub in_front : (ps : List ℕ) (p q : ℕ) → IsIn ps q → IsIn (ps ++ p ∷ []) q
+in_front ps p q (k, h) = (k, go ps k h)
+  where
+    go : (xs : List ℕ) (j : ℕ) → slice_get xs j ≡ Some q → slice_get (xs ++ p ∷ []) j ≡ Some q
+    go [] j i = absurd cc
+    go (x ∷ xs) zero i = i
+    go (x ∷ xs) (suc j) i = go xs j i
+
+pub in_last : (ps : List ℕ) (p : ℕ) → IsIn (ps ++ p ∷ []) p
+in_last [] p = (0, refl)
+in_last (x ∷ ps) p = let r = in_last ps p in (suc r.0, r.1)
+
+pub in_either : (ps : List ℕ) (p q : ℕ) → IsIn (ps ++ p ∷ []) q → IsIn ps q ⊎ (p ≡ q)
+in_either ps p q (k, h) = go ps k h
+  where
+    from_rest : (x : ℕ) (xs : List ℕ) → IsIn xs q ⊎ (p ≡ q) → IsIn (x ∷ xs) q ⊎ (p ≡ q)
+    from_rest x xs (inl (j, i)) = inl (suc j, i)
+    from_rest x xs (inr e) = inr e
+
+    go : (xs : List ℕ) (j : ℕ) → slice_get (xs ++ p ∷ []) j ≡ Some q → IsIn xs q ⊎ (p ≡ q)
+    go [] zero i = inr cc
+    go [] (suc j) i = absurd cc
+    go (x ∷ xs) zero i = inl (0, i)
+    go (x ∷ xs) (suc j) i = from_rest x xs (go xs j i)
+
+pub in_one : (p q : ℕ) → IsIn (p ∷ []) q → p ≡ q
+in_one p q (zero, h) = cc
+in_one p q (suc k, h) = absurd cc
+
+pub in_none : (q : ℕ) → IsIn [] q → ⊥
+in_none q (k, h) = cc
+
+same_number : (m n : ℕ) → (m == n) ≡ true → m ≡ n
+same_number m n h = grind (arith, nat_tests)
+
+other_number : (m n : ℕ) → (m == n) ≡ false → m ≢ n
+other_number m n h e = let t : (m == n) ≡ true = grind (arith, nat_tests) in cc
+
+-- ---- places
+
+get_before : {X : Type 0} (xs ys : List X) (j : ℕ) → j < length xs → slice_get (xs ++ ys) j ≡ slice_get xs j
+get_before [] ys j lt = absurd (omega arith)
+get_before (x ∷ xs) ys zero lt = refl
+get_before (x ∷ xs) ys (suc j) lt = get_before xs ys j (omega arith)
+
+one_longer : (xs : List Bool) (b : Bool) → length (xs ++ b ∷ []) ≡ length xs + 1
+one_longer xs b = length-append xs (b ∷ [])
+
+still_there : (xs : List Bool) (b c : Bool) (q : ℕ) → slice_get xs q ≡ Some c → slice_get (xs ++ b ∷ []) q ≡ Some c
+still_there xs b c q h = get_before xs (b ∷ []) q (slice_get_within xs q c h) ∙ h
+
+pub grown_none : (c : Candidates) → HasPlaces (length c.listed) c → HasGrownTo (length c.listed) c c
+grown_none c places = record { places = places; listed = λ q b h. h; unended = λ q b h. h; waiting = refl }
+
+-- one place more
+pub grown_more : (count : ℕ) (first old : Candidates) (listed unended : List Bool) → HasGrownTo count first old → listed ≡ old.listed ++ false ∷ [] → unended ≡ old.unended ++ false ∷ []
+    → HasGrownTo (count + 1) first (record { listed = listed; unended = unended; waiting = old.waiting })
+grown_more count first old listed unended g l u = record {
+  places = record {
+    listed = ap length l ∙ one_longer old.listed false ∙ ap (λ k. k + 1) g.places.listed;
+    unended = ap length u ∙ one_longer old.unended false ∙ ap (λ k. k + 1) g.places.unended;
+    within = λ w q i. let lt : q < count = g.places.within w q i in omega arith;
+  };
+  listed = λ q b h. ap (λ (xs : List Bool). slice_get xs q) l ∙ still_there old.listed false b q (g.listed q b h);
+  unended = λ q b h. ap (λ (xs : List Bool). slice_get xs q) u ∙ still_there old.unended false b q (g.unended q b h);
+  waiting = g.waiting;
+}
+
+-- ---- one process
+
+pub awaits : (e : Endpoints) (n : NetworkState) (p : ℕ) (h : Head) → Shows e n p h → awaited_at e n p ≡ awaited_by h
+awaits e n p h s = ap (awaited_in e) s.stands.there ∙ ap awaited_of (taker e n p h s)
+
+module _ (e : Endpoints) (n : NetworkState) where
+  -- ---- noted
+
+  -- what is kept of one process is noted anew
+  pub entered_one : (old new : Candidates) (p : ℕ) → p < length n.machines → HasPlaces (length n.machines) old → new.listed ≡ old.listed → new.unended ≡ slice_set old.unended p (not (ended_at e n p))
+      → IsKept e n new.waiting p → ((w : Awaited) (q : ℕ) → IsIn (waiting_for old.waiting w) q → IsIn (waiting_for new.waiting w) q) → AreWithin (length n.machines) new.waiting → Enters e n old (p ∷ []) new
+  entered_one old new p lt places listed unended kept more within = record {
+    places = record {
+      listed = ap length listed ∙ places.listed;
+      unended = ap length unended ∙ length_set old.unended p (not (ended_at e n p)) ∙ places.unended;
+      within = within;
+    };
+    listed = listed;
+    stays = stays;
+    entered = λ q i. subst (IsNoted e n new) (in_one p q i) own;
+  }
+    where
+      own : IsNoted e n new p
+      own =
+          let inside : p < length old.unended = subst (λ k. p < k) (sym places.unended) lt in
+          record { unended = ap (λ (bs : List Bool). slice_get bs p) unended ∙ get_set old.unended p (not (ended_at e n p)) inside; kept = kept }
+
+      stays : (q : ℕ) → IsNoted e n old q → IsNoted e n new q
+      stays q r = go (p == q) refl
+        where
+          go : (t : Bool) → (p == q) ≡ t → IsNoted e n new q
+          go true i = subst (IsNoted e n new) (same_number p q i) own
+          go false i =
+              let apart : q ≢ p = λ s. other_number p q i (sym s) in
+              record { unended = ap (λ (bs : List Bool). slice_get bs q) unended ∙ get_other old.unended p q (not (ended_at e n p)) apart ∙ r.unended; kept = λ w a. more w q (r.kept w a) }
+
+  pub entered_none : (c : Candidates) → HasPlaces (length n.machines) c → Enters e n c [] c
+  entered_none c places = record { places = places; listed = refl; stays = λ q r. r; entered = λ q i. absurd (in_none q i) }
+
+  pub entered_more : (a b c : Candidates) (ps : List ℕ) (p : ℕ) → Enters e n a ps b → Enters e n b (p ∷ []) c → Enters e n a (ps ++ p ∷ []) c
+  entered_more a b c ps p s t = record { places = t.places; listed = t.listed ∙ s.listed; stays = λ q r. t.stays q (s.stays q r); entered = λ q i. go q (in_either ps p q i) }
+    where
+      go : (q : ℕ) → IsIn ps q ⊎ (p ≡ q) → IsNoted e n c q
+      go q (inl i) = t.stays q (s.entered q i)
+      go q (inr i) = t.entered q (0, ap (λ (k : ℕ). Some k) i)
+
+  -- one process after the other
+  pub entered_next : (old new : Candidates) (p : ℕ) → Enters e n old (p ∷ []) new → ((q : ℕ) → q < p → IsNoted e n old q) → (q : ℕ) → q < p + 1 → IsNoted e n new q
+  entered_next old new p l before q lt = go (p == q) refl
+    where
+      go : (t : Bool) → (p == q) ≡ t → IsNoted e n new q
+      go true i = l.entered q (0, ap (λ (k : ℕ). Some k) (same_number p q i))
+      go false i = let apart = other_number p q i in let less : q < p = grind (arith, nat_tests) in l.stays q (before q less)
+
+  -- one more in the list of what it waits for
+  module _ (old new : WaitingLists) (a : Awaited) (p : ℕ) (put : (w : Awaited) → waiting_for new w ≡ (if same_awaited a w then waiting_for old a ++ p ∷ [] else waiting_for old w)) where
+    pub added : awaited_at e n p ≡ Some a → (w : Awaited) → awaited_at e n p ≡ Some w → IsIn (waiting_for new w) p
+    added is w i =
+        let both : Some a ≡ Some w = sym is ∙ i in
+        let same : a ≡ w = cc in
+        subst (λ (v : Awaited). IsIn (waiting_for new v) p) same (subst (λ (ps : List ℕ). IsIn ps p) (sym (put a ∙ ap (λ (t : Bool). if t then waiting_for old a ++ p ∷ [] else waiting_for old a) (same_itself a))) (in_last (waiting_for old a) p))
+
+    pub adds : (w : Awaited) (q : ℕ) → IsIn (waiting_for old w) q → IsIn (waiting_for new w) q
+    adds w q i = subst (λ (ps : List ℕ). IsIn ps q) (sym (put w)) (go (same_awaited a w) refl)
+      where
+        go : (t : Bool) → same_awaited a w ≡ t → IsIn (if t then waiting_for old a ++ p ∷ [] else waiting_for old w) q
+        go true j = in_front (waiting_for old a) p q (subst (λ (v : Awaited). IsIn (waiting_for old v) q) (sym (is_same a w j)) i)
+        go false j = i
+
+    pub adds_below : (count : ℕ) → p < count → AreWithin count old → AreWithin count new
+    adds_below count lt below w q i = go (same_awaited a w) (subst (λ (ps : List ℕ). IsIn ps q) (put w) i)
+      where
+        last : IsIn (waiting_for old a) q ⊎ (p ≡ q) → q < count
+        last (inl j) = below a q j
+        last (inr s) = subst (λ k. k < count) s lt
+
+        go : (t : Bool) → IsIn (if t then waiting_for old a ++ p ∷ [] else waiting_for old w) q → q < count
+        go true j = last (in_either (waiting_for old a) p q j)
+        go false j = below w q j
+
+  -- ---- judged
+
+  pub judged_one : (old new : List Bool) (p : ℕ) (b : Bool) → p < length n.machines → length old ≡ length n.machines → b ≡ is_listed_at e n p → new ≡ slice_set old p b → Judges e n old (p ∷ []) new
+  judged_one old new p b lt count is put = record { count = ap length put ∙ length_set old p b; stays = stays; judged = λ q i. subst (IsJudged e n new) (in_one p q i) own }
+    where
+      own : IsJudged e n new p
+      own = let inside : p < length old = subst (λ k. p < k) (sym count) lt in ap (λ (bs : List Bool). slice_get bs p) put ∙ get_set old p b inside ∙ ap (λ (x : Bool). Some x) is
+
+      stays : (q : ℕ) → IsJudged e n old q → IsJudged e n new q
+      stays q r = go (p == q) refl
+        where
+          go : (t : Bool) → (p == q) ≡ t → IsJudged e n new q
+          go true i = subst (IsJudged e n new) (same_number p q i) own
+          go false i = let apart : q ≢ p = λ s. other_number p q i (sym s) in ap (λ (bs : List Bool). slice_get bs q) put ∙ get_other old p q b apart ∙ r
+
+  pub judged_none : (bits : List Bool) → Judges e n bits [] bits
+  judged_none bits = record { count = refl; stays = λ q r. r; judged = λ q i. absurd (in_none q i) }
+
+  pub judged_more : (a b c : List Bool) (ps : List ℕ) (p : ℕ) → Judges e n a ps b → Judges e n b (p ∷ []) c → Judges e n a (ps ++ p ∷ []) c
+  judged_more a b c ps p s t = record { count = t.count ∙ s.count; stays = λ q r. t.stays q (s.stays q r); judged = λ q i. go q (in_either ps p q i) }
+    where
+      go : (q : ℕ) → IsIn ps q ⊎ (p ≡ q) → IsJudged e n c q
+      go q (inl i) = t.stays q (s.judged q i)
+      go q (inr i) = t.judged q (0, ap (λ (k : ℕ). Some k) i)
+
+  pub judged_next : (old new : List Bool) (p : ℕ) → Judges e n old (p ∷ []) new → ((q : ℕ) → q < p → IsJudged e n old q) → (q : ℕ) → q < p + 1 → IsJudged e n new q
+  judged_next old new p l before q lt = go (p == q) refl
+    where
+      go : (t : Bool) → (p == q) ≡ t → IsJudged e n new q
+      go true i = l.judged q (0, ap (λ (k : ℕ). Some k) (same_number p q i))
+      go false i = let apart = other_number p q i in let less : q < p = grind (arith, nat_tests) in l.stays q (before q less)
+
+  -- ---- with those who join the same channel
+
+  pub renewed_none : (done : Option NameId) (bits : List Bool) → Renews e n done bits [] bits
+  renewed_none done bits = record { judges = judged_none bits; came = λ p c i a o q lt b. absurd (in_none p i) }
+
+  pub renewed_more : (done : Option NameId) (a b c : List Bool) (ps : List ℕ) (p : ℕ) → Renews e n done a ps b → Renews e n done b (p ∷ []) c → Renews e n done a (ps ++ p ∷ []) c
+  renewed_more done a b c ps p s t = record { judges = judged_more a b c ps p s.judges t.judges; came = λ r d i. go r d (in_either ps p r i) }
+    where
+      go : (r : ℕ) (d : NameId) → IsIn ps r ⊎ (p ≡ r) → awaited_at e n r ≡ Some (Channel d) → (done ≡ Some d → ⊥) → (q : ℕ) → q < length n.machines → awaited_at e n q ≡ Some (Channel d) → IsJudged e n c q
+      go r d (inl i) w o q lt v = t.judges.stays q (s.came r d i w o q lt v)
+      go r d (inr i) w o q lt v = t.came r d (0, ap (λ (j : ℕ). Some j) i) w o q lt v
+
+  -- the process joins no channel but the one that is done
+  pub renewed_alone : (done : Option NameId) (old new : List Bool) (p : ℕ) → Judges e n old (p ∷ []) new → ((c : NameId) → awaited_at e n p ≡ Some (Channel c) → done ≡ Some c) → Renews e n done old (p ∷ []) new
+  renewed_alone done old new p l none = record {
+    judges = l;
+    came = λ r c i a o q lt b. absurd (o (none c (subst (λ (j : ℕ). awaited_at e n j ≡ Some (Channel c)) (sym (in_one p r i)) a)));
+  }
+
+  -- it joins this channel
+  pub renewed_channel : (done : Option NameId) (lists : WaitingLists) (old mid new : List Bool) (p : ℕ) (c : NameId) → ListsAll e n lists → Judges e n old (p ∷ []) mid → awaited_at e n p ≡ Some (Channel c)
+      → Judges e n mid (waiting_for lists (Channel c)) new → Renews e n done old (p ∷ []) new
+  renewed_channel done lists old mid new p c all l is j = record {
+    judges = record { count = j.count ∙ l.count; stays = λ q r. j.stays q (l.stays q r); judged = λ q i. j.stays q (l.judged q i) };
+    came = λ r d i a o q lt b.
+        let both : Some (Channel c) ≡ Some (Channel d) = sym is ∙ subst (λ (m : ℕ). awaited_at e n m ≡ Some (Channel d)) (sym (in_one p r i)) a in
+        let same : c ≡ d = cc in
+        j.judged q (all.kept q lt (Channel c) (b ∙ ap (λ (x : NameId). Some (Channel x)) (sym same)));
+  }

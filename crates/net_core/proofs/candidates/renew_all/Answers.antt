@@ -1,0 +1,17 @@
+use Rattle.std.proofs.Common.{sym, subst, take, get_or, List, ℕ}
+use Rattle.std.proofs.lemmas.List.{take_more}
+use Rattle.std.proofs.lemmas.Option.{slice_get-get_or}
+use Rattle.net_core.specs.Candidates.{Renews}
+use Rattle.net_core.proofs.Anew.{renewed_more}
+use Rattle.net_core.proofs.candidates.renew_all.Goals as goal
+
+pub renew-requires-clause-there : goal.renew-requires-clause-there
+renew-requires-clause-there c = let i = c.loop-pid.pid-index in c.requires.there (get_or c.args.pids.now i 0) (i, slice_get-get_or c.args.pids.now i 0 c.loop-pid-test.true)
+
+pub loop-pid-preserved : goal.loop-pid-preserved
+loop-pid-preserved c =
+    let v = c.args.network.now in
+    let i = c.loop-pid.pid-index in
+    let ps = c.args.pids.now in
+    subst (λ (l : List ℕ). Renews v.endpoints v.state c.args.done c.args.listed.now l c.renew.new.listed) (sym (take_more ps i 0 c.loop-pid-test.true))
+    (renewed_more v.endpoints v.state c.args.done c.args.listed.now c.loop-pid.listed c.renew.new.listed (take i ps) (get_or ps i 0) c.loop-pid.invariant c.renew.ensures)

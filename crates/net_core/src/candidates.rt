@@ -1,0 +1,272 @@
+//! Which processes the pick rule may take, kept from event to event.
+
+ghost use Rattle.std.specs.Prelude.{◌≡◌, ℕ, ◌<◌, ◌≤◌, ◌^◌, length, None, IfOk, OnOk, ◌∷◌, []};
+ghost use Rattle.endpoint_code.specs.declared.endpoints.Endpoints.{Endpoints as AnyEndpoints};
+ghost use Rattle.endpoint_code.specs.Network.{NetworkState};
+ghost use Rattle.endpoint_code.specs.NetworkRuns.{all_ended};
+ghost use Rattle.endpoint_code.specs.Scheduled.{picked};
+ghost use Rattle.net_core.specs.Heads.{is_listed_at};
+ghost use Rattle.net_core.specs.Candidates.{joined_by, IsUpToDate, HasPlaces, HasGrownTo, AreBelow, ListsAll, IsNoted, IsJudged, Enters, Judges, Renews, TakesWaiting, TakesTouched, HasMoved};
+
+use crate::network::Network;
+use crate::parts::place_of_pick;
+use chor_base::{Memory, NameId};
+use counted_bits::CountedBits;
+use endpoint_machine::Head;
+use std::alloc::Global;
+use waiting_processes::{Awaited, WaitingLists, awaited_by, touched_by};
+
+/// Where a process stood before its event, and how many processes there were.
+#[derive(Clone, Copy)]
+pub struct Past {
+    pub pid: u32,
+    pub head: Head,
+    pub count: u32,
+}
+
+// The channel that a process joins at a head.
+fn joined_by(head: Head) -> Option<NameId>
+    ensures { result ≡ joined_by head }
+{
+    match head {
+        Head::Join(channel, _) => Some(channel),
+        _ => None,
+    }
+}
+
+/// Which processes the pick rule may take, which haven't ended, and what the others wait for.
+#[derive(Drop)]
+pub struct Candidates {
+    listed: CountedBits,
+    unended: CountedBits,
+    waiting: WaitingLists,
+}
+
+impl Candidates {
+    /// The candidates of a network.
+    pub fn new(alloc: Global, network: &Network<'_>) -> Result<Self, Memory>
+        ensures { IfOk result (IsUpToDate network.now.endpoints network.now.state) }
+    {
+        let mut candidates = Candidates {
+            listed: CountedBits::new(alloc),
+            unended: CountedBits::new(alloc),
+            waiting: WaitingLists::new(alloc),
+        };
+        candidates.grow(network.count())?;
+        candidates.enter_each(network)?;
+        candidates.judge_each(network);
+        Ok(candidates)
+    }
+
+    /// Whether every process has ended.
+    pub fn have_ended(&self) -> bool
+        ensures { (e : AnyEndpoints) (n : NetworkState) → IsUpToDate e n self.now → result ≡ all_ended e n.machines }
+    {
+        self.unended.count() == 0
+    }
+
+    /// The process that the pick rule takes after so many events.
+    pub fn pick(&self, seed: u64, events: u64) -> Option<u32>
+        requires small { seed < 2 ^ 32 }
+        requires few { events < 2 ^ 63 }
+        ensures { (e : AnyEndpoints) (n : NetworkState) → IsUpToDate e n self.now → result ≡ picked e None seed events n }
+    {
+        let count = u64::from(self.listed.count());
+        if count == 0 {
+            return None;
+        }
+        self.listed.nth(place_of_pick(seed, events, count) as u32)
+    }
+
+    /// What has become of the processes by an event of one of them.
+    pub fn follow(&mut self, alloc: Global, network: &Network<'_>, past: Past) -> Result<(), Memory>
+        requires { HasMoved network.now.endpoints network.now.state past self.old }
+        ensures { OnOk result (IsUpToDate network.now.endpoints network.now.state self.new) }
+    {
+        self.grow(network.count())?;
+        let pids = self.take_touched(alloc, network.count(), past)?;
+        self.enter_all(network, pids.as_slice())?;
+        let done = joined_by(past.head);
+        renew_all(
+            &mut self.listed,
+            &self.waiting,
+            network,
+            pids.as_slice(),
+            done,
+        );
+        Ok(())
+    }
+
+    // Takes out of the lists the processes that an event may have moved, and those that may wait
+    // for what it has changed.
+    fn take_touched(&mut self, alloc: Global, count: u32, past: Past) -> Result<Vec<u32>, Memory>
+        requires places { HasPlaces count self.old }
+        requires there { past.pid < past.count }
+        requires kept { past.count ≤ count }
+        ensures { IfOk result (λ pids. TakesTouched past count self.old pids.items self.new) }
+    {
+        let mut pids = self.take_waiting(alloc, past.head);
+        if awaited_by(past.head).is_none() {
+            pids.push(past.pid)?;
+        }
+        for pid in past.count..count {
+            pids.push(pid)?;
+        }
+        Ok(pids)
+    }
+
+    // Takes out of the lists the processes that may wait for what an event at a head changes.
+    fn take_waiting(&mut self, alloc: Global, head: Head) -> Vec<u32>
+        ensures listed { self.new.listed ≡ self.old.listed }
+        ensures unended { self.new.unended ≡ self.old.unended }
+        ensures takes { TakesWaiting head self.old.waiting result.items self.new.waiting }
+    {
+        match touched_by(head) {
+            Some(touched) => self.waiting.take(touched),
+            None => Vec::new(alloc),
+        }
+    }
+
+    // Has places for so many processes.
+    fn grow(&mut self, count: u32) -> Result<(), Memory>
+        requires places { HasPlaces (length self.old.listed) self.old }
+        requires more { length self.old.listed ≤ count }
+        ensures { OnOk result (HasGrownTo count self.old self.new) }
+    {
+        for _ in self.listed.len()..count {
+            self.listed.push(false)?;
+            self.unended.push(false)?;
+        }
+        Ok(())
+    }
+
+    // Notes anew whether a process has ended, and what it waits for.
+    fn enter(&mut self, network: &Network<'_>, pid: u32) -> Result<(), Memory>
+        requires there { pid < length network.now.state.machines }
+        requires places { HasPlaces (length network.now.state.machines) self.old }
+        ensures { OnOk result (Enters network.now.endpoints network.now.state self.old (pid ∷ []) self.new) }
+    {
+        self.unended.set(pid, !network.ended(pid));
+        match awaited_by(network.head(pid)) {
+            Some(awaited) => self.waiting.add(awaited, pid),
+            None => Ok(()),
+        }
+    }
+
+    // The same of each of these processes.
+    fn enter_all(&mut self, network: &Network<'_>, pids: &[u32]) -> Result<(), Memory>
+        requires there { AreBelow (length network.now.state.machines) pids.now }
+        requires places { HasPlaces (length network.now.state.machines) self.old }
+        ensures { OnOk result (Enters network.now.endpoints network.now.state self.old pids.now self.new) }
+    {
+        for pid in pids {
+            self.enter(network, *pid)?;
+        }
+        Ok(())
+    }
+
+    // The same of every process.
+    fn enter_each(&mut self, network: &Network<'_>) -> Result<(), Memory>
+        requires { HasPlaces (length network.now.state.machines) self.old }
+        ensures places { OnOk result (HasPlaces (length network.now.state.machines) self.new) }
+        ensures noted { OnOk result ((q : ℕ) → q < length network.now.state.machines → IsNoted network.now.endpoints network.now.state self.new q) }
+    {
+        for pid in 0..network.count() {
+            self.enter(network, pid)?;
+        }
+        Ok(())
+    }
+
+    // Judges anew whether the pick rule may take each process.
+    fn judge_each(&mut self, network: &Network<'_>)
+        requires places { HasPlaces (length network.now.state.machines) self.old }
+        requires lists { ListsAll network.now.endpoints network.now.state self.old.waiting }
+        ensures unended { self.new.unended ≡ self.old.unended }
+        ensures waiting { self.new.waiting ≡ self.old.waiting }
+        ensures count { length self.new.listed ≡ length self.old.listed }
+        ensures judged { (q : ℕ) → q < length network.now.state.machines → IsJudged network.now.endpoints network.now.state self.new.listed q }
+    {
+        for pid in 0..network.count() {
+            judge(&mut self.listed, &self.waiting, network, pid);
+        }
+    }
+}
+
+// Whether the pick rule may take a process. Partners are looked for among those who join its
+// channel alone.
+fn is_listed(waiting: &WaitingLists, network: &Network<'_>, pid: u32) -> bool
+    requires there { pid < length network.now.state.machines }
+    requires lists { ListsAll network.now.endpoints network.now.state waiting.now }
+    ensures { result ≡ is_listed_at network.now.endpoints network.now.state pid }
+{
+    match network.head(pid) {
+        Head::Join(channel, role) => {
+            let joiners = waiting.get(Awaited::Channel(channel));
+            network.leads(pid) && network.are_joined_among(channel, role, joiners)
+        }
+        _ => network.is_listed(pid),
+    }
+}
+
+// Judges anew whether the pick rule may take a process.
+fn judge(listed: &mut CountedBits, waiting: &WaitingLists, network: &Network<'_>, pid: u32)
+    requires there { pid < length network.now.state.machines }
+    requires places { length listed.old ≡ length network.now.state.machines }
+    requires lists { ListsAll network.now.endpoints network.now.state waiting.now }
+    ensures { Judges network.now.endpoints network.now.state listed.old (pid ∷ []) listed.new }
+{
+    listed.set(pid, is_listed(waiting, network, pid));
+}
+
+// The same of each of these processes.
+fn judge_all(listed: &mut CountedBits, waiting: &WaitingLists, network: &Network<'_>, pids: &[u32])
+    requires there { AreBelow (length network.now.state.machines) pids.now }
+    requires places { length listed.old ≡ length network.now.state.machines }
+    requires lists { ListsAll network.now.endpoints network.now.state waiting.now }
+    ensures { Judges network.now.endpoints network.now.state listed.old pids.now listed.new }
+{
+    for pid in pids {
+        judge(listed, waiting, network, *pid);
+    }
+}
+
+// Judges anew a process, and all who join the channel that it joins, unless it is this one.
+fn renew(
+    listed: &mut CountedBits,
+    waiting: &WaitingLists,
+    network: &Network<'_>,
+    pid: u32,
+    done: Option<NameId>,
+)
+    requires there { pid < length network.now.state.machines }
+    requires places { length listed.old ≡ length network.now.state.machines }
+    requires lists { ListsAll network.now.endpoints network.now.state waiting.now }
+    ensures { Renews network.now.endpoints network.now.state done listed.old (pid ∷ []) listed.new }
+{
+    judge(listed, waiting, network, pid);
+    match awaited_by(network.head(pid)) {
+        Some(Awaited::Channel(channel)) if done != Some(channel) => {
+            let joiners = waiting.get(Awaited::Channel(channel));
+            judge_all(listed, waiting, network, joiners);
+        }
+        _ => {}
+    }
+}
+
+// The same for each of these processes.
+fn renew_all(
+    listed: &mut CountedBits,
+    waiting: &WaitingLists,
+    network: &Network<'_>,
+    pids: &[u32],
+    done: Option<NameId>,
+)
+    requires there { AreBelow (length network.now.state.machines) pids.now }
+    requires places { length listed.old ≡ length network.now.state.machines }
+    requires lists { ListsAll network.now.endpoints network.now.state waiting.now }
+    ensures { Renews network.now.endpoints network.now.state done listed.old pids.now listed.new }
+{
+    for pid in pids {
+        renew(listed, waiting, network, *pid, done);
+    }
+}

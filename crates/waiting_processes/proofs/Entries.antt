@@ -1,0 +1,85 @@
+-- Lists of processes after one of them has changed.
+use Rattle.std.proofs.Common.{◌≡◌, ℕ, ◌==◌, ◌&&◌, Bool, true, false, cond, List, [], ◌∷◌, ◌++◌, refl, sym, ap, ◌∙◌, Option, None, arith, if◌then◌else◌}
+use Rattle.std.proofs.lemmas.Bool.Decides.{nat_tests}
+use Rattle.std.specs.Map.{lookup}
+use Rattle.waiting_processes.specs.declared.waits.Awaited.{Awaited}
+use Rattle.waiting_processes.specs.declared.waits.Awaited.TheVariants.{Queue, Channel}
+use Rattle.waiting_processes.specs.contracts.waits.AwaitedPartialEq.TheImpl as awaited
+use Rattle.chor_base.specs.declared.names.NameId.{NameId}
+use Rattle.waiting_processes.specs.Lists.{same_awaited, list_of}
+
+abbrev Entries : Type 0
+Entries = List (Awaited × List ℕ)
+
+-- the test of keys that the table makes
+abbrev eq_of : Awaited → Awaited → Bool
+eq_of = awaited.ghosts.eq
+
+alike : (v w : Awaited) → eq_of v w ≡ same_awaited v w
+alike (Queue s a b) (Queue t c d) = refl
+alike (Channel c) (Channel d) = refl
+alike (Queue s a b) (Channel d) = refl
+alike (Channel c) (Queue t a b) = refl
+
+look_up : (es : Entries) (v : Awaited) → lookup (eq_of v) es ≡ lookup (same_awaited v) es
+look_up es v = ap (λ (f : Awaited → Bool). lookup f es) (λ i w. alike v w i)
+
+cond_list : (b : Bool) (o p : Option (List ℕ)) → list_of (cond b o p) ≡ (if b then list_of o else list_of p)
+cond_list true o p = refl
+cond_list false o p = refl
+
+-- the list of one is another
+pub other_list : (old new : Entries) (w : Awaited) (o : Option (List ℕ)) → ((v : Awaited) → lookup (eq_of v) new ≡ cond (eq_of w v) o (lookup (eq_of v) old))
+    → (v : Awaited) → list_of (lookup (same_awaited v) new) ≡ (if same_awaited w v then list_of o else list_of (lookup (same_awaited v) old))
+other_list old new w o h v =
+    ap list_of (sym (look_up new v) ∙ h v ∙ ap (λ (b : Bool). cond b o (lookup (eq_of v) old)) (alike w v) ∙ ap (λ (p : Option (List ℕ)). cond (same_awaited w v) o p) (look_up old v))
+    ∙ cond_list (same_awaited w v) o (lookup (same_awaited v) old)
+
+-- ---- when two are the same
+
+number_same : (m n : ℕ) → (m == n) ≡ true → m ≡ n
+number_same m n h = grind (arith, nat_tests)
+
+number_itself : (n : ℕ) → (n == n) ≡ true
+number_itself n = grind (arith, nat_tests)
+
+name_same : (a b : NameId) → (a.0 == b.0) ≡ true → a ≡ b
+name_same a b h = ap (λ (n : ℕ). let r : NameId = record { 0 = n } in r) (number_same a.0 b.0 h)
+
+both_true : (a b : Bool) → (a && b) ≡ true → (a ≡ true) × (b ≡ true)
+both_true true b h = (refl, h)
+both_true false b h = absurd cc
+
+pub is_same : (w v : Awaited) → same_awaited w v ≡ true → w ≡ v
+is_same (Queue s a b) (Queue t c d) h =
+    let one = both_true (s == t) ((a.0 == c.0) && (b.0 == d.0)) h in
+    let two = both_true (a.0 == c.0) (b.0 == d.0) one.1 in
+    let i = number_same s t one.0 in
+    let j = name_same a c two.0 in
+    let k = name_same b d two.1 in
+    ap (λ (x : ℕ). Queue x a b) i ∙ ap (λ (x : NameId). Queue t x b) j ∙ ap (λ (x : NameId). Queue t c x) k
+is_same (Channel c) (Channel d) h = ap (λ (x : NameId). Channel x) (name_same c d h)
+is_same (Queue s a b) (Channel d) h = absurd cc
+is_same (Channel c) (Queue t a b) h = absurd cc
+
+pub same_itself : (w : Awaited) → same_awaited w w ≡ true
+same_itself (Queue s a b) = ap (λ (x : Bool). x && ((a.0 == a.0) && (b.0 == b.0))) (number_itself s) ∙ ap (λ (x : Bool). x && (b.0 == b.0)) (number_itself a.0) ∙ number_itself b.0
+same_itself (Channel c) = number_itself c.0
+
+-- nothing was there
+pub no_list : (old : Entries) (w : Awaited) → lookup (same_awaited w) old ≡ None → (v : Awaited) → list_of (lookup (same_awaited v) old) ≡ (if same_awaited w v then [] else list_of (lookup (same_awaited v) old))
+no_list old w h v = go (same_awaited w v) refl
+  where
+    go : (b : Bool) → same_awaited w v ≡ b → list_of (lookup (same_awaited v) old) ≡ (if b then [] else list_of (lookup (same_awaited v) old))
+    go true e = ap (λ (u : Awaited). list_of (lookup (same_awaited u) old)) (sym (is_same w v e)) ∙ ap list_of h
+    go false e = refl
+
+-- the list is taken out, and put back with one more
+pub put_after : (old taken new : Awaited → List ℕ) (w : Awaited) (p : ℕ) (ps : List ℕ) → ps ≡ old w ++ p ∷ []
+    → ((v : Awaited) → taken v ≡ (if same_awaited w v then [] else old v)) → ((v : Awaited) → new v ≡ (if same_awaited w v then ps else taken v))
+    → (v : Awaited) → new v ≡ (if same_awaited w v then old w ++ p ∷ [] else old v)
+put_after old taken new w p ps is out put v = put v ∙ ap (λ (l : List ℕ). if same_awaited w v then ps else l) (out v) ∙ go (same_awaited w v)
+  where
+    go : (b : Bool) → (if b then ps else (if b then [] else old v)) ≡ (if b then old w ++ p ∷ [] else old v)
+    go true = is
+    go false = refl
