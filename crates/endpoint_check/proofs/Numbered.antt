@@ -55,7 +55,7 @@ module _ (i : Input) where
   term (Constant (Truth b)) h = refl
   term (Constant (Text x)) h = lt-ltb x (length i.texts.now) h
   term (Constant (Part s r)) h = absurd h
-  term (Variable x) h = lt-ltb x.0 (length i.names.now) h
+  term (Variable x) h = lt-ltb x.0 (length i.names.now) h.0
   term (Unary op e) h = term e h
   term (Binary op e f) h = and_from _ _ (term e h.0) (term f h.1)
 

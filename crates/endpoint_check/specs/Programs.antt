@@ -9,6 +9,7 @@ use Rattle.chor_lexer.specs.Tokens.{AreTokensOf}
 use Rattle.endpoint_reader.specs.declared.input.Input.{Input}
 use Rattle.endpoint_reader.specs.declared.written.Written.{Written}
 use Rattle.endpoint_reader.specs.Files.{units_written}
+use Rattle.endpoint_reader.specs.Known.{IsWrittenThere}
 use Rattle.endpoint_reader.specs.Tokens.{lexeme_of}
 use Rattle.endpoint_units.specs.Wholes.{IsWritten, IsRefusal}
 use Rattle.endpoint_names.specs.Faults.{setting}
@@ -24,9 +25,11 @@ lexemes_of i = map (lexeme_of i) i.tokens.now.items
 abbrev pub IsInputOf : List ℕ → Input → Type 0
 IsInputOf bytes i = AreTokensOf bytes [] [] i.names.now i.texts.now i.tokens.now.items
 
--- The tokens are a file of the units that are written, within all limits, and these have no fault, where host functions have these names
+-- The tokens are a file of the units that are written, within all limits; each literal and variable is the one that its token says;
+-- and the units have no fault, where host functions have these names
 pub record IsWrittenWithoutFault (words : List (List ℕ)) (i : Input) (w : Written) : Type 0 where
   pub written : IsWritten (lexemes_of i) (units_written i w)
+  pub there : IsWrittenThere i w
   pub faultless : IsFaultless (setting w i.names.now words)
 
 -- The bytes are the text of these endpoint programs, which have no fault, where host functions have these names

@@ -81,7 +81,7 @@ module _ (i : Input) (distinct : AllDistinct i.names.now) where
 
   pub same_name : (n : Named) → IsName ns xs (named i n) → name_back ns (named i n) ≡ n
   unfolding name_back word_bytes
-  same_name n h = let e = same_number ns distinct n.name h in λ j. record { name = record { 0 = e j }; place = n.place }
+  same_name n h = let e = same_number ns distinct n.name h.0 in λ j. record { name = record { 0 = e j }; place = n.place }
 
   pub same_names : (ys : List Named) → AreNames ns xs (all_named i ys) → names_back ns (all_named i ys) ≡ ys
   same_names [] h = refl

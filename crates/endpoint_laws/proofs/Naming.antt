@@ -1,5 +1,5 @@
 -- Each name of a file's units is a word of the file, and each text in them a text of it.
-use Rattle.std.proofs.Common.{◌<◌, ◌^◌, ◌≡◌, ◌-◌, ℕ, true, List, [], ◌∷◌, inl, inr, sym, ap, subst}
+use Rattle.std.proofs.Common.{◌<◌, ◌^◌, ◌≡◌, ◌⊎◌, ◌-◌, ℕ, Bool, true, false, not, List, [], ◌∷◌, inl, inr, refl, sym, ap, subst}
 use Rattle.std.specs.Prelude.{codes}
 use Rattle.std.specs.List.{AllByRecursion}
 use Rattle.std.proofs.lemmas.Slice.Eq.{bytes_eq-Decides}
@@ -7,7 +7,7 @@ use Rattle.chor_base.specs.declared.expr.BinOp.{BinOp}
 use Rattle.chor_base.specs.declared.expr.BinOp.TheVariants.{And, Or}
 use Rattle.chor_lexer.specs.declared.mark.Mark.TheVariants.{Star, Slash, Plus, Minus, And as And', Or as Or'}
 use Rattle.chor_lexer.specs.Lexeme.{Symbol, word, number, text, mark, last, Lexeme}
-use Rattle.grammar_laws.specs.Classes.{Class, a_mark, a_word, a_kept_word, a_name, a_number, exactly, a_text, the_end, is_of, Says, says}
+use Rattle.grammar_laws.specs.Classes.{Class, a_mark, a_word, a_kept_word, a_name, a_number, exactly, a_text, the_end, is_keyword, is_of, Says, says}
 use Rattle.grammar_laws.specs.Grammars.{nowhere, Derives}
 use Rattle.endpoint_grammar.specs.Written.{Phrase, Leaf, Unary, Binary, Deed, Joins, Sends, Receives, Selects, Gives, Gains, Sets, Shows, Asks, Body, Does, Offers, Tests, Calls, Ends, Arms, NoArms, Arm, Roles, Channel, Procedure, Service, Process, Units}
 use Rattle.endpoint_grammar.specs.Grammar.{Nonterminal, units, lines, roles, served, operand, parens, Part, operators, un, product, sum, comparison, conjunction, disjunction, node, tail, sessions, lines_of, roles_of, served_of, units_of, endpoints, rule_of}
@@ -16,17 +16,21 @@ use Rattle.endpoint_laws.proofs.Kept.{Keeps, keeps}
 use Rattle.endpoint_laws.proofs.Words.{HasNumber, HasText, IsFineSymbol, IsFine}
 
 module _ (table texts : List (List ℕ)) where
-  -- it is a word that has a number
+  -- it is a word that has a number, and no keyword
   abbrev pub IsWord : Symbol → Type 0
-  IsWord (word w) = HasNumber table w
+  IsWord (word w) = HasNumber table w × (is_keyword w ≡ false)
   IsWord _ = ⊥
 
   abbrev pub IsName : Lexeme → Type 0
   IsName l = IsWord l.symbol
 
-  -- a number below 2^63, or a word or a text that has a number
+  -- it is a truth value or no keyword
+  abbrev pub IsOperand : List ℕ → Type 0
+  IsOperand w = (w ≡ codes "true") ⊎ ((w ≡ codes "false") ⊎ (is_keyword w ≡ false))
+
+  -- a number below 2^63, or a word or a text that has a number; a keyword that is a leaf is a truth value
   abbrev pub IsLeaf : Symbol → Type 0
-  IsLeaf (word w) = HasNumber table w
+  IsLeaf (word w) = HasNumber table w × IsOperand w
   IsLeaf (number n) = n < 2 ^ 63
   IsLeaf (text t) = HasText texts t
   IsLeaf (mark m) = ⊥
@@ -106,8 +110,12 @@ module _ (table texts : List (List ℕ)) where
   abbrev Named : (g : Part) → Derived g → Type 0
   Named g v = Keeps rules IsSaid IsMeant g v
 
+  not_true : (b : Bool) → not b ≡ true → b ≡ false
+  not_true false e = refl
+  not_true true e = absurd cc
+
   a_name_is : (s : Symbol) → is_of a_name s ≡ true → IsFineSymbol table texts s → IsWord s
-  a_name_is (word w) i h = h
+  a_name_is (word w) i h = (h, not_true (is_keyword w) i)
   a_name_is (number n) i h = absurd cc
   a_name_is (text t) i h = absurd cc
   a_name_is (mark m) i h = absurd cc
@@ -159,12 +167,12 @@ module _ (table texts : List (List ℕ)) where
   leaf_known (inr (inr (inl x))) h = h
   leaf_known (inr (inr (inr (inl l)))) h = h
   leaf_known (inr (inr (inr (inr (inl l))))) h = h
-  leaf_known (inr (inr (inr (inr (inr (inl v)))))) h = h
-  leaf_known (inr (inr (inr (inr (inr (inr (inl v))))))) h = h
+  leaf_known (inr (inr (inr (inr (inr (inl v)))))) h = (h, inl refl)
+  leaf_known (inr (inr (inr (inr (inr (inr (inl v))))))) h = (h, inr (inl refl))
   leaf_known (inr (inr (inr (inr (inr (inr (inr l))))))) h = a_leaf l.symbol h
     where
       a_leaf : (s : Symbol) → IsWord s → IsLeaf s
-      a_leaf (word w) k = k
+      a_leaf (word w) k = (k.0, inr (inr k.1))
       a_leaf (number n) k = absurd k
       a_leaf (text t) k = absurd k
       a_leaf (mark m) k = absurd k

@@ -1,11 +1,17 @@
 -- Names and texts of what was read are in the tables.
-use Rattle.std.proofs.Common.{◌≡◌, ℕ, Option, Some, IfSome, List, [], ◌∷◌, ◌++◌, Result, Ok, Err, OnOk, sym, subst}
+use Rattle.std.proofs.Common.{◌≡◌, ℕ, Bool, true, false, not, Option, Some, IfSome, List, [], ◌∷◌, ◌++◌, Result, Ok, Err, OnOk, refl, sym, subst}
 use Rattle.std.proofs.lemmas.List.Elements.{All-nil, All-push, All-pop, All-same}
 use Rattle.chor_base.specs.declared.expr.UnOp.{UnOp}
 use Rattle.chor_base.specs.declared.expr.BinOp.{BinOp}
 use Rattle.chor_base.specs.declared.expr.Expr.{Expr}
 use Rattle.chor_base.specs.declared.rule.Denied.{Denied}
+use Rattle.chor_base.specs.declared.names.NameId.{NameId}
 use Rattle.chor_base.specs.Expr.{Unary, Binary, term_of}
+use Rattle.chor_base.specs.Writing.{name_in}
+use Rattle.chor_lexer.specs.declared.token.Kind.TheVariants.{Word}
+use Rattle.chor_lexer.specs.Keywords.{IsName}
+use Rattle.grammar_laws.specs.Classes.{a_name, is_keyword, is_of}
+use Rattle.endpoint_reader.specs.Tokens.{symbol_of}
 use Rattle.endpoint_reader.specs.declared.operand.Opening.{Opening}
 use Rattle.endpoint_reader.specs.declared.operand.Opening.TheVariants.{Leaf}
 use Rattle.endpoint_reader.specs.declared.input.Input.{Input}
@@ -58,3 +64,11 @@ one_more_label i xs zs x h k e = All-same (λ a. IsThere i a.label) zs (xs ++ x 
 pub still_there : {X : Type 0} (i : Input) (old new : List Line) (r : Result X Denied) → OnOk r ((j : Input) → AreLinesThere j old → AreLinesThere j new) → AreLinesThere i old → OnOk r (AreLinesThere i new)
 still_there i old new (Ok x) f h = f i h
 still_there i old new (Err d) f h = tt
+
+-- a name is no keyword
+pub not_keyword : (i : Input) (x : NameId) → is_of a_name (symbol_of i (Word x)) ≡ true → IsName (name_in i.names.now x)
+not_keyword i x h = go (is_keyword (name_in i.names.now x)) h
+  where
+    go : (b : Bool) → not b ≡ true → b ≡ false
+    go false h = refl
+    go true h = absurd cc

@@ -9,7 +9,7 @@ use Rattle.chor_lexer.specs.declared.token.Token.{Token}
 use Rattle.chor_lexer.specs.Lexeme.{Symbol, word, number, text, mark, last, Lexeme}
 use Rattle.chor_lexer.specs.Tokens.{Spells, AreSpelled}
 use Rattle.endpoint_reader.specs.declared.input.Input.{Input}
-use Rattle.endpoint_reader.specs.There.{kind_there, all_there}
+use Rattle.endpoint_reader.specs.There.{is_natural, kind_there, all_there}
 use Rattle.endpoint_reader.specs.Tokens.{symbol_of, lexeme_of}
 
 symbol : (i : Input) (k : Kind) (s : Symbol) → Spells i.names.now i.texts.now k s → symbol_of i k ≡ s
@@ -37,7 +37,7 @@ inside table n w e = let h : n < length table = slice_get_within table n w e in 
 kind_is_there : (names texts : List (List ℕ)) (k : Kind) (s : Symbol) → Spells names texts k s → kind_there names texts k ≡ true
 kind_is_there names texts (kind.Word n) (word w) h = inside names n.0 w h
 kind_is_there names texts (kind.Text n) (text t) h = inside texts n t h
-kind_is_there names texts (kind.Number z) s h = refl
+kind_is_there names texts (kind.Number z) (number n) h = ap is_natural h
 kind_is_there names texts (kind.Mark m) s h = refl
 kind_is_there names texts kind.Last s h = refl
 kind_is_there names texts _ _ h = absurd h

@@ -1,8 +1,11 @@
--- What was read has its names and texts in the tables, and no endpoint as a literal (this project's own).
-use Rattle.std.specs.Prelude.{◌<◌, List, All, length}
+-- What was read has its names and texts in the tables, and is what was written: no literal is negative or an endpoint, and no keyword is a
+-- variable (this project's own).
+use Rattle.std.specs.Prelude.{◌<◌, ◌≡◌, true, List, All, length}
 use Rattle.chor_base.specs.declared.value.Value.TheVariants.{Int, Bool as Truth, Text, Part}
 use Rattle.chor_base.specs.declared.expr.Expr.{Expr}
 use Rattle.chor_base.specs.Expr.{Term, Constant, Variable, Unary, Binary, term_of}
+use Rattle.chor_base.specs.Writing.{name_in}
+use Rattle.chor_lexer.specs.Keywords.{IsName}
 use Rattle.endpoint_reader.specs.declared.input.Input.{Input}
 use Rattle.endpoint_reader.specs.declared.input.Named.{Named}
 use Rattle.endpoint_reader.specs.declared.lists.Two.{Two}
@@ -21,6 +24,7 @@ use Rattle.endpoint_reader.specs.declared.written.Procedure.{Procedure}
 use Rattle.endpoint_reader.specs.declared.written.Service.{Service}
 use Rattle.endpoint_reader.specs.declared.written.Process.{Process}
 use Rattle.endpoint_reader.specs.declared.written.Written.{Written}
+use Rattle.endpoint_reader.specs.There.{is_natural}
 
 abbrev pub IsThere : Input → Named → Type 0
 IsThere i n = n.name.0 < length i.names.now
@@ -41,11 +45,11 @@ abbrev pub AreRolesThere : Input → Roles → Type 0
 AreRolesThere i r = AreThere i r.active × AreThere i r.serve
 
 abbrev pub IsTermThere : Input → Term → Type 0
-IsTermThere i (Constant (Int z)) = Unit {0}
+IsTermThere i (Constant (Int z)) = is_natural z ≡ true
 IsTermThere i (Constant (Truth b)) = Unit {0}
 IsTermThere i (Constant (Text t)) = t < length i.texts.now
 IsTermThere i (Constant (Part s r)) = ⊥
-IsTermThere i (Variable x) = x.0 < length i.names.now
+IsTermThere i (Variable x) = (x.0 < length i.names.now) × IsName (name_in i.names.now x)
 IsTermThere i (Unary op e) = IsTermThere i e
 IsTermThere i (Binary op e f) = IsTermThere i e × IsTermThere i f
 

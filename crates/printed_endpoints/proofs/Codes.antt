@@ -10,6 +10,7 @@ use Rattle.endpoint_reader.specs.declared.input.Input.{Input}
 use Rattle.endpoint_reader.specs.declared.input.Named.{Named}
 use Rattle.endpoint_reader.specs.declared.node.Action.{Action as Deed}
 use Rattle.endpoint_reader.specs.declared.node.Action.TheVariants as deed
+use Rattle.endpoint_reader.specs.Known.{IsActionThere}
 use Rattle.endpoint_reader.specs.Tokens.{named, all_named}
 use Rattle.endpoint_reader.specs.Nodes.{deed_of}
 use Rattle.endpoint_code.specs.declared.endpoints.Endpoints.{Endpoints}
@@ -23,10 +24,10 @@ use Rattle.same_programs.specs.Codes as same
 use Rattle.same_programs.specs.Codes.{SameAction, SameCode, SameArms}
 use Rattle.endpoint_code.specs.Labels.{here}
 use Rattle.printed_tokens.specs.Spelled.{IsNamed, AreNamed, IsActionSpelled, IsCodeSpelled, AreArmsSpelled}
-use Rattle.printed_endpoints.specs.Plain.{IsPlainAction, IsPlainCode, ArePlainArms}
 use Rattle.printed_units.specs.Says.{Names, AllName, DeedSays, joins, sends, receives, selects, gives, gains, sets, shows, asks, BodySays, does, offers, tests, calls, ends, ArmsSay, no_arm, one_arm}
 use Rattle.printed_names.proofs.Faults.{IsSame, AreSame, is_same}
 use Rattle.printed_endpoints.proofs.Terms.{term_same}
+use Rattle.printed_endpoints.proofs.There.{IsBodyThere, AreArmsThere}
 
 module _ (e e' : Endpoints) (i : Input) (names_are : e'.names ≡ i.names.now) (texts_are : e'.texts ≡ i.texts.now) where
   abbrev pub N : NameId → NameId → Type 0
@@ -59,20 +60,20 @@ module _ (e e' : Endpoints) (i : Input) (names_are : e'.names ≡ i.names.now) (
 
   -- ---- code
 
-  action_same : (a : Action) (d : Deed) → DeedSays e a (deed_of i d) → IsActionSpelled e a → IsPlainAction e' (action_of d) → SameAction N T a (action_of d)
+  action_same : (a : Action) (d : Deed) → DeedSays e a (deed_of i d) → IsActionSpelled e a → IsActionThere i d → SameAction N T a (action_of d)
   action_same a (deed.Join c r k) (joins p q o) h g = same.joins (said c h.0 p) (said r h.1 q) (said k h.2 o)
-  action_same a (deed.Send k b t) (sends {t = u} p q o) h g = same.sends (said k h.0 p) (said b h.1 q) (term_same e e' i names_are texts_are u (term_of t) h.2 g o)
+  action_same a (deed.Send k b t) (sends {t = u} p q o) h g = same.sends (said k h.0 p) (said b h.1 q) (term_same e e' i names_are texts_are u (term_of t) h.2 g.2 o)
   action_same a (deed.Recv k b x) (receives p q o) h g = same.receives (said k h.0 p) (said b h.1 q) (said x h.2 o)
   action_same a (deed.Pick k b l) (selects p q o) h g = same.selects (said k h.0 p) (said b h.1 q) (said l h.2 o)
   action_same a (deed.Give k b x) (gives p q o) h g = same.gives (said k h.0 p) (said b h.1 q) (said x h.2 o)
   action_same a (deed.Gain k b x) (gains p q o) h g = same.gains (said k h.0 p) (said b h.1 q) (said x h.2 o)
-  action_same a (deed.Set x t) (sets {t = u} p o) h g = same.sets (said x h.0 p) (term_same e e' i names_are texts_are u (term_of t) h.1 g o)
+  action_same a (deed.Set x t) (sets {t = u} p o) h g = same.sets (said x h.0 p) (term_same e e' i names_are texts_are u (term_of t) h.1 g.1 o)
   action_same a (deed.Show t) (shows {t = u} o) h g = same.shows (term_same e e' i names_are texts_are u (term_of t) h g o)
   action_same a (deed.Host x f l r) (asks {t = t} {u = u} p q o v) h g =
-      same.asks (said x h.0 p) (said f h.1 q) (term_same e e' i names_are texts_are t (term_of l) h.2 g.0 o) (term_same e e' i names_are texts_are u (term_of r) h.3 g.1 v)
+      same.asks (said x h.0 p) (said f h.1 q) (term_same e e' i names_are texts_are t (term_of l) h.2 g.2 o) (term_same e e' i names_are texts_are u (term_of r) h.3 g.3 v)
 
   mutual
-    pub body_same : (c : CodeTree) (b : body.Body) → BodySays e c (written_body i b) → IsCodeSpelled e c → IsPlainCode e' (code_of b) → SameCode N T c (code_of b)
+    pub body_same : (c : CodeTree) (b : body.Body) → BodySays e c (written_body i b) → IsCodeSpelled e c → IsBodyThere i b → SameCode N T c (code_of b)
     body_same c (body.Does d rest) (does {a = a} {c = q} p r) h g = same.does (action_same a d p h.0 g.0) (body_same q rest r h.1 g.1)
     body_same c (body.Offers k a others) (offers {arms = arms} p q r) h g = same.offers (said k h.0 p) (said a h.1 q) (arms_same arms others r h.2 g)
     body_same c (body.Tests t first second) (tests {t = u} {c = q} {d = p} o a b) h g =
@@ -80,7 +81,7 @@ module _ (e e' : Endpoints) (i : Input) (names_are : e'.names ≡ i.names.now) (
     body_same c (body.Calls at sig) (calls {ss = ss} p q o) h g = same.calls (said sig.name h.0 p) (said sig.param h.1 q) (all_said ss sig.sessions h.2 o)
     body_same c body.Ends ends h g = same.ends
 
-    arms_same : (arms : Arms) (others : body.Arms) → ArmsSay e arms (written_arms i others) → AreArmsSpelled e arms → ArePlainArms e' (arms_of others) → SameArms N T arms (arms_of others)
+    arms_same : (arms : Arms) (others : body.Arms) → ArmsSay e arms (written_arms i others) → AreArmsSpelled e arms → AreArmsThere i others → SameArms N T arms (arms_of others)
     arms_same arms body.NoArms no_arm h g = same.no_arm
     arms_same arms (body.Arm l b others) (one_arm {c = c} {arms = rest} p q r) h g =
         same.one_arm (said l h.0 p) (body_same c b q h.1 g.0) here (arms_same rest others r h.2 g.1)

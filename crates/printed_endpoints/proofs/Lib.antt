@@ -1,4 +1,5 @@
 pub mod Reordered
 pub mod Terms
+pub mod There
 pub mod Codes
 pub mod Programs

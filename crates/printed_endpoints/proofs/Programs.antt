@@ -1,6 +1,6 @@
 -- Programs that are read from the text of others are the same.
 use Rattle.std.proofs.Common.{◌≡◌, ℕ, List, [], ◌∷◌, map, sym, subst}
-use Rattle.std.specs.List.{AllZip, AllByRecursion}
+use Rattle.std.specs.List.{AllZip}
 use Rattle.chor_base.specs.Words.{AllDistinct}
 use Rattle.endpoint_reader.specs.declared.input.Input.{Input}
 use Rattle.endpoint_reader.specs.declared.lines.LineId.{LineId}
@@ -9,6 +9,7 @@ use Rattle.endpoint_reader.specs.declared.written.Procedure.{Procedure}
 use Rattle.endpoint_reader.specs.declared.written.Service.{Service}
 use Rattle.endpoint_reader.specs.declared.written.Process.{Process}
 use Rattle.endpoint_reader.specs.declared.written.Written.{Written}
+use Rattle.endpoint_reader.specs.Known.{IsWrittenThere}
 use Rattle.endpoint_code.specs.declared.code.CodeId.{CodeId}
 use Rattle.endpoint_code.specs.declared.endpoints.Channel.{Channel as CodeChannel}
 use Rattle.endpoint_code.specs.declared.endpoints.Procedure.{Procedure as CodeProcedure}
@@ -28,17 +29,17 @@ use Rattle.same_programs.specs.Codes.{SameCode}
 use Rattle.printed_tokens.specs.Symbols.{ordered_at}
 use Rattle.printed_names.proofs.Faults.{ChannelSame, ProcedureSame, ServiceSame, ProcessSame, CodeSaid}
 use Rattle.printed_names.proofs.Whole.{same_units}
-use Rattle.printed_endpoints.specs.Plain.{IsPlainBody, IsPlainCode}
 use Rattle.printed_endpoints.specs.Laws.{AreReadBack}
+use Rattle.printed_endpoints.proofs.There.{body_there}
 use Rattle.printed_endpoints.proofs.Codes.{N, T, name_same, names_same, body_same}
 use Rattle.printed_endpoints.proofs.Reordered.{code_back}
 
-module _ (e e' : Endpoints) (i : Input) (w : Written) (made : IsMadeOf w i.names.now i.texts.now e') where
-  same_code : (q : CodeId) (id : LineId) → CodeSaid e i (ordered_at e q) (body_at w.lines.items id) → IsPlainBody e' (code_id id) → SameCodeAt e e' q (code_id id)
-  same_code q id s h =
+module _ (e e' : Endpoints) (i : Input) (w : Written) (made : IsMadeOf w i.names.now i.texts.now e') (there : IsWrittenThere i w) where
+  same_code : (q : CodeId) (id : LineId) → CodeSaid e i (ordered_at e q) (body_at w.lines.items id) → SameCodeAt e e' q (code_id id)
+  same_code q id s =
       let b = body_at w.lines.items id in
       let is : code_at e'.code.nodes (code_id id) ≡ code_of b = code_same w i.names.now i.texts.now [] e' made id in
-      let same = body_same e e' i made.names_are made.texts_are (ordered_at e q) b s.says s.spelled (subst (IsPlainCode e') is h) in
+      let same = body_same e e' i made.names_are made.texts_are (ordered_at e q) b s.says s.spelled (body_there i w.lines.items there.lines id) in
       subst (λ p. SameCode (N e e' i made.names_are made.texts_are) (T e e' i made.names_are made.texts_are) (code_at e.code.nodes q) p) (sym is)
       (code_back (N e e' i made.names_are made.texts_are) (T e e' i made.names_are made.texts_are) e.names (code_at e.code.nodes q) same)
 
@@ -55,38 +56,38 @@ module _ (e e' : Endpoints) (i : Input) (w : Written) (made : IsMadeOf w i.names
     channels_same cs xs h.1,
   )
 
-  procedures_same : (qs : List CodeProcedure) (ps : List Procedure) → AllZip (ProcedureSame e i w) qs ps → AllByRecursion (λ p. IsPlainBody e' p.body) (map procedure_made ps) → AllZip (SameProcedure e e') qs (map procedure_made ps)
-  procedures_same [] [] h g = tt
-  procedures_same [] (p ∷ ps) h g = absurd h
-  procedures_same (q ∷ qs) [] h g = absurd h
-  procedures_same (q ∷ qs) (p ∷ ps) h g = (
+  procedures_same : (qs : List CodeProcedure) (ps : List Procedure) → AllZip (ProcedureSame e i w) qs ps → AllZip (SameProcedure e e') qs (map procedure_made ps)
+  procedures_same [] [] h = tt
+  procedures_same [] (p ∷ ps) h = absurd h
+  procedures_same (q ∷ qs) [] h = absurd h
+  procedures_same (q ∷ qs) (p ∷ ps) h = (
     record {
       name = name_same e e' i made.names_are made.texts_are h.0.name;
       param = name_same e e' i made.names_are made.texts_are h.0.param;
       sessions = names_same e e' i made.names_are made.texts_are q.sessions (names_in p.signature.sessions) h.0.sessions;
-      body = same_code q.body p.body h.0.body g.0;
+      body = same_code q.body p.body h.0.body;
     },
-    procedures_same qs ps h.1 g.1,
+    procedures_same qs ps h.1,
   )
 
-  services_same : (ss : List ServiceCode) (vs : List Service) → AllZip (ServiceSame e i w) ss vs → AllByRecursion (λ s. IsPlainBody e' s.body) (map service_made vs) → AllZip (SameService e e') ss (map service_made vs)
-  services_same [] [] h g = tt
-  services_same [] (v ∷ vs) h g = absurd h
-  services_same (s ∷ ss) [] h g = absurd h
-  services_same (s ∷ ss) (v ∷ vs) h g = (
+  services_same : (ss : List ServiceCode) (vs : List Service) → AllZip (ServiceSame e i w) ss vs → AllZip (SameService e e') ss (map service_made vs)
+  services_same [] [] h = tt
+  services_same [] (v ∷ vs) h = absurd h
+  services_same (s ∷ ss) [] h = absurd h
+  services_same (s ∷ ss) (v ∷ vs) h = (
     record {
       channel = name_same e e' i made.names_are made.texts_are h.0.channel;
       role = name_same e e' i made.names_are made.texts_are h.0.role;
-      body = same_code s.body v.body h.0.body g.0;
+      body = same_code s.body v.body h.0.body;
     },
-    services_same ss vs h.1 g.1,
+    services_same ss vs h.1,
   )
 
-  processes_same : (qs : List CodeProcess) (ps : List Process) → AllZip (ProcessSame e i w) qs ps → AllByRecursion (λ p. IsPlainBody e' p.body) (map process_made ps) → AllZip (SameProcess e e') qs (map process_made ps)
-  processes_same [] [] h g = tt
-  processes_same [] (p ∷ ps) h g = absurd h
-  processes_same (q ∷ qs) [] h g = absurd h
-  processes_same (q ∷ qs) (p ∷ ps) h g = (record { name = name_same e e' i made.names_are made.texts_are h.0.name; body = same_code q.body p.body h.0.body g.0 }, processes_same qs ps h.1 g.1)
+  processes_same : (qs : List CodeProcess) (ps : List Process) → AllZip (ProcessSame e i w) qs ps → AllZip (SameProcess e e') qs (map process_made ps)
+  processes_same [] [] h = tt
+  processes_same [] (p ∷ ps) h = absurd h
+  processes_same (q ∷ qs) [] h = absurd h
+  processes_same (q ∷ qs) (p ∷ ps) h = (record { name = name_same e e' i made.names_are made.texts_are h.0.name; body = same_code q.body p.body h.0.body }, processes_same qs ps h.1)
 
 pub are_same : (words : List (List ℕ)) (e e' : Endpoints) → AreReadBack words e e' → SamePrograms e e'
 are_same words e e' h =
@@ -95,10 +96,10 @@ are_same words e e' h =
     let made = h.read.made in
     let same = same_units e i w h.writable h.read.tokens h.read.fine.written in
     record {
-      channels = subst (AllZip (SameChannel e e') e.channels) (sym made.channels) (channels_same e e' i w made e.channels w.channels same.channels);
-      procedures = subst (AllZip (SameProcedure e e') e.procedures) (sym made.procedures) (procedures_same e e' i w made e.procedures w.procedures same.procedures (subst (AllByRecursion (λ p. IsPlainBody e' p.body)) made.procedures h.plain.procedures));
-      services = subst (AllZip (SameService e e') e.services) (sym made.services) (services_same e e' i w made e.services w.services same.services (subst (AllByRecursion (λ s. IsPlainBody e' s.body)) made.services h.plain.services));
-      processes = subst (AllZip (SameProcess e e') e.processes) (sym made.processes) (processes_same e e' i w made e.processes w.processes same.processes (subst (AllByRecursion (λ p. IsPlainBody e' p.body)) made.processes h.plain.processes));
+      channels = subst (AllZip (SameChannel e e') e.channels) (sym made.channels) (channels_same e e' i w made h.read.fine.there e.channels w.channels same.channels);
+      procedures = subst (AllZip (SameProcedure e e') e.procedures) (sym made.procedures) (procedures_same e e' i w made h.read.fine.there e.procedures w.procedures same.procedures);
+      services = subst (AllZip (SameService e e') e.services) (sym made.services) (services_same e e' i w made h.read.fine.there e.services w.services same.services);
+      processes = subst (AllZip (SameProcess e e') e.processes) (sym made.processes) (processes_same e e' i w made h.read.fine.there e.processes w.processes same.processes);
     }
 
 pub are_copies : (words : List (List ℕ)) (e e' : Endpoints) → AreReadBack words e e' → IsFaultless e → IsCopy e e'

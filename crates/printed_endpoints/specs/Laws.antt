@@ -4,14 +4,12 @@ use Rattle.endpoint_check.specs.Programs.{AreProgramsOf}
 use Rattle.endpoint_code.specs.declared.endpoints.Endpoints.{Endpoints}
 use Rattle.endpoint_code.specs.Faults.{IsFaultless}
 use Rattle.endpoint_text.specs.Text.{endpoints_text}
-use Rattle.printed_endpoints.specs.Plain.{ArePlain}
 use Rattle.printed_units.specs.Laws.{AreWritable}
 use Rattle.same_programs.specs.Programs.{SamePrograms, IsCopy}
 
--- programs e' with plain expressions were read from the text of the programs e, where host functions have these names
+-- programs e' were read from the text of the programs e, where host functions have these names
 pub record AreReadBack (words : List (List ℕ)) (e e' : Endpoints) : Type 0 where
   pub writable : AreWritable e
-  pub plain : ArePlain e'
   pub read : AreProgramsOf words (endpoints_text e) e'
 
 -- They are the same programs, up to the numbers of names and texts and the order of arms

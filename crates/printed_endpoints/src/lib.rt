@@ -5,10 +5,6 @@ ghost use Rattle.printed_endpoints.specs.Laws.{ReadBackAreSame, ReadBackAreCopie
 
 /// What is read from the text of endpoint programs are the same programs: names and texts may have
 /// other numbers, and the arms of each branch stand in ascending order of their labels.
-///
-/// Of what is read it is asked that no number in its expressions is negative, and no keyword is a
-/// variable: the text is read so that it is written alike, which says of a number its digits alone,
-/// and of `true` only that it is that word.
 pub fn text_reads_back()
     ensures same { ReadBackAreSame }
     ensures copies { ReadBackAreCopies }

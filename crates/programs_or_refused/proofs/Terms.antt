@@ -1,5 +1,5 @@
 -- Expressions and names that are written so.
-use Rattle.std.proofs.Common.{Box, Global, ◌≡◌, ℕ, pos, Bool, true, false, List, [], ◌∷◌, Some, map, refl, sym, ap, ◌∙◌, subst, if◌then◌else◌}
+use Rattle.std.proofs.Common.{Box, Global, ◌≡◌, ℕ, pos, Bool, true, false, inl, inr, List, [], ◌∷◌, Some, map, refl, sym, ap, ◌∙◌, subst, if◌then◌else◌}
 use Rattle.std.specs.Prelude.{bytes_eq, codes, slice_get}
 use Rattle.std.proofs.lemmas.List.Elements.{All-nil, All-cons}
 use Rattle.std.proofs.lemmas.Option.{get_or_from_slice_get, slice_get_within}
@@ -10,6 +10,7 @@ use Rattle.chor_base.specs.declared.expr.Expr.{Expr}
 use Rattle.chor_base.specs.declared.expr.Expr.TheVariants.{Lit, Var, Un', Bin'}
 use Rattle.chor_base.specs.declared.value.Value.TheVariants.{Int, Bool as Truth, Text}
 use Rattle.chor_base.specs.Expr.{Term, Constant, Variable, Unary, Binary, term_of}
+use Rattle.grammar_laws.specs.Classes.{is_keyword}
 use Rattle.chor_lexer.specs.Lexeme.{Symbol, word, number, text, mark, last, Lexeme}
 use Rattle.endpoint_grammar.specs.Written.{Phrase, Leaf, Unary as OfOne, Binary as OfTwo}
 use Rattle.endpoint_reader.specs.declared.input.Input.{Input}
@@ -17,7 +18,7 @@ use Rattle.endpoint_reader.specs.declared.input.Named.{Named}
 use Rattle.endpoint_reader.specs.Tokens.{named, all_named, written}
 use Rattle.endpoint_reader.specs.Known.{IsThere, AreThere, IsTermThere, IsExprThere}
 use Rattle.endpoint_laws.proofs.Words.{HasNumber, HasText, number_of, first_at, is_at}
-use Rattle.endpoint_laws.proofs.Naming.{IsPhraseKnown, IsWord, IsName, AreNames}
+use Rattle.endpoint_laws.proofs.Naming.{IsPhraseKnown, IsOperand, IsWord, IsName, AreNames}
 
 -- ---- expressions in memory
 
@@ -58,14 +59,14 @@ module _ (i : Input) where
   names_of ls = map name_of ls
 
   word_same : (s : Symbol) (p : Place) → IsWord ns xs s → named i (name_with s p) ≡ record { symbol = s; place = p }
-  word_same (word w) p h = let e = get_or_from_slice_get ns (number_of ns w) w [] (is_at h) in λ j. record { symbol = word (e j); place = p }
+  word_same (word w) p h = let e = get_or_from_slice_get ns (number_of ns w) w [] (is_at h.0) in λ j. record { symbol = word (e j); place = p }
   word_same (number n) p h = absurd h
   word_same (text t) p h = absurd h
   word_same (mark m) p h = absurd h
   word_same last p h = absurd h
 
   word_there : (s : Symbol) (p : Place) → IsWord ns xs s → IsThere i (name_with s p)
-  word_there (word w) p h = slice_get_within ns (number_of ns w) w (is_at h)
+  word_there (word w) p h = slice_get_within ns (number_of ns w) w (is_at h.0)
   word_there (number n) p h = absurd h
   word_there (text t) p h = absurd h
   word_there (mark m) p h = absurd h
@@ -115,19 +116,24 @@ module _ (i : Input) where
       go false true e f = ap (λ v. Leaf (word v)) (sym ((bytes_eq-Decides w (codes "false")).0 f))
       go false false e f = variable_same w h
 
-  words_there : (w : List ℕ) → HasNumber ns w → IsTermThere i (word_term w)
-  words_there w h = go (bytes_eq w (codes "true")) (bytes_eq w (codes "false"))
+  words_there : (w : List ℕ) → HasNumber ns w → IsOperand ns xs w → IsTermThere i (word_term w)
+  words_there w h o = go (bytes_eq w (codes "true")) (bytes_eq w (codes "false")) refl refl
     where
-      go : (a b : Bool) → IsTermThere i (if a then Constant (Truth true) else (if b then Constant (Truth false) else Variable (record { 0 = number_of ns w })))
-      go true b = tt
-      go false true = tt
-      go false false = slice_get_within ns (number_of ns w) w (is_at h)
+      no_keyword : bytes_eq w (codes "true") ≡ false → bytes_eq w (codes "false") ≡ false → IsOperand ns xs w → is_keyword w ≡ false
+      no_keyword e f (inl t) = let a = (bytes_eq-Decides w (codes "true")).1 t in absurd cc
+      no_keyword e f (inr (inl t)) = let a = (bytes_eq-Decides w (codes "false")).1 t in absurd cc
+      no_keyword e f (inr (inr k)) = k
+
+      go : (a b : Bool) → bytes_eq w (codes "true") ≡ a → bytes_eq w (codes "false") ≡ b → IsTermThere i (if a then Constant (Truth true) else (if b then Constant (Truth false) else Variable (record { 0 = number_of ns w })))
+      go true b e f = tt
+      go false true e f = tt
+      go false false e f = (slice_get_within ns (number_of ns w) w (is_at h), subst (λ v. is_keyword v ≡ false) (sym (get_or_from_slice_get ns (number_of ns w) w [] (is_at h))) (no_keyword e f o))
 
   text_at : (t : List ℕ) → HasText xs t → slice_get xs (number_of xs t) ≡ Some t
   text_at t h = first_at xs t h.number h.at
 
   phrase_same : (p : Phrase) → IsPhraseKnown ns xs p → written i (phrase_term p) ≡ p
-  phrase_same (Leaf (word w)) h = words_same w h
+  phrase_same (Leaf (word w)) h = words_same w h.0
   phrase_same (Leaf (number n)) h = refl
   phrase_same (Leaf (text t)) h = ap (λ v. Leaf (text v)) (get_or_from_slice_get xs (number_of xs t) t [] (text_at t h))
   phrase_same (Leaf (mark m)) h = absurd h
@@ -136,8 +142,8 @@ module _ (i : Input) where
   phrase_same (OfTwo op e f) h = λ j. OfTwo op (phrase_same e h.0 j) (phrase_same f h.1 j)
 
   phrase_there : (p : Phrase) → IsPhraseKnown ns xs p → IsTermThere i (phrase_term p)
-  phrase_there (Leaf (word w)) h = words_there w h
-  phrase_there (Leaf (number n)) h = tt
+  phrase_there (Leaf (word w)) h = words_there w h.0 h.1
+  phrase_there (Leaf (number n)) h = refl
   phrase_there (Leaf (text t)) h = slice_get_within xs (number_of xs t) t (text_at t h)
   phrase_there (Leaf (mark m)) h = absurd h
   phrase_there (Leaf last) h = absurd h

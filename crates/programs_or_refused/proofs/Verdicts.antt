@@ -20,6 +20,7 @@ use Rattle.endpoint_grammar.specs.Values.{rules, written_units}
 use Rattle.endpoint_grammar.proofs.Clear.{rules_clear, rules_ending, endpoints_ending, endpoints_clear}
 use Rattle.endpoint_reader.specs.declared.input.Input.{Input}
 use Rattle.endpoint_reader.specs.declared.written.Written.{Written}
+use Rattle.endpoint_reader.specs.Known.{IsWrittenThere}
 use Rattle.endpoint_reader.specs.Files.{units_written}
 use Rattle.endpoint_units.specs.Wholes.{IsWritten}
 use Rattle.endpoint_code.specs.declared.endpoints.Endpoints.{Endpoints}
@@ -62,11 +63,11 @@ judged s = by_names (first_or_none (name_faults s))
 
 module _ (hosts : List (List ℕ)) (bytes : List ℕ) where
   module _ (i : Input) (tokens : IsInputOf bytes i) where
-    of_units : (w : Written) → IsWritten (lexemes_of i) (units_written i w) → (e : Endpoints) × IsMadeOf w i.names.now i.texts.now e → AreProgramsOrRefused hosts bytes
-    of_units w is (e, m) = go (judged (setting w i.names.now hosts))
+    of_units : (w : Written) → IsWritten (lexemes_of i) (units_written i w) → IsWrittenThere i w → (e : Endpoints) × IsMadeOf w i.names.now i.texts.now e → AreProgramsOrRefused hosts bytes
+    of_units w is there (e, m) = go (judged (setting w i.names.now hosts))
       where
         go : IsFaultless (setting w i.names.now hosts) ⊎ ((r : Refusal) × IsBroken (setting w i.names.now hosts) (Refused r)) → AreProgramsOrRefused hosts bytes
-        go (inl fine) = inl (e, record { input = i; tokens = tokens; written = w; fine = record { written = is; faultless = fine }; made = m })
+        go (inl fine) = inl (e, record { input = i; tokens = tokens; written = w; fine = record { written = is; there = there; faultless = fine }; made = m })
         go (inr (r, h)) = inr (r, broken i tokens (names w is h))
 
     of_tokens : IsDerived rules endpoints (lexemes_of i) ⊎ HasFault rules endpoints (lexemes_of i) → AreProgramsOrRefused hosts bytes
@@ -75,7 +76,7 @@ module _ (hosts : List (List ℕ)) (bytes : List ℕ) where
         let u : Units = written_units d.value in
         let is : IsWritten (lexemes_of i) u = record { value = d.value; is = d.is; units = refl } in
         let r = read i u (named_so i tokens is) in
-        of_units r.written (record { value = d.value; is = d.is; units = sym r.is }) (made r.written i.names.now i.texts.now (numbered i r.written r.there))
+        of_units r.written (record { value = d.value; is = d.is; units = sym r.is }) r.there (made r.written i.names.now i.texts.now (numbered i r.written r.there))
 
   pub programs_or_refused : length bytes ≤ 2 ^ 24 → AreProgramsOrRefused hosts bytes
   programs_or_refused small = go (tokens_or_refused bytes)
