@@ -27,29 +27,13 @@ use Rattle.scoped_codes.specs.Scoped.{IsScopedAction, IsScopedTree, AreScopedArm
 use Rattle.endpoint_names.specs.Keys.{alone, both, same_key, sign_of_name, sign_of_channel, sign_of_procedure, first_by}
 use Rattle.endpoint_names.specs.Bodies as body
 use Rattle.endpoint_names.specs.Faults.{fault_at, names_in, repeated, channel_of, procedure_of, unknown_channel, inactive, unbound, bound_again, bound_after, wrong_call, setting, action_faults, call_faults, body_faults, arms_faults}
+use Rattle.asked_codes.specs.Asked.{asks_so, AsksTree, AsksArms}
 use Rattle.endpoint_names.proofs.Keys.{number_turned, left_true, right_true}
 use Rattle.endpoint_making.specs.Codes.{code_id, action_of, code_of, arms_of}
 use Rattle.endpoint_making.specs.Making.{channel_made, procedure_made, IsMadeOf}
 use Rattle.faultless_endpoints.proofs.Lists.{two_nothings, faultless, faultless_so, count_same}
 use Rattle.faultless_endpoints.proofs.Once.{keys_in, AreOnce, not_again, names_distinct, same_alone}
 use Rattle.faultless_endpoints.proofs.Bodies.{found_channel, procedures_found, bound_same, label_known, code_same}
-
--- the host functions that a code asks are known
-abbrev pub asks_so : (NameId → Bool) → Action → Type 0
-asks_so known (Asks x f v u) = known f ≡ true
-asks_so known _ = Unit {0}
-
-abbrev mutual
-  pub AsksTree : (NameId → Bool) → CodeTree → Type 0
-  AsksTree known (Does a rest) = asks_so known a × AsksTree known rest
-  AsksTree known (Offers k a arms) = AsksArms known arms
-  AsksTree known (Tests t first second) = AsksTree known first × AsksTree known second
-  AsksTree known (Calls f p ss) = Unit {0}
-  AsksTree known Ends = Unit {0}
-
-  pub AsksArms : (NameId → Bool) → Arms → Type 0
-  AsksArms known NoArms = Unit {0}
-  AsksArms known (Arm l c rest) = AsksTree known c × AsksArms known rest
 
 -- all that is asked of a tree
 pub record IsFine (known : NameId → Bool) (e : Endpoints) (bs : List NameId) (c : CodeTree) : Type 0 where

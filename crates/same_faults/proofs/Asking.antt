@@ -20,25 +20,9 @@ use Rattle.endpoint_code.proofs.CodeTables.{code_at-node}
 use Rattle.same_programs.specs.Words.{SameName, SameText}
 use Rattle.same_programs.specs.Codes.{SameAction, joins, sends, receives, selects, gives, gains, sets, shows, asks, SameCode, does, offers, tests, calls, ends, SameArms, no_arm, one_arm}
 use Rattle.same_programs.specs.Programs.{SameCodeAt, SameProcedure, SameService, SameProcess, IsCopy}
+use Rattle.asked_codes.specs.Asked.{asks_so, AsksTree, AsksArms}
 use Rattle.same_faults.specs.Laws.{IsUsed, begins_procedure, begins_service, begins_process, follows, AreUsed}
 use Rattle.same_faults.proofs.Lists.{all_over}
-
--- the host functions that a code asks are known
-abbrev AsksSo : (NameId → Bool) → Action → Type 0
-AsksSo known (Asks x f v u) = known f ≡ true
-AsksSo known _ = Unit {0}
-
-abbrev mutual
-  AsksTree : (NameId → Bool) → CodeTree → Type 0
-  AsksTree known (Does a rest) = AsksSo known a × AsksTree known rest
-  AsksTree known (Offers k a arms) = AsksArms known arms
-  AsksTree known (Tests t first second) = AsksTree known first × AsksTree known second
-  AsksTree known (Calls f p ss) = Unit {0}
-  AsksTree known Ends = Unit {0}
-
-  AsksArms : (NameId → Bool) → Arms → Type 0
-  AsksArms known NoArms = Unit {0}
-  AsksArms known (Arm l c rest) = AsksTree known c × AsksArms known rest
 
 -- ---- from the nodes of a table to its trees
 
@@ -153,7 +137,7 @@ module _ (known : NameId → Bool) where
 -- ---- from one program to its copy
 
 module _ (e e' : Endpoints) (known known' : NameId → Bool) (as_known : (f g : NameId) → SameName e e' f g → known f ≡ known' g) where
-  action_asks : {a b : Action} → SameAction (SameName e e') (SameText e e') a b → AsksSo known a → AsksSo known' b
+  action_asks : {a b : Action} → SameAction (SameName e e') (SameText e e') a b → asks_so known a → asks_so known' b
   action_asks (joins x r k) h = tt
   action_asks (sends k b x) h = tt
   action_asks (receives k a x) h = tt
