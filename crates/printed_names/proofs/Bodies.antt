@@ -26,7 +26,8 @@ use Rattle.endpoint_names.proofs.Keys.{left_true, right_true}
 use Rattle.faultless_endpoints.specs.Reading.{written_body, written_arms}
 use Rattle.faultless_endpoints.proofs.Lists.{two_nothings, faultless, faultless_so, count_same}
 use Rattle.faultless_endpoints.proofs.Once.{not_again, names_distinct}
-use Rattle.faultless_endpoints.proofs.Backward.{asks_so, IsFine, AreFine}
+use Rattle.asked_codes.specs.Asked.{asks_so}
+use Rattle.faultless_endpoints.proofs.Backward.{IsFine, AreFine}
 use Rattle.printed_tokens.specs.Spelled.{IsNamed, AreNamed, IsActionSpelled, IsCodeSpelled, AreArmsSpelled}
 use Rattle.printed_units.specs.Says.{Names, AllName, DeedSays, joins, sends, receives, selects, gives, gains, sets, shows, asks, BodySays, does, offers, tests, calls, ends, ArmsSay, no_arm, one_arm}
 use Rattle.printed_names.proofs.SameNames.{as_many, same_without, same_distinct, same_all_among}

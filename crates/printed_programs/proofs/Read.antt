@@ -9,8 +9,8 @@ use Rattle.printed_names.proofs.Whole.{text_is_taken}
 use Rattle.printed_programs.specs.Laws.{TextIsOfPrograms}
 
 pub text_is_of_programs : ((hosts : List (List ℕ)) (bytes : List ℕ) → length bytes ≤ 2 ^ 24 → AreProgramsOrRefused hosts bytes) → TextIsOfPrograms
-text_is_of_programs one_or_other words e h fine small = go (one_or_other words (endpoints_text e) small)
+text_is_of_programs one_or_other words e h fine asks small = go (one_or_other words (endpoints_text e) small)
   where
     go : AreProgramsOrRefused words (endpoints_text e) → (e' : Endpoints) × AreProgramsOf words (endpoints_text e) e'
     go (inl read) = read
-    go (inr refused) = absurd (text_is_taken words e refused.0 h fine refused.1)
+    go (inr refused) = absurd (text_is_taken words e refused.0 h fine asks refused.1)
