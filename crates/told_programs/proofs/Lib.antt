@@ -1,3 +1,3 @@
 mod Literals
-mod Hosts
+pub mod Hosts
 mod Runs

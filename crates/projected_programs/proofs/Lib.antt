@@ -1,0 +1,4 @@
+pub mod Checked
+pub mod Books
+pub mod Runs
+pub mod Told

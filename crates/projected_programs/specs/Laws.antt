@@ -1,0 +1,56 @@
+-- What is proved of the endpoint programs of a source, and of their text (this project's own).
+use Rattle.std.specs.Prelude.{ℕ, ◌≡◌, ◌<◌, ◌^◌, Bool, false, List, Option, length}
+use Rattle.std.specs.List.{AllByRecursion}
+use Rattle.chor_base.specs.declared.event.Event.{Event}
+use Rattle.chor_base.specs.declared.rule.Refusal.{Refusal}
+use Rattle.chor_host.specs.Functions.{Function, names_of, hosts_in}
+use Rattle.chor_tree.specs.declared.file.File.{File}
+use Rattle.chor_semantics.specs.Runs.{IsRun}
+use Rattle.endpoint_code.specs.declared.endpoints.Endpoints.{Endpoints}
+use Rattle.endpoint_code.specs.Scheduled.{Close}
+use Rattle.endpoint_text.specs.Text.{endpoints_text}
+use Rattle.endpoint_check.specs.Programs.{AreProgramsOf, ViolatesPrograms}
+use Rattle.answered_files.specs.Laws.{AreExact}
+use Rattle.projection.specs.Projects.{Projects}
+use Rattle.source_check.specs.Source.{IsAccepted}
+use Rattle.source_check.specs.declared.rules.Rules.TheVariants.{All}
+use Rattle.transcript.specs.Text.{transcript}
+use Rattle.program_runs.specs.Transcripts.{closing_text, IsTranscriptOf}
+use Rattle.accepted_replays.specs.Sources.{book_of}
+use Rattle.event_reader.specs.Known.{HasEvent}
+use Rattle.simulation.specs.Runs.{IsRunOf}
+
+-- e are the endpoint programs of a source that violates no rule, where these host functions are there, each with an exact meaning
+pub record AreProjected (functions : List Function) (bytes : List ℕ) (f : File) (e : Endpoints) : Type 0 where
+  pub exact : AreExact functions
+  pub accepted : IsAccepted All (names_of functions) bytes f
+  pub projects : Projects f e
+
+-- their text violates none of the rules of endpoint files
+abbrev pub ProjectedTextIsTaken : Type 0
+ProjectedTextIsTaken =
+    (functions : List Function) (bytes : List ℕ) (f : File) (e : Endpoints) → AreProjected functions bytes f e
+    → (r : Refusal) → ViolatesPrograms (names_of functions) (endpoints_text e) r → ⊥
+
+-- The text is the transcript of the scheduled run of the network of the source's endpoint programs, which is a run of its choreography
+pub record IsRunTranscript (functions : List Function) (f : File) (e : Endpoints) (seed steps : ℕ) (text : List ℕ) : Type 0 where
+  pub history : List Event
+  pub close : Close
+  pub run : IsRunOf f e (hosts_in f.names functions) seed steps history close
+  pub text_is : text ≡ transcript (book_of f) history (closing_text (book_of f) (length history) close)
+
+-- Whatever programs are read from their text, a transcript of these is one of that run, which isn't stuck
+abbrev pub ProjectedTextRuns : Type 0
+ProjectedTextRuns =
+    (functions : List Function) (bytes : List ℕ) (f : File) (e : Endpoints) → AreProjected functions bytes f e
+    → (e' : Endpoints) → AreProgramsOf (names_of functions) (endpoints_text e) e'
+    → (seed steps : ℕ) (text : List ℕ) (stuck : Bool) → IsTranscriptOf functions e' seed steps text stuck
+    → IsRunTranscript functions f e seed steps text × (stuck ≡ false)
+
+-- Each event of a run of the source's choreography, of fewer than 2^27 events, has its names and texts in their tables and numbers of
+-- their sizes, so that a line can tell it
+abbrev pub SourceRunsAreTold : Type 0
+SourceRunsAreTold =
+    (functions : List Function) (bytes : List ℕ) (f : File) (e : Endpoints) → AreProjected functions bytes f e
+    → (capacity : Option ℕ) (h : List Event) → IsRun f (hosts_in f.names functions) capacity h → length h < 2 ^ 27
+    → AllByRecursion (HasEvent (book_of f)) h

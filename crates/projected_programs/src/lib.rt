@@ -1,0 +1,41 @@
+//! What the endpoint programs of a source do, and what is read from their text.
+#![tactic(auto)]
+
+ghost use Rattle.projected_programs.specs.Laws.{ProjectedTextIsTaken, ProjectedTextRuns, SourceRunsAreTold};
+
+/// The text of the endpoint programs that are the projection of an accepted source is never refused
+/// as an endpoint file.
+pub fn projected_text_is_taken()
+    ensures { ProjectedTextIsTaken }
+{
+    writable_projections::projection_is_writable();
+    faultless_projections::projection_is_faultless();
+    asked_projections::projection_asks_known();
+    printed_names::text_is_taken();
+}
+
+/// What is read from that text has no transcript but that of the source's own run: first in, first
+/// out, each session by its protocol, and never stuck.
+pub fn projected_text_runs()
+    ensures { ProjectedTextRuns }
+{
+    writable_projections::projection_is_writable();
+    faultless_projections::projection_is_faultless();
+    printed_endpoints::text_reads_back();
+    same_faults::copies_are_faultless();
+    same_transcripts::transcripts_agree();
+    answered_files::asked_functions_answer();
+    scheduled_runs::scheduled_runs_close();
+    accepted_files::checked_runs();
+}
+
+/// The events of a run of an accepted source's choreography can be told by lines, where there are
+/// fewer than 2^27 of them. So there is an events file of each such run.
+pub fn source_runs_are_told()
+    ensures { SourceRunsAreTold }
+{
+    writable_projections::projection_is_writable();
+    faultless_projections::projection_is_faultless();
+    accepted_files::checked_runs();
+    told_events::few_told();
+}
