@@ -7,5 +7,7 @@ pub mod RunTexts
 pub mod Typed
 pub mod SameTexts
 pub mod Replayed
+pub mod Became
+pub mod Programs
 pub mod Settled
 pub mod Executed

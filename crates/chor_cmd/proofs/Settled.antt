@@ -10,12 +10,12 @@ use Rattle.replay.specs.declared.answer.ReplayFault.{ReplayFault}
 use Rattle.replay.specs.declared.answer.ReplayFault.TheVariants.{Unmatched as unlike}
 use Rattle.command_words.specs.declared.words.Words.{Words}
 use Rattle.command_words.specs.declared.words.Command.{Command}
-use Rattle.command_words.specs.declared.words.Command.TheVariants.{Fmt, Exec, Replay, Gen}
+use Rattle.command_words.specs.declared.words.Command.TheVariants.{Check, Fmt, Types, Project, Run, Exec, Replay, Gen}
 use Rattle.command_words.specs.declared.options.Options.{Options}
 use Rattle.command_words.specs.Words.{IsForm, HasForm, NamesFile, HasNoForm}
 use Rattle.command_words.proofs.SameWords.{same_names, same_command}
 use Rattle.source_check.specs.declared.rules.Rules.{Rules}
-use Rattle.source_check.specs.declared.rules.Rules.TheVariants.{All, Grammar}
+use Rattle.source_check.specs.declared.rules.Rules.TheVariants.{All, Grammar, Views}
 use Rattle.chor_host.specs.Functions.{Function, names_of}
 use Rattle.source_check.specs.Source.{IsFileOf, IsAccepted, Violates, unread, broken}
 use Rattle.source_check.proofs.OneFault.{one_refusal, never_refused}
@@ -24,92 +24,24 @@ use Rattle.chor_cmd.specs.declared.status.Status.TheVariants.{Done, Refused, Usa
 use Rattle.chor_cmd.specs.Readings.{Reading, Source, Programs, Nothing, reading_of, limits_of}
 use Rattle.chor_cmd.specs.Outputs.{Violated, IsFine, IsAnswer, IsReplayOf, IsGenerated, Answers, of_source, of_programs, of_replay, of_number, usage_line, too_large_line, refused_line, replayed_line, unmatched_line}
 use Rattle.chor_cmd.specs.Endings.{Told, Tells, MayTell, Hold, Exceeds, MayAsk, Asks, MayExceed, IsTooLong, AreFine, Ends, usage, read_fault, too_large, refused, done, unmatched, stuck, Wrote, HasEnded, Comes, so, no_memory, unread as not_read, unwritten}
-use Rattle.chor_cmd.specs.Endings.{GivesUsage, GivesTooLarge, GivesRefusal, GivesAnswer, GivesReplay, GivesUnmatched, GivesGenerated, GivesCanonical, GivesSame}
+use Rattle.chor_cmd.specs.Endings.{GivesUsage, GivesTooLarge, GivesRefusal, GivesAnswer, GivesReplay, GivesUnmatched, GivesExecution, GivesProjectedRun, GivesGenerated, GivesCanonical, GivesSame}
 use Rattle.chor_cmd.proofs.Asked.{first_is, second_is, first_before, first_after, fits as not_long, none_after, one_long, few_second, fewer_before, two_limits, is_replay}
 use Rattle.chor_cmd.proofs.SameTexts.{text_alike, text_is_source, text_of_text}
 use Rattle.event_files.specs.Networks.{TellsMore}
+use Rattle.endpoint_text.specs.Text.{endpoints_text}
+use Rattle.answered_files.specs.Laws.{AreExact}
+use Rattle.projected_programs.specs.Laws.{ProjectedTextIsTaken, ProjectedTextRuns}
 use Rattle.chor_cmd.proofs.Replayed.{one_answer}
+use Rattle.chor_cmd.proofs.Became.{Expected, as_said, read_failed, Became, violates, answers, unlike_at, jammed, failed, next_long, held, exceeded, became}
+use Rattle.chor_cmd.proofs.Programs.{programs_refused, programs_executed, projection_executed}
 
 module _ (functions : List Function) (words : Words) (shelf shelf' : ShelfState) where
   abbrev hosts : List (List ℕ)
   hosts = names_of functions
 
-  -- a call ends as it is expected to, or reading fails
-  data Expected (status : Status) (Says : List ℕ → Type 0) : Status → List ℕ → Type 0 where
-    as_said : {text : List ℕ} → Says text → Expected status Says status text
-    read_failed : {text : List ℕ} (name : List ℕ) → NamesFile words name → Risen (shelf.faults name) (shelf'.faults name) → Expected status Says ReadFault text
-
-  -- what came of a command whose first file is told, and isn't too long
-  data Became (command : Command) (bytes : List ℕ) : Status → List ℕ → Type 0 where
-    violates : (r : Refusal) → Violated (reading_of command) hosts bytes r → Became command bytes Refused (refused_line r)
-    answers : {text : List ℕ} (more : List (List ℕ)) → Answers functions command (bytes ∷ more) text → Became command bytes Done text
-    unlike_at : (file events : ℕ) (log : List ℕ) (i : ℕ) → command ≡ Replay file events → IsReplayOf functions bytes log (Err (unlike i)) → Became command bytes Unmatched (unmatched_line i)
-    jammed : {text : List ℕ} (word : ℕ) (options : Options) → command ≡ Exec word options → Became command bytes Stuck text
-    failed : {text : List ℕ} (name : List ℕ) → NamesFile words name → Risen (shelf.faults name) (shelf'.faults name) → Became command bytes ReadFault text
-    next_long : {text : List ℕ} (file events : ℕ) (f : File) → command ≡ Replay file events → IsAccepted All hosts bytes f → Became command bytes TooLarge text
-
-  -- the commands and the names that are asked for are the same
-  module _ (command : Command) (contents : List (List ℕ)) (a : Asks words shelf command contents) where
-    held : (c : Command) (may : List (List ℕ)) → (m : MayAsk words shelf c may) → Hold (MayTell shelf.files) a.names (limits_of command) may
-    held c may m =
-        subst (λ (d : Command). Hold (MayTell shelf.files) a.names (limits_of d) may) (same_command words c command m.names a.names m.form a.form)
-        (subst (λ (ns : List (List ℕ)). Hold (MayTell shelf.files) ns (limits_of c) may) (same_names words c command m.names a.names m.form a.form) m.hold)
-
-    exceeded : (c : Command) (may : List (List ℕ)) (name : List ℕ) → (m : MayExceed words shelf c may name) → Exceeds (MayTell shelf.files) a.names (limits_of command) may name
-    exceeded c may name m =
-        subst (λ (d : Command). Exceeds (MayTell shelf.files) a.names (limits_of d) may name) (same_command words c command m.names a.names m.form a.form)
-        (subst (λ (ns : List (List ℕ)). Exceeds (MayTell shelf.files) ns (limits_of c) may name) (same_names words c command m.names a.names m.form a.form) m.exceeds)
-
-    asked : (c : Command) (may : List (List ℕ)) → MayAsk words shelf c may → c ≡ command
-    asked c may m = same_command words c command m.names a.names m.form a.form
-
-  module _ (command : Command) (bytes : List ℕ) (a : Asks words shelf command (bytes ∷ [])) where
-    first : (c : Command) (b : List ℕ) (more : List (List ℕ)) → MayAsk words shelf c (b ∷ more) → b ≡ bytes
-    first c b more m = first_is shelf.files a.names (limits_of command) bytes b [] more a.hold (held command (bytes ∷ []) a c (b ∷ more) m)
-
-    -- a command that reads a file makes none of a number
-    no_number : (n : ℕ) (whole : Bool) → command ≡ Gen n whole → ⊥
-    no_number n whole e = none a.names (subst (λ (d : Command). Hold (Tells shelf.files) a.names (limits_of d) (bytes ∷ [])) e a.hold)
-      where
-        none : (names : List (List ℕ)) → Hold (Tells shelf.files) names [] (bytes ∷ []) → ⊥
-        none [] h = h
-        none (name ∷ names) h = h
-
-    became_done : (c : Command) (contents : List (List ℕ)) (text : List ℕ) → MayAsk words shelf c contents → Answers functions c contents text → Became command bytes Done text
-    became_done c [] text m x = nothing (subst (λ (d : Command). Answers functions d [] text) (asked command (bytes ∷ []) a c [] m) x)
-      where
-        nothing : Answers functions command [] text → Became command bytes Done text
-        nothing (of_source b f e i o) = absurd (omega (arith, ap length e))
-        nothing (of_programs b w o e k r) = absurd (omega (arith, ap length e))
-        nothing (of_replay b l i j r e k p t) = absurd (omega (arith, ap length e))
-        nothing (of_number n whole e k g) = absurd (no_number n whole k)
-    became_done c (b ∷ more) text m x =
-        answers more (subst (λ (y : List ℕ). Answers functions command (y ∷ more) text) (first c b more m)
-        (subst (λ (d : Command). Answers functions d (b ∷ more) text) (asked command (bytes ∷ []) a c (b ∷ more) m) x))
-
-    became_long : (c : Command) (before : List (List ℕ)) (name text : List ℕ) → MayExceed words shelf c before name → AreFine functions before → Became command bytes TooLarge text
-    became_long c [] name text m fine = absurd (not_long shelf.files a.names (limits_of command) (bytes ∷ []) [] name a.hold (omega arith) (exceeded command (bytes ∷ []) a c [] name m))
-    became_long c (b ∷ more) name text m fine =
-        let e = exceeded command (bytes ∷ []) a c (b ∷ more) name m in
-        let fewer = fewer_before (MayTell shelf.files) a.names (limits_of command) (b ∷ more) name e in
-        let is = is_replay command (omega (arith, fewer)) in
-        let same = first_before shelf.files a.names (limits_of command) bytes b name [] more a.hold e in
-        next_long is.0 is.1.0 fine.0 is.1.1 (subst (λ (y : List ℕ). IsAccepted All hosts y fine.0) same fine.1)
-
-    became : (s : Status) (t : List ℕ) → Ends functions words shelf shelf' s t → Became command bytes s t
-    became s t (usage none) = absurd (none (record { command = command; names = a.names; form = a.form }))
-    became s t (read_fault name n r) = failed name n r
-    became s t (too_large c before name m fine) = became_long c before name _ m fine
-    became s t (refused c b r m v) =
-        violates r (subst (λ (y : List ℕ). Violated (reading_of command) hosts y r) (first c b [] m) (subst (λ (d : Command). Violated (reading_of d) hosts b r) (asked command (bytes ∷ []) a c (b ∷ []) m) v))
-    became s t (done c contents text m x) = became_done c contents text m x
-    became s t (unmatched file events b log i m x) =
-        unlike_at file events log i (sym (asked command (bytes ∷ []) a (Replay file events) (b ∷ log ∷ []) m)) (subst (λ (y : List ℕ). IsReplayOf functions y log (Err (unlike i))) (first (Replay file events) b (log ∷ []) m) x)
-    became s t (stuck w o b text m x) = jammed w o (sym (asked command (bytes ∷ []) a (Exec w o) (b ∷ []) m))
-
   -- ---- what is expected
 
-  usual : HasNoForm words → (s : Status) (t : List ℕ) → Ends functions words shelf shelf' s t → Expected Usage (λ text. text ≡ usage_line) s t
+  usual : HasNoForm words → (s : Status) (t : List ℕ) → Ends functions words shelf shelf' s t → Expected words shelf shelf' Usage (λ text. text ≡ usage_line) s t
   usual none s t (usage i) = as_said refl
   usual none s t (read_fault name n r) = absurd (none (record { command = n.command; names = n.names; form = n.form }))
   usual none s t (too_large c before name m fine) = absurd (none (record { command = c; names = m.names; form = m.form }))
@@ -178,7 +110,7 @@ module _ (functions : List Function) (words : Words) (shelf shelf' : ShelfState)
         let none = subst (λ (d : Command). length cs < length (limits_of d)) (sym (long_as c m.names m.form) ∙ k) fewer in
         omega (arith, none)
 
-    too_long : (s : Status) (t : List ℕ) → Ends functions words shelf shelf' s t → Expected TooLarge (λ text. text ≡ too_large_line name) s t
+    too_long : (s : Status) (t : List ℕ) → Ends functions words shelf shelf' s t → Expected words shelf shelf' TooLarge (λ text. text ≡ too_large_line name) s t
     too_long s t (usage none) = absurd (none (record { command = command; names = l.names; form = l.form }))
     too_long s t (read_fault m n r) = read_failed m n r
     too_long s t (too_large c before other m f) = as_said (ap too_large_line (one_long shelf.files l.names (limits_of command) contents before name other l.exceeds (long_of c before other m)))
@@ -217,7 +149,7 @@ module _ (functions : List Function) (words : Words) (shelf shelf' : ShelfState)
         never_refused rules hosts bytes p.file q (accepted_so i j p.file k (subst (λ (y : List ℕ). IsAccepted All hosts y p.file) same p.accepted)) v
     not_answered q more text v (of_number n whole e k g) = omega (arith, ap length e)
 
-    is_refused : (q : Refusal) → Violates rules hosts bytes q → (s : Status) (t : List ℕ) → Became command bytes s t → Expected Refused (λ text. text ≡ refused_line q) s t
+    is_refused : (q : Refusal) → Violates rules hosts bytes q → (s : Status) (t : List ℕ) → Became functions words shelf shelf' command bytes s t → Expected words shelf shelf' Refused (λ text. text ≡ refused_line q) s t
     is_refused q v s t (violates r w) = as_said (ap refused_line (one_refusal rules hosts bytes r q (by_rules r w) v))
     is_refused q v s t (answers more x) = absurd (not_answered q more t v x)
     is_refused q v s t (unlike_at i j log k e p) = absurd (never_refused rules hosts bytes p.file q (accepted_so i j p.file e p.accepted) v)
@@ -235,7 +167,7 @@ module _ (functions : List Function) (words : Words) (shelf shelf' : ShelfState)
       alone more text (of_replay b log i j r e k p t) = absurd (no_replay i j k)
       alone more text (of_number n whole e k g) = absurd (omega (arith, ap length e))
 
-      is_done : (g : File) → IsAccepted rules hosts bytes g → (s : Status) (t : List ℕ) → Became command bytes s t → Expected Done (Answers functions command (bytes ∷ [])) s t
+      is_done : (g : File) → IsAccepted rules hosts bytes g → (s : Status) (t : List ℕ) → Became functions words shelf shelf' command bytes s t → Expected words shelf shelf' Done (Answers functions command (bytes ∷ [])) s t
       is_done g i s t (violates r w) = absurd (never_refused rules hosts bytes g r i (by_rules r w))
       is_done g i s t (answers more x) = as_said (alone more t x)
       is_done g i s t (unlike_at k j log n e p) = absurd (no_replay k j e)
@@ -253,7 +185,7 @@ module _ (functions : List Function) (words : Words) (shelf shelf' : ShelfState)
     written_of b more text (of_replay c log m j r e k p t) = absurd cc
     written_of b more text (of_number n whole e k x) = absurd cc
 
-    is_canonical : (s : Status) (t : List ℕ) → Became (Fmt word) bytes s t → Expected Done (λ text. text ≡ canonical_text g) s t
+    is_canonical : (s : Status) (t : List ℕ) → Became functions words shelf shelf' (Fmt word) bytes s t → Expected words shelf shelf' Done (λ text. text ≡ canonical_text g) s t
     is_canonical s t (violates r w) = absurd (never_refused Grammar hosts bytes g r (record { file = i; faultless = tt }) w)
     is_canonical s t (answers more x) = let o = written_of bytes more t x in as_said (o.1.1 ∙ text_alike bytes o.0 g o.1.0 i)
     is_canonical s t (unlike_at k j log n e p) = absurd cc
@@ -262,7 +194,7 @@ module _ (functions : List Function) (words : Words) (shelf shelf' : ShelfState)
     is_canonical s t (next_long k j f e p) = absurd cc
 
     -- what the canonical text itself gets
-    is_same : (s : Status) (t : List ℕ) → Became (Fmt word) (canonical_text g) s t → Expected Done (λ text. text ≡ canonical_text g) s t
+    is_same : (s : Status) (t : List ℕ) → Became functions words shelf shelf' (Fmt word) (canonical_text g) s t → Expected words shelf shelf' Done (λ text. text ≡ canonical_text g) s t
     is_same s t (violates r (unread v none)) = absurd (text_is_source bytes g i r.rule r.place v)
     is_same s t (violates r (broken k b)) = absurd b
     is_same s t (answers more x) = let o = written_of (canonical_text g) more t x in as_said (o.1.1 ∙ text_of_text bytes g i o.0 o.1.0)
@@ -279,7 +211,7 @@ module _ (functions : List Function) (words : Words) (shelf shelf' : ShelfState)
 
     same_contents : (c : Command) (b l : List ℕ) → MayAsk words shelf c (b ∷ l ∷ []) → (b ≡ bytes) × (l ≡ log)
     same_contents c b l m =
-        let h = held (Replay file events) (bytes ∷ log ∷ []) a c (b ∷ l ∷ []) m in
+        let h = held functions words shelf shelf' (Replay file events) (bytes ∷ log ∷ []) a c (b ∷ l ∷ []) m in
         (first_is shelf.files a.names (limits_of (Replay file events)) bytes b (log ∷ []) (l ∷ []) a.hold h, second_is shelf.files a.names (limits_of (Replay file events)) bytes b log l [] [] a.hold h)
 
     few_log : length log ≤ 67108864
@@ -292,13 +224,13 @@ module _ (functions : List Function) (words : Words) (shelf shelf' : ShelfState)
 
     short : (c : Command) (before : List (List ℕ)) (name : List ℕ) → MayExceed words shelf c before name → ⊥
     short c before name m =
-        let e = exceeded (Replay file events) (bytes ∷ log ∷ []) a c before name m in
+        let e = exceeded functions words shelf shelf' (Replay file events) (bytes ∷ log ∷ []) a c before name m in
         let fewer = fewer_before (MayTell shelf.files) a.names (limits_of (Replay file events)) before name e in
         not_long shelf.files a.names (limits_of (Replay file events)) (bytes ∷ log ∷ []) before name a.hold (omega (arith, fewer)) e
 
     fine : (c : Command) (b : List ℕ) (r : Refusal) → MayAsk words shelf c (b ∷ []) → Violated (reading_of c) hosts b r → ⊥
     fine c b r m v =
-        let h = held (Replay file events) (bytes ∷ log ∷ []) a c (b ∷ []) m in
+        let h = held functions words shelf shelf' (Replay file events) (bytes ∷ log ∷ []) a c (b ∷ []) m in
         let same = first_is shelf.files a.names (limits_of (Replay file events)) bytes b (log ∷ []) [] a.hold h in
         let w = subst (λ (d : Command). Violated (reading_of d) hosts b r) (alike c m.names m.form) v in
         never_refused All hosts bytes told.file r told.accepted (subst (λ (y : List ℕ). Violates All hosts y r) same w)
@@ -307,7 +239,7 @@ module _ (functions : List Function) (words : Words) (shelf shelf' : ShelfState)
     no_exec w o names form = let other = alike (Exec w o) names form in cc
 
     -- each line matches
-    is_replayed : (r : Replayed) → answer ≡ Ok r → (s : Status) (t : List ℕ) → Ends functions words shelf shelf' s t → Expected Done (λ text. text ≡ replayed_line r) s t
+    is_replayed : (r : Replayed) → answer ≡ Ok r → (s : Status) (t : List ℕ) → Ends functions words shelf shelf' s t → Expected words shelf shelf' Done (λ text. text ≡ replayed_line r) s t
     is_replayed r is s t (usage none) = absurd (none (record { command = Replay file events; names = a.names; form = a.form }))
     is_replayed r is s t (read_fault name n q) = read_failed name n q
     is_replayed r is s t (too_large c before name m f) = absurd (short c before name m)
@@ -332,7 +264,7 @@ module _ (functions : List Function) (words : Words) (shelf shelf' : ShelfState)
     is_replayed r is s t (stuck w o b text m x) = absurd (no_exec w o m.names m.form)
 
     -- a line is the first that doesn't
-    is_unmatched : (n : ℕ) → answer ≡ Err (unlike n) → (s : Status) (t : List ℕ) → Ends functions words shelf shelf' s t → Expected Unmatched (λ text. text ≡ unmatched_line n) s t
+    is_unmatched : (n : ℕ) → answer ≡ Err (unlike n) → (s : Status) (t : List ℕ) → Ends functions words shelf shelf' s t → Expected words shelf shelf' Unmatched (λ text. text ≡ unmatched_line n) s t
     is_unmatched n is s t (usage none) = absurd (none (record { command = Replay file events; names = a.names; form = a.form }))
     is_unmatched n is s t (read_fault name k q) = read_failed name k q
     is_unmatched n is s t (too_large c before name m f) = absurd (short c before name m)
@@ -360,11 +292,11 @@ module _ (functions : List Function) (words : Words) (shelf shelf' : ShelfState)
     made : (c : Command) (names : List (List ℕ)) → IsForm words c names → c ≡ Gen n whole
     made c names form = same_command words c (Gen n whole) names a.names form a.form
 
-    is_generated : (s : Status) (t : List ℕ) → Ends functions words shelf shelf' s t → Expected Done (IsGenerated functions n whole) s t
+    is_generated : (s : Status) (t : List ℕ) → Ends functions words shelf shelf' s t → Expected words shelf shelf' Done (IsGenerated functions n whole) s t
     is_generated s t (usage none) = absurd (none (record { command = Gen n whole; names = a.names; form = a.form }))
     is_generated s t (read_fault name k q) = read_failed name k q
     is_generated s t (too_large c before name m f) =
-        let fewer = fewer_before (MayTell shelf.files) a.names [] before name (exceeded (Gen n whole) [] a c before name m) in
+        let fewer = fewer_before (MayTell shelf.files) a.names [] before name (exceeded functions words shelf shelf' (Gen n whole) [] a c before name m) in
         absurd (omega (arith, fewer))
     is_generated s t (refused c b q m v) = absurd (subst (λ (d : Command). Violated (reading_of d) hosts b q) (made c m.names m.form) v)
     is_generated s t (done c cs text m x) = as_said (number_text c cs t m x)
@@ -384,11 +316,11 @@ module _ (functions : List Function) (words : Words) (shelf shelf' : ShelfState)
   -- ---- the call
 
   module _ (sink sink' : SinkState) (result : Status) (ended : HasEnded functions words shelf shelf' sink sink' result) where
-    written : (status : Status) (Says : List ℕ → Type 0) (s : Status) (t : List ℕ) → Expected status Says s t → Wrote sink.written sink'.written t → Comes words shelf shelf' sink sink' status Says s
+    written : (status : Status) (Says : List ℕ → Type 0) (s : Status) (t : List ℕ) → Expected words shelf shelf' status Says s t → Wrote sink.written sink'.written t → Comes words shelf shelf' sink sink' status Says s
     written status Says s t (as_said says) w = so t says w
     written status Says s t (read_failed name n r) w = not_read name n r
 
-    comes : (status : Status) (Says : List ℕ → Type 0) → ((s : Status) (t : List ℕ) → Ends functions words shelf shelf' s t → Expected status Says s t) → Comes words shelf shelf' sink sink' status Says result
+    comes : (status : Status) (Says : List ℕ → Type 0) → ((s : Status) (t : List ℕ) → Ends functions words shelf shelf' s t → Expected words shelf shelf' status Says s t) → Comes words shelf shelf' sink sink' status Says result
     comes status Says expected = go result ended
       where
         go : (r : Status) → HasEnded functions words shelf shelf' sink sink' r → Comes words shelf shelf' sink sink' status Says r
@@ -408,11 +340,29 @@ module _ (functions : List Function) (words : Words) (shelf shelf' : ShelfState)
     pub gives_too_large : GivesTooLarge functions words shelf shelf' sink sink' result
     gives_too_large = λ command contents name long fine. comes TooLarge _ (too_long command contents name long fine)
 
+    source_refused : (command : Command) (rules : Rules) (bytes : List ℕ) (r : Refusal) → reading_of command ≡ Source rules → Asks words shelf command (bytes ∷ [])
+        → Violates rules hosts bytes r → Comes words shelf shelf' sink sink' Refused (λ text. text ≡ refused_line r) result
+    source_refused command rules bytes r reads a v = comes Refused _ (λ s t e. is_refused command rules bytes reads r v s t (became functions words shelf shelf' command bytes a s t e))
+
     pub gives_refusal : GivesRefusal functions words shelf shelf' sink sink' result
-    gives_refusal = λ command rules bytes r reads a v. comes Refused _ (λ s t e. is_refused command rules bytes reads r v s t (became command bytes a s t e))
+    gives_refusal (Check word) bytes r a v = source_refused (Check word) All bytes r refl a v
+    gives_refusal (Fmt word) bytes r a v = source_refused (Fmt word) Grammar bytes r refl a v
+    gives_refusal (Types word) bytes r a v = source_refused (Types word) Views bytes r refl a v
+    gives_refusal (Project word) bytes r a v = source_refused (Project word) All bytes r refl a v
+    gives_refusal (Run word options) bytes r a v = source_refused (Run word options) All bytes r refl a v
+    gives_refusal (Exec word options) bytes r a v = programs_refused functions words shelf shelf' word options bytes a sink sink' result ended r v
+    gives_refusal (Replay file events) bytes r a v = source_refused (Replay file events) All bytes r refl a v
+    gives_refusal (Gen n whole) bytes r a v = absurd v
+
+    pub gives_execution : GivesExecution functions words shelf shelf' sink sink' result
+    gives_execution = λ word options bytes e a are. programs_executed functions words shelf shelf' word options bytes a sink sink' result ended e are
+
+    pub gives_projected_run : AreExact functions → ProjectedTextIsTaken → ProjectedTextRuns → GivesProjectedRun functions words shelf shelf' sink sink' result
+    gives_projected_run exact taken runs = λ word options source f e accepted projects a.
+        projection_executed functions words shelf shelf' word options (endpoints_text e) a sink sink' result ended source f e (record { exact = exact; accepted = accepted; projects = projects }) refl taken runs
 
     pub gives_answer : GivesAnswer functions words shelf shelf' sink sink' result
-    gives_answer = λ command rules bytes f reads one a i. comes Done _ (λ s t e. is_done command rules bytes reads one f i s t (became command bytes a s t e))
+    gives_answer = λ command rules bytes f reads one a i. comes Done _ (λ s t e. is_done command rules bytes reads one f i s t (became functions words shelf shelf' command bytes a s t e))
 
     pub gives_replay : GivesReplay functions words shelf shelf' sink sink' result
     gives_replay = λ file events bytes log r a told. comes Done _ (is_replayed file events bytes log a (Ok r) told r refl)
@@ -424,7 +374,7 @@ module _ (functions : List Function) (words : Words) (shelf shelf' : ShelfState)
     gives_generated = λ n whole a. comes Done _ (is_generated n whole a)
 
     pub gives_canonical : GivesCanonical functions words shelf shelf' sink sink' result
-    gives_canonical = λ word bytes f a i. comes Done _ (λ s t e. is_canonical word bytes f i s t (became (Fmt word) bytes a s t e))
+    gives_canonical = λ word bytes f a i. comes Done _ (λ s t e. is_canonical word bytes f i s t (became functions words shelf shelf' (Fmt word) bytes a s t e))
 
     pub gives_same : GivesSame functions words shelf shelf' sink sink' result
-    gives_same = λ word bytes f i a. comes Done _ (λ s t e. is_same word bytes f i s t (became (Fmt word) (canonical_text f) a s t e))
+    gives_same = λ word bytes f i a. comes Done _ (λ s t e. is_same word bytes f i s t (became functions words shelf shelf' (Fmt word) (canonical_text f) a s t e))

@@ -21,7 +21,12 @@ use Rattle.command_words.specs.declared.options.Options.{Options}
 use Rattle.source_check.specs.declared.rules.Rules.{Rules}
 use Rattle.source_check.specs.declared.rules.Rules.TheVariants.{All}
 use Rattle.source_check.specs.Source.{IsFileOf, IsAccepted, Violates}
-use Rattle.chor_cmd.specs.Outputs.{Violated, IsExecution, IsReplayOf, IsGenerated, Answers, usage_line, read_fault_line, too_large_line, refused_line, replayed_line, unmatched_line}
+use Rattle.endpoint_code.specs.declared.endpoints.Endpoints.{Endpoints}
+use Rattle.endpoint_text.specs.Text.{endpoints_text}
+use Rattle.endpoint_check.specs.Programs.{AreProgramsOf}
+use Rattle.projection.specs.Projects.{Projects}
+use Rattle.chor_cmd.specs.Status.{status_of}
+use Rattle.chor_cmd.specs.Outputs.{Violated, IsRunText, IsExecution, IsReplayOf, IsGenerated, Answers, usage_line, read_fault_line, too_large_line, refused_line, replayed_line, unmatched_line}
 
 -- the names of the host functions that a file may call
 abbrev pub host_names : {X : Type 0} {g : Mut X (ℤ × (ℤ × Unit {0})) ℤ} → HostTable X g → List (List ℕ)
@@ -140,10 +145,10 @@ module _ (functions : List Function) (words : Words) (shelf shelf' : ShelfState)
       (command : Command) (contents : List (List ℕ)) (name : List ℕ) → IsTooLong words shelf command contents name → AreFine functions contents
       → Comes words shelf shelf' sink sink' TooLarge (λ text. text ≡ too_large_line name) result
 
-  -- for a source that is told and violates a rule that the command applies
+  -- for a source or endpoint programs that are told and violate a rule that the command applies
   abbrev pub GivesRefusal : Type 0
   GivesRefusal =
-      (command : Command) (rules : Rules) (bytes : List ℕ) (r : Refusal) → reading_of command ≡ Source rules → Asks words shelf command (bytes ∷ []) → Violates rules (names_of functions) bytes r
+      (command : Command) (bytes : List ℕ) (r : Refusal) → Asks words shelf command (bytes ∷ []) → Violated (reading_of command) (names_of functions) bytes r
       → Comes words shelf shelf' sink sink' Refused (λ text. text ≡ refused_line r) result
 
   -- for a command on one source that is told and that it accepts
@@ -164,6 +169,18 @@ module _ (functions : List Function) (words : Words) (shelf shelf' : ShelfState)
   GivesUnmatched =
       (file events : ℕ) (bytes log : List ℕ) (i : ℕ) → Asks words shelf (Replay file events) (bytes ∷ log ∷ []) → IsReplayOf functions bytes log (Err (unlike i))
       → Comes words shelf shelf' sink sink' Unmatched (λ text. text ≡ unmatched_line i) result
+
+  -- `exec`, for bytes that are told and are the text of endpoint programs: a transcript of their scheduled run, which is stuck or not
+  abbrev pub GivesExecution : Type 0
+  GivesExecution =
+      (word : ℕ) (options : Options) (bytes : List ℕ) (e : Endpoints) → Asks words shelf (Exec word options) (bytes ∷ []) → AreProgramsOf (names_of functions) bytes e
+      → (jammed : Bool) × Comes words shelf shelf' sink sink' (status_of jammed) (λ text. IsExecution functions options bytes text jammed) result
+
+  -- `exec`, for the text of the projection of a source that violates no rule, which `project` writes: what `run` writes for that source
+  abbrev pub GivesProjectedRun : Type 0
+  GivesProjectedRun =
+      (word : ℕ) (options : Options) (source : List ℕ) (f : File) (e : Endpoints) → IsAccepted All (names_of functions) source f → Projects f e
+      → Asks words shelf (Exec word options) (endpoints_text e ∷ []) → Comes words shelf shelf' sink sink' Done (IsRunText functions f options) result
 
   -- `gen`
   abbrev pub GivesGenerated : Type 0

@@ -6,7 +6,9 @@ ghost use Rattle.command_words.specs.Words.{IsForm, NamesFile};
 ghost use Rattle.command_words.specs.declared.words.Words.{Words as CommandWords};
 ghost use Rattle.command_words.specs.declared.words.Command.TheVariants.{Gen};
 ghost use Rattle.chor_cmd.specs.Endings.{FetchesOnly, HasEnded};
-ghost use Rattle.chor_cmd.specs.Endings.{GivesUsage, GivesTooLarge, GivesRefusal, GivesAnswer, GivesReplay, GivesUnmatched, GivesGenerated, GivesCanonical, GivesSame};
+ghost use Rattle.chor_cmd.specs.Endings.{GivesUsage, GivesTooLarge, GivesRefusal, GivesAnswer, GivesReplay, GivesUnmatched};
+ghost use Rattle.chor_cmd.specs.Endings.{GivesExecution, GivesProjectedRun, GivesGenerated, GivesCanonical, GivesSame};
+ghost use Rattle.projected_programs.specs.Laws.{ProjectedTextIsTaken, ProjectedTextRuns};
 
 use crate::numbers::answer_number;
 use crate::one_file::answer_file;
@@ -58,11 +60,23 @@ pub fn chor<F: Shelf, K: Sink, G: Gate + Sync>(
     ensures done { GivesAnswer (functions_of hosts.now) words.now (F.state shelf.old) (F.state shelf.new) (K.state out.old) (K.state out.new) result }
     ensures replayed { GivesReplay (functions_of hosts.now) words.now (F.state shelf.old) (F.state shelf.new) (K.state out.old) (K.state out.new) result }
     ensures unmatched { GivesUnmatched (functions_of hosts.now) words.now (F.state shelf.old) (F.state shelf.new) (K.state out.old) (K.state out.new) result }
+    ensures executed { GivesExecution (functions_of hosts.now) words.now (F.state shelf.old) (F.state shelf.new) (K.state out.old) (K.state out.new) result }
+    ensures projected { GivesProjectedRun (functions_of hosts.now) words.now (F.state shelf.old) (F.state shelf.new) (K.state out.old) (K.state out.new) result }
     ensures generated { GivesGenerated (functions_of hosts.now) words.now (F.state shelf.old) (F.state shelf.new) (K.state out.old) (K.state out.new) result }
     ensures canonical { GivesCanonical (functions_of hosts.now) words.now (F.state shelf.old) (F.state shelf.new) (K.state out.old) (K.state out.new) result }
     ensures same { GivesSame (functions_of hosts.now) words.now (F.state shelf.old) (F.state shelf.new) (K.state out.old) (K.state out.new) result }
 {
+    projected_laws();
     answer(alloc, words, hosts, shelf, out)
+}
+
+// What is proved of the text that `project` writes.
+fn projected_laws()
+    ensures taken { ProjectedTextIsTaken }
+    ensures runs { ProjectedTextRuns }
+{
+    projected_programs::projected_text_is_taken();
+    projected_programs::projected_text_runs();
 }
 
 // Answers what the words ask for.

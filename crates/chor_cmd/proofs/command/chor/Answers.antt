@@ -1,4 +1,5 @@
-use Rattle.chor_cmd.proofs.Settled.{gives_usage, gives_too_large, gives_refusal, gives_answer, gives_replay, gives_unmatched, gives_generated, gives_canonical, gives_same}
+use Rattle.told_programs.proofs.Hosts.{table_exact}
+use Rattle.chor_cmd.proofs.Settled.{gives_usage, gives_too_large, gives_refusal, gives_answer, gives_replay, gives_unmatched, gives_execution, gives_projected_run, gives_generated, gives_canonical, gives_same}
 use Rattle.chor_cmd.proofs.command.chor.Goals as goal
 
 pub returns-clause-usage : goal.returns-clause-usage
@@ -18,6 +19,12 @@ returns-clause-replayed g c = gives_replay _ _ _ _ _ _ _ c.answer.ensures.ended
 
 pub returns-clause-unmatched : goal.returns-clause-unmatched
 returns-clause-unmatched g c = gives_unmatched _ _ _ _ _ _ _ c.answer.ensures.ended
+
+pub returns-clause-executed : goal.returns-clause-executed
+returns-clause-executed g c = gives_execution _ _ _ _ _ _ _ c.answer.ensures.ended
+
+pub returns-clause-projected : goal.returns-clause-projected
+returns-clause-projected g c = gives_projected_run _ _ _ _ _ _ _ c.answer.ensures.ended (table_exact c.args.hosts.now) c.projected_laws.ensures.taken c.projected_laws.ensures.runs
 
 pub returns-clause-generated : goal.returns-clause-generated
 returns-clause-generated g c = gives_generated _ _ _ _ _ _ _ c.answer.ensures.ended
