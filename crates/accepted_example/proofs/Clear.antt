@@ -14,7 +14,7 @@ use Rattle.typing_rules.specs.Environment.{Environment}
 use Rattle.typing_rules.specs.Checks.{rule_at}
 use Rattle.typing_rules.specs.After.{after}
 use Rattle.typing_rules.specs.TypeFaults.{IsBodyFault, here, further}
-use Rattle.typed_nodes.proofs.Checked.{some_is}
+use Rattle.typed_sources.proofs.Checked.{some_is}
 
 pub no_member : {A : Type 0} (x : A) → Contains [] x → ⊥
 no_member x (i, l, e) = absurd (omega (arith, l))

@@ -25,9 +25,9 @@ use Rattle.both_ways.specs.Premises.{IsUnhindered}
 use Rattle.projection.specs.Codes.{proc_named}
 use Rattle.projection.specs.Projects.{Projects, parameters_of, body_at}
 use Rattle.projection_follows.specs.Premises.{EachGuarded, ProceduresChecked, MainChecked, IsProjectionOf}
-use Rattle.file_holders.specs.Lists.{lists_of}
-use Rattle.file_holders.proofs.Places.{lists_fit}
-use Rattle.file_holders.proofs.Declared.{main_held, bodies_held}
+use Rattle.file_trees.specs.Lists.{lists_of}
+use Rattle.file_trees.proofs.Places.{lists_fit}
+use Rattle.file_trees.proofs.Declared.{main_held, bodies_held}
 use Rattle.file_trees.proofs.Channels.{channels_from}
 use Rattle.file_trees.proofs.Files.{active_there, roles_apart, processes_apart, main_fits, all_fit}
 use Rattle.file_trees.proofs.Guards.{all_guarded}

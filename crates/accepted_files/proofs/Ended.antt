@@ -14,7 +14,7 @@ use Rattle.endpoint_code.specs.NetworkRuns.{IsNetworkRun, has_ended, all_ended}
 use Rattle.well_formed.specs.Linear.{ParameterSets}
 use Rattle.well_formed.specs.Holders.{ListedHolders}
 use Rattle.typed_runs.proofs.Small.{both_true}
-use Rattle.typed_nodes.proofs.Checked.{some_is}
+use Rattle.typed_sources.proofs.Checked.{some_is}
 use Rattle.both_ways.specs.Premises.{Realizes}
 use Rattle.both_ways.proofs.FromSources.{all_bodies, bodies_renamed}
 use Rattle.both_ways.proofs.First.{first_corresponds}

@@ -15,7 +15,7 @@ use Rattle.well_formed.specs.Linear.{ParameterSets, everyone, IsLinear, AllLinea
 use Rattle.well_formed.proofs.References.{same_name}
 use Rattle.linearity.specs.OrderFaults.{main_of, IsLinearFile}
 use Rattle.linearity.proofs.Orders.{linear_procedures, linear_main}
-use Rattle.typed_nodes.proofs.Checked.{some_is}
+use Rattle.typed_sources.proofs.Checked.{some_is}
 use Rattle.typed_sources.proofs.Resolved.{found_in}
 use Rattle.file_trees.proofs.Channels.{channel_from, channels_from}
 

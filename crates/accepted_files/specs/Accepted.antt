@@ -13,13 +13,13 @@ use Rattle.well_formed.specs.Asked.{IsAnswered}
 use Rattle.well_formed.specs.Linear.{ParameterSets}
 use Rattle.typing_rules.specs.Guarded.{IsGuarded}
 use Rattle.conforming_runs.specs.History.{SessionsConform, SessionsEnd}
-use Rattle.typed_nodes.specs.Stands.{kind_in, states_in}
+use Rattle.typed_sources.specs.Stands.{kind_in, states_in}
 use Rattle.typed_sources.specs.Laws.{IsAccepted}
 use Rattle.linearity.specs.OrderFaults.{IsOrderFault}
 use Rattle.projection.specs.Projects.{Projects}
 use Rattle.both_ways.specs.Laws.{CannotStep, HasEndedEmpty}
 use Rattle.projection_follows.specs.Premises.{IsProjectionOf}
-use Rattle.file_holders.specs.Lists.{lists_of}
+use Rattle.file_trees.specs.Lists.{lists_of}
 
 -- no fault of names, where the host functions have these names, none of protocols and none of types, no call that isn't
 -- guarded, and no start that isn't ordered

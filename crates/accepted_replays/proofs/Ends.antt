@@ -20,7 +20,7 @@ use Rattle.both_ways.proofs.Capacity.{run_has_room}
 use Rattle.both_ways.proofs.Ended.{terminated_ended}
 use Rattle.projection.specs.Projects.{Projects}
 use Rattle.projection_follows.proofs.Realizes.{realizes}
-use Rattle.file_holders.specs.Lists.{lists_of}
+use Rattle.file_trees.specs.Lists.{lists_of}
 use Rattle.accepted_files.specs.Accepted.{IsChecked}
 use Rattle.accepted_files.proofs.Accepted.{sets, has_active, is_projection}
 use Rattle.accepted_files.proofs.Ended.{ended_run}

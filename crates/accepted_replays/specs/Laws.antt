@@ -6,7 +6,7 @@ use Rattle.chor_tree.specs.declared.file.File.{File}
 use Rattle.chor_semantics.specs.Runs.{IsRun, IsEndedRun}
 use Rattle.endpoint_code.specs.declared.endpoints.Endpoints.{Endpoints}
 use Rattle.conforming_runs.specs.History.{SessionsConform, SessionsEnd}
-use Rattle.typed_nodes.specs.Stands.{kind_in, states_in}
+use Rattle.typed_sources.specs.Stands.{kind_in, states_in}
 use Rattle.projection.specs.Projects.{Projects}
 use Rattle.accepted_files.specs.Accepted.{IsChecked}
 use Rattle.source_check.specs.Source.{IsFileOf, IsAccepted}
@@ -16,7 +16,8 @@ use Rattle.replay.specs.declared.answer.Replayed.{Replayed}
 use Rattle.replay.specs.declared.answer.ReplayFault.{ReplayFault}
 use Rattle.event_files.specs.Networks.{TellsMore}
 use Rattle.event_files.specs.Networks as network
-use Rattle.accepted_replays.specs.Sources.{book_of, ReplaysSource}
+use Rattle.source_runs.specs.Books.{book_of}
+use Rattle.accepted_replays.specs.Sources.{ReplaysSource}
 
 -- a run of the choreography of a checked file has ended exactly where one of its projection's network has
 abbrev pub RunsEndTogether : Type 0

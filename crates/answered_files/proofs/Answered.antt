@@ -29,10 +29,10 @@ use Rattle.source_blocks.specs.Blocks.{choreography_of}
 use Rattle.source_blocks.proofs.Blocks.{block_choreography}
 use Rattle.well_formed.specs.Asked.{CanAnswer, AllAsked, IsAnswered}
 use Rattle.typed_runs.proofs.Small.{both_true}
-use Rattle.typed_calls.proofs.Calls.{all_of}
+use Rattle.typed_sources.proofs.Calls.{all_of}
 use Rattle.typed_sources.proofs.Resolved.{no_items, both_empty}
 use Rattle.typed_sources.proofs.ProcedureHeads.{no_fault_at}
-use Rattle.file_trees.proofs.FromBelow.{low, only, other}
+use Rattle.file_trees.proofs.Followers.{low, only, other}
 use Rattle.chor_host.specs.Functions.{Function, names_of, hosts_in}
 use Rattle.answered_files.specs.Laws.{AreExact}
 use Rattle.answered_files.proofs.Found.{has_answer}

@@ -17,9 +17,8 @@ use Rattle.endpoint_laws.proofs.Verdicts.{never_refused, one_refusal}
 use Rattle.endpoint_text.specs.Text.{endpoints_text}
 use Rattle.transcript.specs.Text.{transcript}
 use Rattle.program_runs.specs.Transcripts.{closing_text}
-use Rattle.accepted_replays.specs.Sources.{book_of}
-use Rattle.scheduled_runs.specs.Laws.{ClosesWell}
-use Rattle.simulation.specs.Runs.{IsRunOf}
+use Rattle.source_runs.specs.Books.{book_of}
+use Rattle.simulation.specs.Runs.{ClosesWell, IsRunOf}
 use Rattle.projected_programs.specs.Laws.{AreProjected, ProjectedTextIsTaken, IsRunTranscript, ProjectedTextRuns}
 use Rattle.chor_cmd.specs.declared.status.Status.{Status}
 use Rattle.chor_cmd.specs.declared.status.Status.TheVariants.{Done, Refused, Usage, ReadFault, WriteFault, Memory, Unmatched, Stuck, TooLarge}

@@ -16,7 +16,8 @@ use Rattle.event_files.specs.Files.{ReplaysFile}
 use Rattle.event_files.specs.Networks.{TellsMore}
 use Rattle.event_files.proofs.Along.{replays_too}
 use Rattle.event_files.proofs.OneAnswer as files
-use Rattle.accepted_replays.specs.Sources.{book_of, ReplaysSource}
+use Rattle.source_runs.specs.Books.{book_of}
+use Rattle.accepted_replays.specs.Sources.{ReplaysSource}
 use Rattle.accepted_replays.proofs.Books.{book_accepted}
 use Rattle.accepted_replays.proofs.Runs.{goes_by_runs}
 use Rattle.chor_cmd.specs.Outputs.{IsReplayOf}

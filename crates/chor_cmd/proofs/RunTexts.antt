@@ -9,7 +9,7 @@ use Rattle.transcript.specs.Text.{transcript}
 use Rattle.net_core.specs.Picks.{entries_of}
 use Rattle.simulation.specs.Runs.{IsOutcome, close_of}
 use Rattle.command_words.specs.declared.options.Options.{Options}
-use Rattle.accepted_replays.specs.Sources.{book_of}
+use Rattle.source_runs.specs.Books.{book_of}
 use Rattle.chor_cmd.specs.Outputs.{events_of, last_line, IsRunText}
 
 events_back : (h : List Event) → events_of (entries_of h) ≡ h

@@ -29,8 +29,7 @@ use Rattle.chor_cmd.proofs.Asked.{first_is, second_is, first_before, first_after
 use Rattle.chor_cmd.proofs.SameTexts.{text_alike, text_is_source, text_of_text}
 use Rattle.event_files.specs.Networks.{TellsMore}
 use Rattle.endpoint_text.specs.Text.{endpoints_text}
-use Rattle.answered_files.specs.Laws.{AreExact}
-use Rattle.projected_programs.specs.Laws.{ProjectedTextIsTaken, ProjectedTextRuns}
+use Rattle.projected_programs.specs.Laws.{AreExact, ProjectedTextIsTaken, ProjectedTextRuns}
 use Rattle.chor_cmd.proofs.Replayed.{one_answer}
 use Rattle.chor_cmd.proofs.Became.{Expected, as_said, read_failed, Became, violates, answers, unlike_at, jammed, failed, next_long, held, exceeded, became}
 use Rattle.chor_cmd.proofs.Programs.{programs_refused, programs_executed, projection_executed}

@@ -8,7 +8,7 @@ ghost use Rattle.chor_host.specs.Tables.{functions_of};
 ghost use Rattle.source_check.specs.Classes.{IsFaultless, classes_of};
 ghost use Rattle.source_check.specs.Source.{IsBroken};
 ghost use Rattle.source_check.specs.declared.rules.Rules.TheVariants as rules;
-ghost use Rattle.accepted_replays.specs.Sources.{book_of};
+ghost use Rattle.source_runs.specs.Books.{book_of};
 ghost use Rattle.chor_cmd.specs.Outputs.{events_of, last_line, IsRunText};
 ghost use Rattle.chor_cmd.specs.Endings.{host_names};
 

@@ -171,7 +171,7 @@ pub data VariablesAre (names : List (List ℕ)) : List Token → List (Named × 
       → MarkIs OpenParen t0 t1 → ListIs (VariableIs names) t1 vs t2 → MarkIs CloseParen t2 t3
       → VariablesAre names t0 vs t3
 
--- pparam = NAME [ "(" NAME ":" sort { "," NAME ":" sort } ")" ]
+-- parameter = NAME [ "(" NAME ":" sort { "," NAME ":" sort } ")" ]
 pub data ProcParamIs (names : List (List ℕ)) : List Token → ProcParam → List Token → Type 0 where
   a_param : {t0 t1 t2 : List Token} {n : Named} {vs : List (Named × Sort)}
       → NameIs names t0 n t1 → VariablesAre names t1 vs t2
@@ -183,20 +183,20 @@ pub data HolderIs (names : List (List ℕ)) : List Token → Named × Named → 
       → NameIs names t0 r t1 → MarkIs Assign t1 t2 → NameIs names t2 p t3
       → HolderIs names t0 (r, p) t3
 
--- sparam = NAME ":" NAME "." NAME "{" NAME "=" NAME { "," NAME "=" NAME } "}"
+-- session = NAME ":" NAME "." NAME "{" NAME "=" NAME { "," NAME "=" NAME } "}"
 pub data SessionParamIs (names : List (List ℕ)) : List Token → SessionParam → List Token → Type 0 where
   a_session : {t0 t1 t2 t3 t4 t5 t6 t7 t8 : List Token} {n p s : Named} {hs : List (Named × Named)}
       → NameIs names t0 n t1 → MarkIs Colon t1 t2 → NameIs names t2 p t3 → MarkIs Dot t3 t4 → NameIs names t4 s t5
       → MarkIs OpenBrace t5 t6 → ListIs (HolderIs names) t6 hs t7 → MarkIs CloseBrace t7 t8
       → SessionParamIs names t0 (record { name = n; protocol = p; state = s; holders = hs }) t8
 
--- [ ";" sparam { "," sparam } ]
+-- [ ";" session { "," session } ]
 pub data SessionsAre (names : List (List ℕ)) : List Token → List SessionParam → List Token → Type 0 where
   no_sessions : {ts : List Token} → SessionsAre names ts [] ts
   some_sessions : {t0 t1 t2 : List Token} {ss : List SessionParam}
       → MarkIs Semicolon t0 t1 → ListIs (SessionParamIs names) t1 ss t2 → SessionsAre names t0 ss t2
 
--- [ pparam { "," pparam } [ ";" sparam { "," sparam } ] ]
+-- [ parameter { "," parameter } [ ";" session { "," session } ] ]
 pub data ParamsAre (names : List (List ℕ)) : List Token → List ProcParam → List SessionParam → List Token → Type 0 where
   no_params : {ts : List Token} → ParamsAre names ts [] [] ts
   some_params : {t0 t1 t2 : List Token} {ps : List ProcParam} {ss : List SessionParam}
@@ -290,7 +290,7 @@ mutual
 
 -- ---- files
 
--- proc = "proc" NAME "(" [ pparam { "," pparam } [ ";" sparam { "," sparam } ] ] ")" block
+-- proc = "proc" NAME "(" [ parameter { "," parameter } [ ";" session { "," session } ] ] ")" block
 pub data ProcedureIs (names : List (List ℕ)) : List Token → Procedure → List Token → Type 0 where
   a_procedure : {t0 t1 t2 t3 t4 t5 t6 : List Token} {n : Named} {ps : List ProcParam} {ss : List SessionParam} {b : Block}
       → WordIs names (codes "proc") t0 t1 → NameIs names t1 n t2

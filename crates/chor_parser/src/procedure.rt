@@ -20,7 +20,7 @@ pub struct Parameters {
     pub sessions: List<SessionParam>,
 }
 
-// [ pparam { "," pparam } [ ";" sparam { "," sparam } ] ]
+// [ parameter { "," parameter } [ ";" session { "," session } ] ]
 pub fn read_parameters(
     alloc: Global,
     input: &Input,
@@ -41,7 +41,7 @@ pub fn read_parameters(
     Ok((Parameters { params, sessions }, at))
 }
 
-// pparam { "," pparam }
+// parameter { "," parameter }
 fn read_process_params(
     alloc: Global,
     input: &Input,
@@ -62,7 +62,7 @@ fn read_process_params(
     Ok((params, at))
 }
 
-// pparam = NAME [ "(" NAME ":" sort { "," NAME ":" sort } ")" ]
+// parameter = NAME [ "(" NAME ":" sort { "," NAME ":" sort } ")" ]
 fn read_process_param(alloc: Global, input: &Input, at: usize) -> Result<(ProcParam, usize), Denied>
     ensures reads { IfOk result (λ x. Reads ProcParamPart AParen (names_of input.now) (tokens_from input.now at) x.0 (tokens_from input.now x.1)) }
     ensures halts { IfErr result (Halts ProcParamPart AParen (names_of input.now) (tokens_from input.now at)) }
@@ -121,7 +121,7 @@ fn read_var(input: &Input, at: usize) -> Result<((Named, Sort), usize), Denied>
     Ok(((name, sort), at))
 }
 
-// [ ";" sparam { "," sparam } ]
+// [ ";" session { "," session } ]
 fn read_sessions(
     alloc: Global,
     input: &Input,
@@ -136,7 +136,7 @@ fn read_sessions(
     }
 }
 
-// sparam { "," sparam }
+// session { "," session }
 fn read_session_params(
     alloc: Global,
     input: &Input,
@@ -157,7 +157,7 @@ fn read_session_params(
     Ok((sessions, at))
 }
 
-// sparam = NAME ":" NAME "." NAME "{" NAME "=" NAME { "," NAME "=" NAME } "}"
+// session = NAME ":" NAME "." NAME "{" NAME "=" NAME { "," NAME "=" NAME } "}"
 fn read_session_param(
     alloc: Global,
     input: &Input,

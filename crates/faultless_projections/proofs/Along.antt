@@ -29,13 +29,13 @@ use Rattle.typing_rules.specs.Allowed.{value_sent, labels_sent, arm_in, endpoint
 use Rattle.typing_rules.specs.Checks.{sort_at, value_checks, label_checks, endpoint_checks, statement_checks, holds_as, sessions_fit, arguments_fit, rest_ended, rule_at}
 use Rattle.typing_rules.specs.After.{with_value, with_state, with_endpoint, with_sort, after_statement}
 use Rattle.typed_runs.proofs.Small.{both_true}
-use Rattle.typed_nodes.proofs.Checked.{first_passes, asked, holder_is}
-use Rattle.typed_nodes.proofs.Opened.{IsNamedStart, eq_flip, holder_other, holder_new}
+use Rattle.typed_sources.proofs.Checked.{first_passes, asked, holder_is}
+use Rattle.typed_sources.proofs.Opened.{IsNamedStart, eq_flip, holder_other, holder_new}
 use Rattle.typed_sources.proofs.BlockTrees.{node_of, tree_of}
 use Rattle.typed_sources.proofs.Sources.{NamesKept, IsNamedCall, IsFaultless, scope_with}
 use Rattle.projection.specs.Codes.{is_named, name_of, role_in, proc_named, param_for}
-use Rattle.file_holders.proofs.FromBelow.{among_front}
-use Rattle.file_holders.proofs.Owned.{KeepsOwners, two_parties, GivenFits, given_fits, statement_owned, call_sessions}
+use Rattle.typed_sources.proofs.Scopes.{among_front}
+use Rattle.file_trees.proofs.Owned.{KeepsOwners, two_parties, GivenFits, given_fits, statement_owned, call_sessions}
 use Rattle.file_trees.proofs.Channels.{channel_from}
 use Rattle.file_trees.proofs.Named.{IsNewStart, SessionsKept, AreNamed}
 use Rattle.file_trees.proofs.Scopes.{none_of}

@@ -24,7 +24,7 @@ use Rattle.typed_sources.proofs.BlockTrees.{tree_of, tree_at}
 use Rattle.typed_sources.proofs.Resolved.{both_empty, each_empty, found_in, is_named_there}
 use Rattle.typed_sources.proofs.ProcedureHeads.{no_fault_at, not_true, is_known, all_apart, names_append, names_map}
 use Rattle.typed_sources.proofs.Accepted.{declared, channels_fine, procedures_fine, main_faultless, procedures_keep}
-use Rattle.file_holders.proofs.Declared.{main_keeps, body_keeps}
+use Rattle.file_trees.proofs.Declared.{main_keeps, body_keeps}
 use Rattle.file_trees.proofs.Channels.{StartsIn, channel_there}
 use Rattle.file_trees.proofs.Files.{each_first, main_named, procedure_named, params_apart, sessions_named}
 use Rattle.file_trees.proofs.Roles.{once_apart}

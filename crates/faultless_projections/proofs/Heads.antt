@@ -14,10 +14,10 @@ use Rattle.delegation.specs.Owners.{held as entry, holder_of}
 use Rattle.delegation.specs.Checks.{all_differ}
 use Rattle.typing_rules.specs.Environment.{at_procedure}
 use Rattle.typed_runs.proofs.Small.{both_true}
-use Rattle.typed_nodes.proofs.Checked.{some_is}
-use Rattle.typed_nodes.proofs.Opened.{eq_flip}
-use Rattle.typed_calls.proofs.Arguments.{owners_of, holder_elsewhere}
-use Rattle.file_holders.proofs.FromBelow.{not_is}
+use Rattle.typed_sources.proofs.Checked.{some_is}
+use Rattle.typed_sources.proofs.Opened.{eq_flip}
+use Rattle.typed_sources.proofs.Arguments.{owners_of, holder_elsewhere}
+use Rattle.typed_sources.proofs.Opened.{not_is}
 use Rattle.projection.specs.Codes.{holds, sessions_for}
 use Rattle.held_sessions.specs.Held.{Held}
 use Rattle.faultless_projections.proofs.Knows.{HasRole, Knows}

@@ -18,7 +18,7 @@ use Rattle.endpoint_code.specs.Network.{procedure_of, channel_of}
 use Rattle.well_formed.proofs.References.{same_name, clash, true_eq, or_rights, or_left, left_or, right_or, or_false}
 use Rattle.delegation.specs.Checks.{all_differ}
 use Rattle.typed_runs.proofs.Small.{both_true}
-use Rattle.file_holders.proofs.FromBelow.{not_is}
+use Rattle.typed_sources.proofs.Opened.{not_is}
 use Rattle.projection.specs.Codes.{holds, sessions_for}
 use Rattle.projection.specs.Projects.{names_of, channel_from, parameters_of, service_roles}
 

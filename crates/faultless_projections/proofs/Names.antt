@@ -11,9 +11,9 @@ use Rattle.well_formed.proofs.References.{same_name, clash, true_eq, or_rights}
 use Rattle.delegation.specs.Owners.{holder_of, started}
 use Rattle.delegation.specs.Checks.{all_differ}
 use Rattle.typed_runs.proofs.Small.{both_true}
-use Rattle.typed_nodes.proofs.Checked.{some_is}
-use Rattle.typed_nodes.proofs.Opened.{eq_flip}
-use Rattle.file_holders.proofs.FromBelow.{not_is}
+use Rattle.typed_sources.proofs.Checked.{some_is}
+use Rattle.typed_sources.proofs.Opened.{eq_flip}
+use Rattle.typed_sources.proofs.Opened.{not_is}
 use Rattle.projection.specs.Codes.{role_in}
 
 -- ---- names that differ

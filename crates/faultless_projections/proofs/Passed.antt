@@ -10,10 +10,10 @@ use Rattle.delegation.specs.declared.held.Held.{Held as Entry}
 use Rattle.delegation.specs.Owners.{holder_of, holds_some, passed}
 use Rattle.typing_rules.specs.Environment.{Environment}
 use Rattle.typed_runs.proofs.Small.{both_true}
-use Rattle.typed_nodes.proofs.Checked.{some_is}
-use Rattle.typed_nodes.proofs.Moved.{passed_other, passed_this, holds_one}
+use Rattle.typed_sources.proofs.Checked.{some_is}
+use Rattle.typed_sources.proofs.Moved.{passed_other, passed_this, holds_one}
 use Rattle.held_sessions.specs.Held.{Held, with_held}
-use Rattle.file_holders.proofs.Owned.{KeepsOwners}
+use Rattle.file_trees.proofs.Owned.{KeepsOwners}
 use Rattle.faultless_projections.proofs.Knows.{HasRole, Knows}
 
 module _ (r : NameId) (f : File) (scope : Scope) (e : Environment) (t : KeepsOwners scope e) (g : Held) (knows : Knows r g e)

@@ -18,14 +18,14 @@ use Rattle.typing_rules.specs.Environment.{Environment}
 use Rattle.typing_rules.specs.Checks.{statement_checks}
 use Rattle.typing_rules.specs.After.{after_statement}
 use Rattle.typed_runs.proofs.Small.{both_true}
-use Rattle.typed_nodes.proofs.Checked.{some_is}
-use Rattle.typed_nodes.proofs.Opened.{IsNamedStart, among_more, eq_flip, holder_other, holder_new}
+use Rattle.typed_sources.proofs.Checked.{some_is}
+use Rattle.typed_sources.proofs.Opened.{IsNamedStart, among_more, eq_flip, holder_other, holder_new}
 use Rattle.typed_sources.proofs.BlockTrees.{node_of, tree_of}
 use Rattle.typed_sources.proofs.Sources.{IsFaultless, scope_with}
 use Rattle.projection.specs.Projects.{start_at, starts_in, serving}
 use Rattle.projection.specs.Renamed.{AreOther}
-use Rattle.file_holders.proofs.FromBelow.{among_front}
-use Rattle.file_holders.proofs.Owned.{KeepsOwners, statement_owned}
+use Rattle.typed_sources.proofs.Scopes.{among_front}
+use Rattle.file_trees.proofs.Owned.{KeepsOwners, statement_owned}
 use Rattle.file_trees.proofs.Named.{IsNewStart, AreNamed}
 use Rattle.file_trees.proofs.Scopes.{none_of}
 use Rattle.projection_follows.specs.FreeSessions.{IsFree}

@@ -27,15 +27,15 @@ use Rattle.typing_rules.specs.Allowed.{value_sent, labels_sent, arm_in, endpoint
 use Rattle.typing_rules.specs.Checks.{sort_at, value_checks, label_checks, endpoint_checks, statement_checks, holds_as, sessions_fit, rule_at}
 use Rattle.typing_rules.specs.After.{with_value, with_state, with_endpoint, with_sort, after_statement}
 use Rattle.typed_runs.proofs.Small.{both_true}
-use Rattle.typed_nodes.proofs.Checked.{first_passes, asked, holder_is, some_is}
-use Rattle.typed_nodes.proofs.Moved.{passed_other, passed_this, holds_one}
-use Rattle.typed_nodes.proofs.Opened.{IsNamedStart, holder_other, holder_new}
+use Rattle.typed_sources.proofs.Checked.{first_passes, asked, holder_is, some_is}
+use Rattle.typed_sources.proofs.Moved.{passed_other, passed_this, holds_one}
+use Rattle.typed_sources.proofs.Opened.{IsNamedStart, holder_other, holder_new}
 use Rattle.typed_sources.proofs.BlockTrees.{node_of, tree_of}
 use Rattle.typed_sources.proofs.Sources.{NamesKept, IsNamedCall, IsFaultless, scope_with}
 use Rattle.projection.specs.Codes.{is_named, role_in, proc_named, param_for}
 use Rattle.projection_follows.specs.Roles.{Roles, with_role, HoldsRole, GivesAway, roles_sent, roles_gained, TakesPart, HoldsPassed, HoldsPassedFor, HoldsAtCall, HoldsRoles}
-use Rattle.file_holders.proofs.FromBelow.{among_front}
-use Rattle.file_holders.proofs.Owned.{KeepsOwners, two_parties, GivenFits, given_fits, statement_owned, call_sessions}
+use Rattle.typed_sources.proofs.Scopes.{among_front}
+use Rattle.file_trees.proofs.Owned.{KeepsOwners, two_parties, GivenFits, given_fits, statement_owned, call_sessions}
 use Rattle.file_trees.proofs.Scopes.{none_of}
 use Rattle.file_roles.proofs.Parts.{active_role, proc_same, passed_holds, listed_role}
 

@@ -24,9 +24,9 @@ use Rattle.typing_rules.specs.Checks.{statement_checks}
 use Rattle.typing_rules.specs.TypeFaults.{holder_fault}
 use Rattle.typing_rules.specs.After.{after_statement}
 use Rattle.typed_runs.proofs.Small.{both_true}
-use Rattle.typed_nodes.proofs.Checked.{first_passes, asked, some_is}
-use Rattle.typed_nodes.proofs.Opened.{IsNamedStart, holder_other, holder_new}
-use Rattle.typed_calls.proofs.Arguments.{owners_of, holder_elsewhere, no_owner}
+use Rattle.typed_sources.proofs.Checked.{first_passes, asked, some_is}
+use Rattle.typed_sources.proofs.Opened.{IsNamedStart, holder_other, holder_new}
+use Rattle.typed_sources.proofs.Arguments.{owners_of, holder_elsewhere, no_owner}
 use Rattle.typed_sources.specs.Laws.{IsAccepted}
 use Rattle.typed_sources.proofs.BlockTrees.{node_of, tree_of, tree_at}
 use Rattle.typed_sources.proofs.Sources.{NamesKept, IsFaultless, scope_with}
@@ -36,9 +36,9 @@ use Rattle.projection.specs.Codes.{proc_named}
 use Rattle.projection.specs.Projects.{body_at}
 use Rattle.projection_follows.specs.Roles.{with_role, has_name, params_of, holder_role, roles_of, HoldsRoles, EachServiceHolds, ServicesHoldAt, ServicesHold}
 use Rattle.projection_follows.specs.Premises.{ProceduresHold, MainHolds, AllServicesHold, HoldsItsRoles}
-use Rattle.file_holders.proofs.FromBelow.{not_is}
-use Rattle.file_holders.proofs.Owned.{KeepsOwners, statement_owned}
-use Rattle.file_holders.proofs.Declared.{main_keeps, body_keeps}
+use Rattle.typed_sources.proofs.Opened.{not_is}
+use Rattle.file_trees.proofs.Owned.{KeepsOwners, statement_owned}
+use Rattle.file_trees.proofs.Declared.{main_keeps, body_keeps}
 use Rattle.file_trees.proofs.Files.{params_apart}
 use Rattle.file_trees.proofs.Scopes.{none_of}
 use Rattle.file_roles.proofs.Parts.{part_role, proc_same, head_role}

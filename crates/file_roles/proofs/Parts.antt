@@ -16,10 +16,10 @@ use Rattle.delegation.specs.Checks.{all_differ}
 use Rattle.typing_rules.specs.Environment.{Environment}
 use Rattle.typing_rules.specs.Checks.{holds_as}
 use Rattle.typed_runs.proofs.Small.{both_true}
-use Rattle.typed_nodes.proofs.Checked.{some_is, holder_is}
+use Rattle.typed_sources.proofs.Checked.{some_is, holder_is}
 use Rattle.projection.specs.Codes.{role_in, proc_named, param_for, holds as is_listed}
 use Rattle.projection_follows.specs.Roles.{holder_role}
-use Rattle.file_holders.proofs.FromBelow.{holder_among, not_is}
+use Rattle.typed_sources.proofs.Opened.{holder_among, not_is}
 
 -- ---- starts
 

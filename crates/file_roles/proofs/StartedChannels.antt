@@ -8,7 +8,7 @@ use Rattle.chor_tree.specs.declared.file.Service.{Service}
 use Rattle.chor_tree.specs.Names.{first_named}
 use Rattle.chor_semantics.specs.Choreography.{Node, Starts, Communicates, InTransit, Alone, Choreography, Then, Either, Calls, Ends}
 use Rattle.well_formed.proofs.References.{same_name, true_eq}
-use Rattle.typed_nodes.proofs.Checked.{some_is}
+use Rattle.typed_sources.proofs.Checked.{some_is}
 use Rattle.projection.specs.Projects.{Started, start_at, starts_in, body_at, starts_in_procs, starts_of, is_some_start}
 use Rattle.file_trees.proofs.Channels.{IsStartOf, StartsIn}
 

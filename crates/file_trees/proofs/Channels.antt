@@ -10,7 +10,7 @@ use Rattle.chor_semantics.specs.Choreography.{Node, Starts, Communicates, InTran
 use Rattle.endpoint_code.specs.declared.endpoints.Channel.{Channel}
 use Rattle.endpoint_code.specs.Network.{channel_of as channel_in}
 use Rattle.well_formed.proofs.References.{clash}
-use Rattle.typed_nodes.proofs.Checked.{some_is}
+use Rattle.typed_sources.proofs.Checked.{some_is}
 
 abbrev pub channel_from : Service → Channel
 channel_from s = record { name = s.name.name; active = names_in s.active; serve = names_in s.serve }

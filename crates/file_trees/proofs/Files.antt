@@ -23,15 +23,15 @@ use Rattle.well_formed.proofs.References.{true_eq, same_name, clash}
 use Rattle.delegation.specs.Checks.{all_differ}
 use Rattle.typing_rules.specs.Environment.{at_main, at_procedure}
 use Rattle.typed_runs.proofs.Small.{both_true}
-use Rattle.typed_calls.proofs.Calls.{all_of}
+use Rattle.typed_sources.proofs.Calls.{all_of}
 use Rattle.typed_sources.specs.Laws.{IsAccepted}
 use Rattle.typed_sources.proofs.BlockTrees.{tree_of, tree_at}
 use Rattle.typed_sources.proofs.Resolved.{both_empty, each_empty, found_in, is_named_there}
 use Rattle.typed_sources.proofs.ProcedureHeads.{no_fault_at, not_true, is_known, all_apart, names_append, names_map}
 use Rattle.typed_sources.proofs.Accepted.{good, main_faultless, procedures_keep, procedures_fine, channels_fine, declared, bodies_there, procs_there, less}
-use Rattle.file_holders.proofs.FromBelow.{not_is}
-use Rattle.file_holders.proofs.Places.{from_file}
-use Rattle.file_holders.proofs.Declared.{main_keeps, body_keeps}
+use Rattle.typed_sources.proofs.Opened.{not_is}
+use Rattle.file_trees.proofs.Places.{from_file}
+use Rattle.file_trees.proofs.Declared.{main_keeps, body_keeps}
 use Rattle.file_trees.proofs.Channels.{channels_from, AreWanted, channel_back}
 use Rattle.file_trees.proofs.References.{distinct_refs, front_differ}
 use Rattle.file_trees.proofs.Named.{AreNamed, body_named}

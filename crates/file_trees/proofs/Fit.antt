@@ -30,14 +30,14 @@ use Rattle.typing_rules.specs.Allowed.{value_sent, labels_sent, arm_of, endpoint
 use Rattle.typing_rules.specs.Checks.{has_sort, is_sort, sort_at, value_checks, label_checks, endpoint_checks, rest_ended, arguments_fit, statement_checks, rule_at}
 use Rattle.typing_rules.specs.After.{after_statement}
 use Rattle.typed_runs.proofs.Small.{both_true}
-use Rattle.typed_nodes.proofs.Checked.{first_passes, asked, holder_is, has_step, value_allowed, label_allowed, endpoint_allowed}
-use Rattle.typed_nodes.proofs.Moved.{at_is}
-use Rattle.typed_nodes.proofs.Statements.{ProtocolsFit, is_own}
-use Rattle.typed_nodes.proofs.Opened.{IsNamedStart}
+use Rattle.typed_sources.proofs.Checked.{first_passes, asked, holder_is, has_step, value_allowed, label_allowed, endpoint_allowed}
+use Rattle.typed_sources.proofs.Moved.{at_is}
+use Rattle.typed_sources.proofs.Statements.{ProtocolsFit, is_own}
+use Rattle.typed_sources.proofs.Opened.{IsNamedStart}
 use Rattle.typed_sources.proofs.BlockTrees.{node_of, tree_of}
 use Rattle.typed_sources.proofs.Sources.{IsIn, NamesKept, IsNamedCall, IsFaultless, scope_with, named_same}
 use Rattle.typed_sources.proofs.ProcedureHeads.{no_fault_at, not_true}
-use Rattle.file_holders.proofs.Owned.{KeepsOwners, two_parties, statement_owned}
+use Rattle.file_trees.proofs.Owned.{KeepsOwners, two_parties, statement_owned}
 use Rattle.file_trees.proofs.Channels.{channel_from, channels_from, AreWanted, channel_there}
 use Rattle.file_trees.proofs.References.{distinct_refs, all_in, refs_same, firsts_same, roles_same, served_roles, list_of, length_map, front_differ}
 use Rattle.file_trees.proofs.Named.{IsNewStart, IsSession, SessionsKept, AreNamed}

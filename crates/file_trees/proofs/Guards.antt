@@ -19,14 +19,14 @@ use Rattle.well_formed.proofs.References.{true_eq, same_name, clash, left_or, ri
 use Rattle.typing_rules.specs.Environment.{Environment, at_procedure}
 use Rattle.typing_rules.specs.Guarded.{named_in, IsUnguardedCall, here, further, IsGuarded}
 use Rattle.typing_rules.specs.After.{after_statement}
-use Rattle.typed_nodes.proofs.Opened.{AreNew}
-use Rattle.typed_calls.proofs.Arguments.{named}
+use Rattle.typed_sources.proofs.Opened.{AreNew}
+use Rattle.typed_sources.proofs.Arguments.{named}
 use Rattle.typed_sources.specs.Laws.{IsAccepted}
 use Rattle.typed_sources.proofs.BlockTrees.{node_of, tree_of, tree_at}
 use Rattle.typed_sources.proofs.Sources.{NamesKept, IsFaultless, scope_with}
 use Rattle.typed_sources.proofs.Accepted.{procedures_keep}
-use Rattle.file_holders.proofs.FromBelow.{among_front}
-use Rattle.file_trees.proofs.FromBelow.{only, other}
+use Rattle.typed_sources.proofs.Scopes.{among_front}
+use Rattle.file_trees.proofs.Followers.{only, other}
 use Rattle.file_trees.proofs.References.{named_eq, among_named, refs_same}
 use Rattle.file_trees.proofs.Scopes.{none_of}
 use Rattle.file_trees.proofs.Files.{each_first}

@@ -1,4 +1,8 @@
-pub mod FromBelow
+pub mod Followers
+pub mod Places
+pub mod Owners
+pub mod Owned
+pub mod Declared
 pub mod Channels
 pub mod References
 pub mod Named

@@ -12,9 +12,10 @@ use Rattle.well_formed.specs.WellFormed.{AllIn, AreDistinctRefs, AreNoDeeper, en
 use Rattle.well_formed.proofs.References.{clash}
 use Rattle.delegation.specs.Checks.{all_differ}
 use Rattle.typed_runs.proofs.Small.{both_true}
-use Rattle.typed_nodes.proofs.Opened.{eq_flip}
-use Rattle.typed_calls.proofs.Arguments.{named}
-use Rattle.file_holders.proofs.FromBelow.{not_is, among_front}
+use Rattle.typed_sources.proofs.Opened.{eq_flip}
+use Rattle.typed_sources.proofs.Arguments.{named}
+use Rattle.typed_sources.proofs.Opened.{not_is}
+use Rattle.typed_sources.proofs.Scopes.{among_front}
 
 and_true : (b : Bool) → (b && true) ≡ b
 and_true true = refl

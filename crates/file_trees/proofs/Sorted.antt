@@ -12,7 +12,7 @@ use Rattle.chor_base.specs.Expr.{Term, Constant, Variable, Unary, Binary}
 use Rattle.chor_base.specs.Sorts.{Sorts, sort_of, sort_of_value, sort_of_unary, sort_of_binary, or_rule}
 use Rattle.well_formed.specs.WellFormed.{IsPlain, IsPlainTerm}
 use Rattle.typing_rules.specs.Checks.{has_sort}
-use Rattle.typed_nodes.proofs.Checked.{has_it}
+use Rattle.typed_sources.proofs.Checked.{has_it}
 
 plain_value : (v : Value) (s : Sort) → or_rule (sort_of_value v) T3 ≡ Ok s → IsPlain v
 plain_value (Int z) s h = tt

@@ -6,37 +6,23 @@ use Rattle.chor_host.specs.Functions.{Function, names_of, hosts_in}
 use Rattle.chor_tree.specs.declared.file.File.{File}
 use Rattle.endpoint_code.specs.declared.endpoints.Endpoints.{Endpoints}
 use Rattle.endpoint_code.specs.Network.{NetworkState, first_state}
-use Rattle.endpoint_code.specs.NetworkRuns.{IsNetworkRun}
 use Rattle.endpoint_code.specs.Scheduled.{Close, Ended, Limit, Stuck, IsScheduled}
-use Rattle.endpoint_code.proofs.Chosen.{scheduled_leads}
-use Rattle.endpoint_code.proofs.Fifo.{network_fifo}
 use Rattle.well_formed.specs.Asked.{IsAnswered}
-use Rattle.accepted_files.specs.Accepted.{NetworkRunsConform}
 use Rattle.transcript.specs.Text.{Words, transcript}
 use Rattle.program_runs.specs.Transcripts.{closing_text, is_stuck, IsTranscriptOf}
-use Rattle.scheduled_runs.specs.Laws.{ClosesWell, ScheduledRunsClose}
-use Rattle.simulation.specs.Runs.{IsRunOf}
+use Rattle.scheduled_runs.specs.Laws.{ClosesWell}
+use Rattle.scheduled_runs.specs.Runs.{IsRunOf, ScheduledRunsAreRuns}
 use Rattle.projected_programs.specs.Laws.{AreProjected, IsRunTranscript}
 use Rattle.projected_programs.proofs.Checked.{is_checked}
 use Rattle.projected_programs.proofs.Books.{same_book}
 
 module _ (functions : List Function) (bytes : List ℕ) (f : File) (e : Endpoints) (p : AreProjected functions bytes f e) (answered : IsAnswered f (hosts_in f.names functions))
-    (closing : ScheduledRunsClose) (conforming : NetworkRunsConform) (seed steps : ℕ) where
+    (running : ScheduledRunsAreRuns) (seed steps : ℕ) where
   abbrev hosts : Hosts
   hosts = hosts_in f.names functions
 
   run_of : (h : List Event) (last : NetworkState) (c : Close) → IsScheduled e hosts None seed steps (first_state e) 0 h last c → IsRunOf f e hosts seed steps h c
-  run_of h last c run =
-      let checked = is_checked (names_of functions) bytes f p.accepted in
-      let leads : IsNetworkRun e hosts None h last = scheduled_leads e hosts None seed steps h (first_state e) last 0 c run in
-      record {
-        projects = p.projects;
-        last = last;
-        scheduled = run;
-        closes = closing f (names_of functions) checked e p.projects hosts answered seed steps h last c run;
-        fifo = network_fifo e hosts None h last leads;
-        conform = conforming f (names_of functions) checked e p.projects hosts None h last leads;
-      }
+  run_of h last c run = running f (names_of functions) (is_checked (names_of functions) bytes f p.accepted) e p.projects hosts answered seed steps h last c run
 
   -- a run that closes well isn't stuck
   not_stuck : (h : List Event) (last : NetworkState) (c : Close) → ClosesWell f e hosts steps h last c → is_stuck c ≡ false

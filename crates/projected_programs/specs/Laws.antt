@@ -10,15 +10,15 @@ use Rattle.endpoint_code.specs.declared.endpoints.Endpoints.{Endpoints}
 use Rattle.endpoint_code.specs.Scheduled.{Close}
 use Rattle.endpoint_text.specs.Text.{endpoints_text}
 use Rattle.endpoint_check.specs.Programs.{AreProgramsOf, ViolatesPrograms}
-use Rattle.answered_files.specs.Laws.{AreExact}
+pub use Rattle.answered_files.specs.Laws.{AreExact}
 use Rattle.projection.specs.Projects.{Projects}
 use Rattle.source_check.specs.Source.{IsAccepted}
 use Rattle.source_check.specs.declared.rules.Rules.TheVariants.{All}
 use Rattle.transcript.specs.Text.{transcript}
 use Rattle.program_runs.specs.Transcripts.{closing_text, IsTranscriptOf}
-use Rattle.accepted_replays.specs.Sources.{book_of}
+use Rattle.source_runs.specs.Books.{book_of}
 use Rattle.event_reader.specs.Known.{HasEvent}
-use Rattle.simulation.specs.Runs.{IsRunOf}
+use Rattle.scheduled_runs.specs.Runs.{IsRunOf}
 
 -- e are the endpoint programs of a source that violates no rule, where these host functions are there, each with an exact meaning
 pub record AreProjected (functions : List Function) (bytes : List ℕ) (f : File) (e : Endpoints) : Type 0 where

@@ -2,6 +2,7 @@
 #![tactic(auto)]
 
 ghost use Rattle.scheduled_runs.specs.Laws.{NothingHappens, ScheduledRunsClose};
+ghost use Rattle.scheduled_runs.specs.Runs.{ScheduledRunsAreRuns};
 
 /// Where no process of a network can step, no event can happen.
 pub fn nothing_happens()
@@ -15,5 +16,13 @@ pub fn scheduled_runs_close()
 {
     nothing_happens();
     accepted_files::checked_never_stuck();
+    accepted_files::checked_runs();
+}
+
+/// It is first in, first out too, and each session follows its protocol.
+pub fn scheduled_runs_are_runs()
+    ensures { ScheduledRunsAreRuns }
+{
+    scheduled_runs_close();
     accepted_files::checked_runs();
 }

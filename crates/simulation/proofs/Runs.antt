@@ -1,25 +1,17 @@
 -- The run of a network of an accepted file's endpoint programs.
-use Rattle.std.proofs.Common.{◌≡◌, ℕ, List, None, inl, inr, subst}
-use Rattle.chor_base.specs.declared.event.Event.{Event}
+use Rattle.std.proofs.Common.{◌≡◌, ℕ, List, inl, inr, subst}
 use Rattle.chor_base.specs.declared.event.Entry.{Entry}
 use Rattle.chor_base.specs.Meaning.{Hosts}
 use Rattle.chor_host.specs.Functions.{Function, hosts_in}
 use Rattle.chor_tree.specs.declared.file.File.{File}
 use Rattle.endpoint_code.specs.declared.endpoints.Endpoints.{Endpoints}
-use Rattle.endpoint_code.specs.Network.{NetworkState, first_state}
-use Rattle.endpoint_code.specs.NetworkRuns.{IsNetworkRun}
-use Rattle.endpoint_code.specs.Scheduled.{Close, IsScheduled}
-use Rattle.endpoint_code.proofs.Chosen.{scheduled_leads}
-use Rattle.endpoint_code.proofs.Fifo.{network_fifo}
 use Rattle.well_formed.specs.Asked.{IsAnswered}
 use Rattle.type_check.specs.Typed.{IsFine}
 use Rattle.endpoint_runs.specs.declared.run.Closed.{Closed}
 use Rattle.endpoint_runs.specs.Runs.{IsRun, close_of as closing_of}
-use Rattle.accepted_files.specs.Accepted.{IsChecked}
-use Rattle.accepted_files.specs.Accepted as laws
-use Rattle.scheduled_runs.specs.Laws.{ScheduledRunsClose}
+use Rattle.scheduled_runs.specs.Runs.{IsChecked, ScheduledRunsAreRuns}
 use Rattle.simulation.specs.Accepted.{IsAccepted}
-use Rattle.simulation.specs.Runs.{IsRunOf, IsOutcome}
+use Rattle.simulation.specs.Runs.{IsOutcome}
 
 -- an accepted file is checked
 pub checked : (words : List (List ℕ)) (f : File) (e : Endpoints) → IsFine words f → IsAccepted f e → IsChecked f words
@@ -32,21 +24,9 @@ checked words f e fine a = record {
 -- ---- the run
 
 module _ (f : File) (words : List (List ℕ)) (e : Endpoints) (ok : IsChecked f words) (a : IsAccepted f e) (functions : List Function) (answered : IsAnswered f (hosts_in f.names functions))
-    (closing : ScheduledRunsClose) (conforming : laws.NetworkRunsConform) where
+    (running : ScheduledRunsAreRuns) where
   abbrev hosts : Hosts
   hosts = hosts_in f.names functions
-
-  run_of : (seed steps : ℕ) (h : List Event) (last : NetworkState) (c : Close) → IsScheduled e hosts None seed steps (first_state e) 0 h last c → IsRunOf f e hosts seed steps h c
-  run_of seed steps h last c run =
-      let leads : IsNetworkRun e hosts None h last = scheduled_leads e hosts None seed steps h (first_state e) last 0 c run in
-      record {
-        projects = a.projects;
-        last = last;
-        scheduled = run;
-        closes = closing f words ok e a.projects hosts answered seed steps h last c run;
-        fifo = network_fifo e hosts None h last leads;
-        conform = conforming f words ok e a.projects hosts None h last leads;
-      }
 
   -- an accepted file's run, which is closed so, with its endpoint programs under another name
   pub outcome_of : (seed steps : ℕ) (entries : List Entry) (closed is : Closed) → IsRun e (hosts_in e.names functions) seed steps entries (closing_of closed) → closed ≡ is
@@ -55,4 +35,4 @@ module _ (f : File) (words : List (List ℕ)) (e : Endpoints) (ok : IsChecked f 
       let asked = subst (λ (names : List (List ℕ)). IsRun e (hosts_in names functions) seed steps entries (closing_of closed)) a.projects.names run in
       let r = subst (λ (k : Closed). IsRun e hosts seed steps entries (closing_of k)) same asked in
       subst (λ (x : Endpoints). IsOutcome f x hosts seed steps entries (closing_of is)) e-is
-      (record { history = r.history; entries_are = r.entries_are; run = run_of seed steps r.history r.last (closing_of is) r.scheduled })
+      (record { history = r.history; entries_are = r.entries_are; run = running f words ok e a.projects hosts answered seed steps r.history r.last (closing_of is) r.scheduled })

@@ -5,8 +5,7 @@ ghost use Rattle.chor_host.specs.Functions.{names_of, hosts_in};
 ghost use Rattle.chor_host.specs.Tables.{functions_of};
 ghost use Rattle.well_formed.specs.Asked.{IsAnswered};
 ghost use Rattle.faultless_projections.specs.Laws.{ProjectionIsFaultless};
-ghost use Rattle.accepted_files.specs.Accepted.{NetworkRunsConform};
-ghost use Rattle.scheduled_runs.specs.Laws.{ScheduledRunsClose};
+ghost use Rattle.scheduled_runs.specs.Runs.{ScheduledRunsAreRuns};
 ghost use Rattle.simulation.specs.Runs.{IsOutcomeOf};
 
 use crate::accepted::Accepted;
@@ -62,12 +61,10 @@ pub fn run_accepted(
 // What is proved of each accepted file and its runs.
 fn laws()
     ensures faultless { ProjectionIsFaultless }
-    ensures close { ScheduledRunsClose }
-    ensures conform { NetworkRunsConform }
+    ensures runs { ScheduledRunsAreRuns }
 {
     faultless_projections::projection_is_faultless();
-    scheduled_runs::scheduled_runs_close();
-    accepted_files::checked_runs();
+    scheduled_runs::scheduled_runs_are_runs();
 }
 
 // Each host function that an accepted file asks has an answer.

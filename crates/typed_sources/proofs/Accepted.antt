@@ -38,10 +38,10 @@ use Rattle.typing_rules.specs.After.{after_statement}
 use Rattle.typing_rules.specs.TypeFaults.{head_faults, IsBodyFault, here, further, in_main, in_a_head, in_a_procedure, IsTyped}
 use Rattle.typed_runs.specs.Typing.{IsNotEmpty}
 use Rattle.typed_runs.proofs.Small.{eq_same, both_true}
-use Rattle.typed_nodes.proofs.Checked.{some_is}
-use Rattle.typed_nodes.proofs.Opened.{AreNew, IsNamedStart}
-use Rattle.typed_nodes.proofs.Statements.{ProtocolsFit}
-use Rattle.typed_calls.proofs.Calls.{all_of}
+use Rattle.typed_sources.proofs.Checked.{some_is}
+use Rattle.typed_sources.proofs.Opened.{AreNew, IsNamedStart}
+use Rattle.typed_sources.proofs.Statements.{ProtocolsFit}
+use Rattle.typed_sources.proofs.Calls.{all_of}
 use Rattle.typed_sources.proofs.Sources.{IsFaultless, ProceduresFit, IsNamedCall, IsIn, scope_with}
 use Rattle.typed_sources.proofs.Scopes.{InScope, scope_kept}
 use Rattle.typed_sources.proofs.Resolved.{no_items, both_empty, each_empty, found_in, is_named_there, sound}

@@ -30,9 +30,9 @@ use Rattle.conforming_runs.specs.Going.{CanStep, IsNoCall}
 use Rattle.well_formed.proofs.Asked.{asked_bodies, asked_instance, asked_along}
 use Rattle.conforming_runs.proofs.Roots.{IsRoot}
 use Rattle.conforming_runs.proofs.Conforming.{Holds, run_holds, run_told, conforms, conforms_and_ended}
-use Rattle.typed_nodes.specs.Stands.{kind_in, states_in}
-use Rattle.typed_nodes.proofs.Statements.{ProtocolsFit}
-use Rattle.typed_calls.specs.Calls.{AreAsDeclared, IsTypedCall}
+use Rattle.typed_sources.specs.Stands.{kind_in, states_in}
+use Rattle.typed_sources.proofs.Statements.{ProtocolsFit}
+use Rattle.typed_sources.specs.Calls.{AreAsDeclared, IsTypedCall}
 use Rattle.typed_sources.proofs.Sources.{IsFaultless, ProceduresFit, body_typed, named_same}
 use Rattle.typed_sources.proofs.Mains.{first_context, main_typed, calls_stay}
 

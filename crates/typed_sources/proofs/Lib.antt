@@ -1,3 +1,15 @@
+pub mod Depths
+pub mod Advances
+pub mod Checked
+pub mod Moved
+pub mod Statements
+pub mod Opened
+pub mod Calls
+pub mod Instances
+pub mod Bodies
+pub mod Arguments
+pub mod Begins
+pub mod Narrowed
 pub mod BlockTrees
 pub mod Sources
 pub mod Mains

@@ -15,13 +15,13 @@ use Rattle.typed_runs.specs.Context.{Context}
 use Rattle.typed_runs.specs.Changes.{HoldersInScope}
 use Rattle.typed_runs.proofs.Small.{eq_same, on_or_off}
 use Rattle.typed_starts.specs.Renames.{Renames, Stays}
-use Rattle.typed_nodes.specs.Stands.{states_in, Stands}
-use Rattle.typed_nodes.proofs.Statements.{ProtocolsFit}
-use Rattle.typed_calls.specs.Calls.{IsTypedCall}
-use Rattle.typed_calls.proofs.Calls.{call_put}
-use Rattle.typed_calls.proofs.Instances.{Deep}
-use Rattle.typed_calls.proofs.Bodies.{IsTypedThere, instance_typed}
-use Rattle.typed_calls.proofs.Arguments.{named}
+use Rattle.typed_sources.specs.Stands.{states_in, Stands}
+use Rattle.typed_sources.proofs.Statements.{ProtocolsFit}
+use Rattle.typed_sources.specs.Calls.{IsTypedCall}
+use Rattle.typed_sources.proofs.Calls.{call_put}
+use Rattle.typed_sources.proofs.Instances.{Deep}
+use Rattle.typed_sources.proofs.Bodies.{IsTypedThere, instance_typed}
+use Rattle.typed_sources.proofs.Arguments.{named}
 use Rattle.typed_sources.proofs.Sources.{IsFaultless, block_typed}
 use Rattle.typed_sources.proofs.BlockTrees.{tree_of, tree_at}
 

@@ -20,9 +20,10 @@ use Rattle.delegation.specs.Owners.{held as entry, holder_of}
 use Rattle.delegation.specs.Checks.{all_differ}
 use Rattle.typing_rules.specs.TypeFaults.{holder_fault, head_faults}
 use Rattle.typed_runs.proofs.Small.{both_true}
-use Rattle.typed_nodes.proofs.Checked.{some_is}
-use Rattle.typed_calls.proofs.Arguments.{owners_of, no_owner, holder_elsewhere}
-use Rattle.typed_calls.proofs.Begins.{IsProper}
+use Rattle.typed_sources.proofs.Checked.{some_is}
+use Rattle.typed_sources.proofs.Opened.{not_is}
+use Rattle.typed_sources.proofs.Arguments.{owners_of, no_owner, holder_elsewhere}
+use Rattle.typed_sources.proofs.Begins.{IsProper}
 use Rattle.typed_sources.proofs.Resolved.{both_empty}
 
 -- ---- tests
@@ -77,10 +78,6 @@ names_append (x ∷ xs) ys = ap (λ l. x.name ∷ l) (names_append xs ys)
 pub names_map : {A : Type 0} (nm : A → Written) (xs : List A) → names_in (map nm xs) ≡ map (λ x. (nm x).name) xs
 names_map nm [] = refl
 names_map nm (x ∷ xs) = ap (λ l. (nm x).name ∷ l) (names_map nm xs)
-
-not_is : (b : Bool) → not b ≡ true → b ≡ false
-not_is true h = absurd cc
-not_is false h = refl
 
 -- ---- one role each
 

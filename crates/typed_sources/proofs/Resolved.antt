@@ -16,8 +16,8 @@ use Rattle.chor_tree.specs.Names.{is_among, first_named, protocol_of}
 use Rattle.global_types.specs.Moves.{IsIn, content_of, Exchange, passes, chooses, exchanges_of, state_named}
 use Rattle.global_types.specs.Faults.{unknown_state, own_receiver, payload_faults, step_faults, unused_role, protocol_faults, procedure_faults, faults_of}
 use Rattle.typing_rules.specs.Environment.{states_of}
-use Rattle.typed_nodes.specs.Stands.{states_in}
-use Rattle.typed_nodes.proofs.Statements.{ProtocolsFit, is_own}
+use Rattle.typed_sources.specs.Stands.{states_in}
+use Rattle.typed_sources.proofs.Statements.{ProtocolsFit, is_own}
 
 -- ---- lists
 

@@ -56,7 +56,7 @@ among_end : (xs : List NameId) (k s : NameId) → (k.0 == s.0) ≡ true → is_a
 among_end [] k s h = ap (λ b. b || false) h
 among_end (x ∷ xs) k s h = or_rights _ _ (among_end xs k s h)
 
-among_front : (xs ys : List NameId) (s : NameId) → is_among xs s ≡ true → is_among (xs ++ ys) s ≡ true
+pub among_front : (xs ys : List NameId) (s : NameId) → is_among xs s ≡ true → is_among (xs ++ ys) s ≡ true
 among_front [] ys s h = absurd cc
 among_front (x ∷ xs) ys s h = go (x.0 == s.0) h (among_front xs ys s)
   where

@@ -18,14 +18,14 @@ use Rattle.typing_rules.specs.After.{after_statement}
 use Rattle.typed_runs.specs.Context.{Context, after}
 use Rattle.typed_runs.specs.Typing.{AllKnown, IsTypedNode}
 use Rattle.chor_semantics.specs.Choreography as chor
-use Rattle.typed_nodes.specs.Stands.{kind_in, Stands}
-use Rattle.typed_nodes.proofs.Statements.{ProtocolsFit, value_goes, label_goes, give_goes, set_goes, show_goes, host_goes, if_goes, end_goes}
-use Rattle.typed_nodes.proofs.Opened.{IsNamedStart, opened_scope, start_goes}
-use Rattle.typed_calls.specs.Calls.{IsTypedCall}
-use Rattle.typed_calls.proofs.Calls.{call_goes}
-use Rattle.typed_calls.proofs.Instances.{IsFlat}
-use Rattle.typed_calls.proofs.Bodies.{IsTypedThere, instance_typed}
-use Rattle.typed_calls.proofs.Begins.{IsProper, base, base_names, base_deep, base_held, base_stands}
+use Rattle.typed_sources.specs.Stands.{kind_in, Stands}
+use Rattle.typed_sources.proofs.Statements.{ProtocolsFit, value_goes, label_goes, give_goes, set_goes, show_goes, host_goes, if_goes, end_goes}
+use Rattle.typed_sources.proofs.Opened.{IsNamedStart, opened_scope, start_goes}
+use Rattle.typed_sources.specs.Calls.{IsTypedCall}
+use Rattle.typed_sources.proofs.Calls.{call_goes}
+use Rattle.typed_sources.proofs.Instances.{IsFlat}
+use Rattle.typed_sources.proofs.Bodies.{IsTypedThere, instance_typed}
+use Rattle.typed_sources.proofs.Begins.{IsProper, base, base_names, base_deep, base_held, base_stands}
 use Rattle.typed_sources.proofs.BlockTrees.{node_of, tree_of, tree_at}
 
 -- what a call's names keep

@@ -13,7 +13,7 @@ use Rattle.typing_rules.specs.TypeFaults.{IsTyped}
 use Rattle.typing_rules.specs.Guarded.{IsGuarded}
 use Rattle.conforming_runs.specs.History.{SessionsConform, SessionsEnd}
 use Rattle.conforming_runs.specs.Going.{CanStep}
-use Rattle.typed_nodes.specs.Stands.{kind_in, states_in}
+use Rattle.typed_sources.specs.Stands.{kind_in, states_in}
 
 -- no fault of names, where the host functions have these names, none of protocols and none of types
 pub record IsAccepted (f : File) (hosts : List (List ℕ)) : Type 0 where

@@ -11,4 +11,4 @@ returns c functions bytes f e p e' read seed steps text stuck t =
     let copy = c.text_reads_back.ensures.copies words e e' (record { writable = writable; read = read }) (are_faultless c.projection_is_faultless.ensures functions bytes f e p) in
     let back = c.copies_are_faultless.ensures.back e e' copy in
     let answered = c.asked_functions_answer.ensures f functions (distinct_names p.accepted.file.are) p.exact p.accepted.faultless.0 in
-    run_transcript functions bytes f e p answered c.scheduled_runs_close.ensures c.checked_runs.ensures.conform seed steps text stuck (c.transcripts_agree.ensures functions e' e seed steps text stuck back t)
+    run_transcript functions bytes f e p answered c.scheduled_runs_are_runs.ensures seed steps text stuck (c.transcripts_agree.ensures functions e' e seed steps text stuck back t)

@@ -2,7 +2,7 @@ use Rattle.std.proofs.Common.{◌≡◌, ◌∙◌, length, ap, subst}
 use Rattle.chor_host.specs.Tables.{functions_of}
 use Rattle.chor_tree.specs.declared.file.File.{File}
 use Rattle.transcript.specs.Text.{transcript}
-use Rattle.accepted_replays.specs.Sources.{book_of}
+use Rattle.source_runs.specs.Books.{book_of}
 use Rattle.chor_cmd.specs.Outputs.{events_of, last_line}
 use Rattle.chor_cmd.proofs.RunTexts.{run_text}
 use Rattle.chor_cmd.proofs.run.text_of_run.Goals as goal

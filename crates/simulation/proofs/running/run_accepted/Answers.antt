@@ -27,7 +27,7 @@ unreachable-requires g c =
     let ok = checked typed.hosts typed.file e typed.fine a in
     let ran = c.in_ok-ran in
     let stuck = Stuck c.in-Stuck.field-0 c.in-Stuck.field-1 in
-    let run = outcome_of typed.file typed.hosts e ok a (functions_of c.args.hosts.now) c.functions_answer.ensures c.laws.ensures.close c.laws.ensures.conform c.args.seed c.args.steps ran.ran.history ran.ran.closed stuck ran.ensures c.in-Stuck.is c.args.accepted.now.endpoints c.endpoints-endpoints.ensures.endpoints in
+    let run = outcome_of typed.file typed.hosts e ok a (functions_of c.args.hosts.now) c.functions_answer.ensures c.laws.ensures.runs c.args.seed c.args.steps ran.ran.history ran.ran.closed stuck ran.ensures c.in-Stuck.is c.args.accepted.now.endpoints c.endpoints-endpoints.ensures.endpoints in
     run.run.closes
 
 pub returns-in-Ended : goal.returns-in-Ended
@@ -37,7 +37,7 @@ returns-in-Ended g c =
     let a = c.endpoints-endpoints.ensures.accepted in
     let ok = checked typed.hosts typed.file e typed.fine a in
     let ran = c.in_ok-ran in
-    outcome_of typed.file typed.hosts e ok a (functions_of c.args.hosts.now) c.functions_answer.ensures c.laws.ensures.close c.laws.ensures.conform c.args.seed c.args.steps ran.ran.history ran.ran.closed Ended ran.ensures c.in-Ended.is c.args.accepted.now.endpoints c.endpoints-endpoints.ensures.endpoints
+    outcome_of typed.file typed.hosts e ok a (functions_of c.args.hosts.now) c.functions_answer.ensures c.laws.ensures.runs c.args.seed c.args.steps ran.ran.history ran.ran.closed Ended ran.ensures c.in-Ended.is c.args.accepted.now.endpoints c.endpoints-endpoints.ensures.endpoints
 
 pub returns-in-Limit : goal.returns-in-Limit
 returns-in-Limit g c =
@@ -46,4 +46,4 @@ returns-in-Limit g c =
     let a = c.endpoints-endpoints.ensures.accepted in
     let ok = checked typed.hosts typed.file e typed.fine a in
     let ran = c.in_ok-ran in
-    outcome_of typed.file typed.hosts e ok a (functions_of c.args.hosts.now) c.functions_answer.ensures c.laws.ensures.close c.laws.ensures.conform c.args.seed c.args.steps ran.ran.history ran.ran.closed Limit ran.ensures c.in-Limit.is c.args.accepted.now.endpoints c.endpoints-endpoints.ensures.endpoints
+    outcome_of typed.file typed.hosts e ok a (functions_of c.args.hosts.now) c.functions_answer.ensures c.laws.ensures.runs c.args.seed c.args.steps ran.ran.history ran.ran.closed Limit ran.ensures c.in-Limit.is c.args.accepted.now.endpoints c.endpoints-endpoints.ensures.endpoints

@@ -1,6 +1,0 @@
-pub mod Calls
-pub mod Instances
-pub mod Bodies
-pub mod Arguments
-pub mod Begins
-pub mod Narrowed

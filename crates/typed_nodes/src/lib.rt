@@ -1,2 +1,0 @@
-//! The statements of a typed source are typed where its choreography runs.
-#![tactic(auto)]
