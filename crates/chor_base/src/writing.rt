@@ -8,6 +8,7 @@ use crate::memory::Memory;
 use crate::names::{NameId, Names};
 use crate::rule::Rule;
 use crate::texts::Texts;
+use itoa::Buffer;
 use std::alloc::Global;
 
 /// Appends bytes.
@@ -20,21 +21,21 @@ pub fn put_bytes(out: &mut Vec<u8>, bytes: &[u8]) -> Result<(), Memory>
 }
 
 /// Appends a number in decimal digits.
-pub fn put_number(out: &mut Vec<u8>, alloc: Global, number: u64) -> Result<(), Memory>
+pub fn put_number(out: &mut Vec<u8>, _alloc: Global, number: u64) -> Result<(), Memory>
     ensures ok { OnOk result (out.new.items ≡ out.old.items ++ decimal number) }
     ensures err { OnErr result (out.new.items ≡ out.old.items) }
 {
-    let text = format!(in alloc; "{number}")?;
-    put_bytes(out, text.as_bytes())
+    let mut digits = Buffer::new();
+    put_bytes(out, digits.format(number).as_bytes())
 }
 
 /// Appends a number in decimal digits, after `-` where it is negative.
-pub fn put_int(out: &mut Vec<u8>, alloc: Global, number: i64) -> Result<(), Memory>
+pub fn put_int(out: &mut Vec<u8>, _alloc: Global, number: i64) -> Result<(), Memory>
     ensures ok { OnOk result (out.new.items ≡ out.old.items ++ signed_decimal number) }
     ensures err { OnErr result (out.new.items ≡ out.old.items) }
 {
-    let text = format!(in alloc; "{number}")?;
-    put_bytes(out, text.as_bytes())
+    let mut signed = Buffer::new();
+    put_bytes(out, signed.format(number).as_bytes())
 }
 
 /// Appends the word of a name. A name that isn't in the table adds no bytes.
