@@ -1,7 +1,7 @@
 use Rattle.std.proofs.Common.{◌≡◌, ◌++◌, ◌+◌, drop, map}
 use Rattle.transcript.specs.Text.{lines_from}
 use Rattle.transcript.specs.Books.{words}
-use Rattle.transcript.proofs.lines.print_events.Given as goal
+use Rattle.transcript.proofs.lines.lines_of.Given as goal
 
 abbrev pub invariant-loop-index : goal.invariant-loop-index
 invariant-loop-index l =
