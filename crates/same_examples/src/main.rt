@@ -1,4 +1,4 @@
-//! Compares the folder `examples` with the worked sources: writes a line for each file that it reads
+//! Compares the folder `examples` with the worked texts: writes a line for each file that it reads
 //! there, and ends with 1 where the file isn't the worked text of its name.
 #![tactic(auto)]
 
@@ -6,8 +6,7 @@ use chor_io::{DiskShelf, Fetched, Shelf};
 use std::alloc::Global;
 use std::io;
 use std::process::ExitCode;
-use worked::sources::EXAMPLES;
-use worked::transcripts;
+use worked::{endpoints, sources, transcripts};
 
 // How many bytes of a file are read at most.
 const LIMIT: u64 = 1 << 16;
@@ -24,7 +23,8 @@ const RUNS: [(&str, &[u8]); 5] = [
 fn main(rt: HostRuntime) -> io::Result<ExitCode> {
     let mut shelf = DiskShelf::new(rt.alloc(), &rt);
     let mut status = 0;
-    for (name, text) in EXAMPLES.iter().chain(&RUNS) {
+    let texts = sources::EXAMPLES.iter().chain(&RUNS);
+    for (name, text) in texts.chain(&endpoints::EXAMPLES) {
         if holds(rt.alloc(), &mut shelf, name.as_bytes(), text) {
             println!(rt; "{name} is the worked text")?;
         } else {
