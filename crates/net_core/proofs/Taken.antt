@@ -2,15 +2,18 @@
 use Rattle.std.proofs.Common.{◌≡◌, ◌⊎◌, inl, inr, ℕ, ◌+◌, ◌==◌, ◌<◌, Bool, true, false, List, [], ◌∷◌, ◌++◌, length, refl, sym, ap, ◌∙◌, subst, Option, Some, None, arith}
 use Rattle.std.specs.Prelude.{if◌then◌else◌}
 use Rattle.std.proofs.lemmas.Bool.Decides.{nat_tests}
+use Rattle.std.specs.Map.{lookup}
+use Rattle.endpoint_code.specs.declared.endpoints.Endpoints.{Endpoints}
+use Rattle.endpoint_code.specs.Network.{NetworkState}
 use Rattle.endpoint_machine.specs.declared.head.Head.{Head}
 use Rattle.waiting_processes.specs.declared.waits.Awaited.{Awaited}
 use Rattle.waiting_processes.specs.declared.lists.WaitingLists.{WaitingLists}
 use Rattle.waiting_processes.specs.Waits.{awaited_by, touched_by}
-use Rattle.waiting_processes.specs.Lists.{waiting_for, same_awaited}
+use Rattle.waiting_processes.specs.Lists.{waiting_for, same_awaited, list_of}
 use Rattle.waiting_processes.proofs.Entries.{is_same}
 use Rattle.net_core.specs.declared.candidates.Candidates.{Candidates}
 use Rattle.net_core.specs.declared.candidates.Past.{Past}
-use Rattle.net_core.specs.Candidates.{IsIn, AreBelow, HasPlaces, TakesWaiting, HasTouched, TakesTouched}
+use Rattle.net_core.specs.Candidates.{IsIn, AreBelow, HasPlaces, TakesWaiting, HasTouched, TakesTouched, IsUpToDate}
 use Rattle.net_core.proofs.Anew.{in_front, in_last, in_either, in_none}
 
 -- the list of what the head touches is taken out
@@ -40,13 +43,34 @@ taken_list h old new ps t is list rest = record {
         go true j = absurd (apart (is ∙ ap (λ (v : Awaited). Some v) (is_same t w j)))
         go false j = refl
 
+-- lists that differ in memory alone
+pub same_waiting : (old new : WaitingLists) → new.lists ≡ old.lists → (w : Awaited) → waiting_for new w ≡ waiting_for old w
+same_waiting old new same w = ap (λ m. list_of (lookup (same_awaited w) m.entries)) same
+
 -- the head touches nothing
-pub taken_none : (h : Head) (lists : WaitingLists) (ps : List ℕ) → touched_by h ≡ None → ps ≡ [] → TakesWaiting h lists ps lists
-taken_none h lists ps is none = record {
+pub taken_none : (h : Head) (old new : WaitingLists) (ps : List ℕ) → touched_by h ≡ None → ps ≡ [] → new.lists ≡ old.lists → TakesWaiting h old ps new
+taken_none h old new ps is none same = record {
   waiting = λ w i. let z : None ≡ Some w = sym is ∙ i in absurd cc;
   none = λ i. none;
-  fewer = λ w q i. i;
-  others = λ w apart. refl;
+  fewer = λ w q i. subst (λ (l : List ℕ). IsIn l q) (same_waiting old new same w) i;
+  others = λ w apart. same_waiting old new same w;
+}
+
+-- memory was given back
+pub given_back : (e : Endpoints) (n : NetworkState) (listed unended : List Bool) (old new : WaitingLists) → new.lists ≡ old.lists
+    → IsUpToDate e n (record { listed = listed; unended = unended; waiting = old }) → IsUpToDate e n (record { listed = listed; unended = unended; waiting = new })
+given_back e n listed unended old new same up = record {
+  places = record {
+    listed = up.places.listed;
+    unended = up.places.unended;
+    within = λ w. subst (AreBelow (length n.machines)) (sym (same_waiting old new same w)) (up.places.within w);
+  };
+  noted = λ q lt.
+      record {
+        unended = (up.noted q lt).unended;
+        kept = λ w i. subst (λ (l : List ℕ). IsIn l q) (sym (same_waiting old new same w)) ((up.noted q lt).kept w i);
+      };
+  judged = up.judged;
 }
 
 module _ (past : Past) (old new : WaitingLists) (ps : List ℕ) (t : TakesWaiting past.head old ps new) where

@@ -5,11 +5,12 @@ ghost use Rattle.endpoint_code.specs.declared.endpoints.Endpoints.{Endpoints as 
 ghost use Rattle.endpoint_code.specs.Network.{NetworkState};
 ghost use Rattle.endpoint_code.specs.NetworkRuns.{all_ended};
 ghost use Rattle.endpoint_code.specs.Scheduled.{picked};
-ghost use Rattle.net_core.specs.Heads.{is_listed_at};
+ghost use Rattle.net_core.specs.Heads.{Shows, is_listed_at};
 ghost use Rattle.net_core.specs.Candidates.{joined_by, IsUpToDate, HasPlaces, HasGrownTo, AreBelow, ListsAll, IsNoted, IsJudged, Enters, Judges, Renews, TakesWaiting, TakesTouched, HasMoved};
 
 use crate::network::Network;
 use crate::parts::place_of_pick;
+use crate::standing::has_ended;
 use chor_base::{Memory, NameId};
 use counted_bits::CountedBits;
 use endpoint_machine::Head;
@@ -79,12 +80,12 @@ impl Candidates {
     }
 
     /// What has become of the processes by an event of one of them.
-    pub fn follow(&mut self, alloc: Global, network: &Network<'_>, past: Past) -> Result<(), Memory>
+    pub fn follow(&mut self, network: &Network<'_>, past: Past) -> Result<(), Memory>
         requires { HasMoved network.now.endpoints network.now.state past self.old }
         ensures { OnOk result (IsUpToDate network.now.endpoints network.now.state self.new) }
     {
         self.grow(network.count())?;
-        let pids = self.take_touched(alloc, network.count(), past)?;
+        let pids = self.take_touched(network.count(), past)?;
         self.enter_all(network, pids.as_slice())?;
         let done = joined_by(past.head);
         renew_all(
@@ -94,18 +95,19 @@ impl Candidates {
             pids.as_slice(),
             done,
         );
+        self.waiting.give_back(pids);
         Ok(())
     }
 
     // Takes out of the lists the processes that an event may have moved, and those that may wait
     // for what it has changed.
-    fn take_touched(&mut self, alloc: Global, count: u32, past: Past) -> Result<Vec<u32>, Memory>
+    fn take_touched(&mut self, count: u32, past: Past) -> Result<Vec<u32>, Memory>
         requires places { HasPlaces count self.old }
         requires there { past.pid < past.count }
         requires kept { past.count ≤ count }
         ensures { IfOk result (λ pids. TakesTouched past count self.old pids.items self.new) }
     {
-        let mut pids = self.take_waiting(alloc, past.head);
+        let mut pids = self.take_waiting(past.head);
         if awaited_by(past.head).is_none() {
             pids.push(past.pid)?;
         }
@@ -116,14 +118,14 @@ impl Candidates {
     }
 
     // Takes out of the lists the processes that may wait for what an event at a head changes.
-    fn take_waiting(&mut self, alloc: Global, head: Head) -> Vec<u32>
+    fn take_waiting(&mut self, head: Head) -> Vec<u32>
         ensures listed { self.new.listed ≡ self.old.listed }
         ensures unended { self.new.unended ≡ self.old.unended }
         ensures takes { TakesWaiting head self.old.waiting result.items self.new.waiting }
     {
         match touched_by(head) {
             Some(touched) => self.waiting.take(touched),
-            None => Vec::new(alloc),
+            None => self.waiting.nobody(),
         }
     }
 
@@ -146,8 +148,9 @@ impl Candidates {
         requires places { HasPlaces (length network.now.state.machines) self.old }
         ensures { OnOk result (Enters network.now.endpoints network.now.state self.old (pid ∷ []) self.new) }
     {
-        self.unended.set(pid, !network.ended(pid));
-        match awaited_by(network.head(pid)) {
+        let head = network.head(pid);
+        self.unended.set(pid, !has_ended(head));
+        match awaited_by(head) {
             Some(awaited) => self.waiting.add(awaited, pid),
             None => Ok(()),
         }
@@ -187,35 +190,44 @@ impl Candidates {
         ensures judged { (q : ℕ) → q < length network.now.state.machines → IsJudged network.now.endpoints network.now.state self.new.listed q }
     {
         for pid in 0..network.count() {
-            judge(&mut self.listed, &self.waiting, network, pid);
+            let head = network.head(pid);
+            judge(&mut self.listed, &self.waiting, network, pid, head);
         }
     }
 }
 
-// Whether the pick rule may take a process. Partners are looked for among those who join its
-// channel alone.
-fn is_listed(waiting: &WaitingLists, network: &Network<'_>, pid: u32) -> bool
+// Whether the pick rule may take a process with this head. Partners are looked for among those who
+// join its channel alone.
+fn is_listed(waiting: &WaitingLists, network: &Network<'_>, pid: u32, head: Head) -> bool
     requires there { pid < length network.now.state.machines }
     requires lists { ListsAll network.now.endpoints network.now.state waiting.now }
+    requires shows { Shows network.now.endpoints network.now.state pid head }
     ensures { result ≡ is_listed_at network.now.endpoints network.now.state pid }
 {
-    match network.head(pid) {
+    match head {
         Head::Join(channel, role) => {
             let joiners = waiting.get(Awaited::Channel(channel));
-            network.leads(pid) && network.are_joined_among(channel, role, joiners)
+            network.leads(pid, head) && network.are_joined_among(channel, role, joiners)
         }
-        _ => network.is_listed(pid),
+        _ => network.is_listed(pid, head),
     }
 }
 
-// Judges anew whether the pick rule may take a process.
-fn judge(listed: &mut CountedBits, waiting: &WaitingLists, network: &Network<'_>, pid: u32)
+// Judges anew whether the pick rule may take a process with this head.
+fn judge(
+    listed: &mut CountedBits,
+    waiting: &WaitingLists,
+    network: &Network<'_>,
+    pid: u32,
+    head: Head,
+)
     requires there { pid < length network.now.state.machines }
     requires places { length listed.old ≡ length network.now.state.machines }
     requires lists { ListsAll network.now.endpoints network.now.state waiting.now }
+    requires shows { Shows network.now.endpoints network.now.state pid head }
     ensures { Judges network.now.endpoints network.now.state listed.old (pid ∷ []) listed.new }
 {
-    listed.set(pid, is_listed(waiting, network, pid));
+    listed.set(pid, is_listed(waiting, network, pid, head));
 }
 
 // The same of each of these processes.
@@ -226,7 +238,7 @@ fn judge_all(listed: &mut CountedBits, waiting: &WaitingLists, network: &Network
     ensures { Judges network.now.endpoints network.now.state listed.old pids.now listed.new }
 {
     for pid in pids {
-        judge(listed, waiting, network, *pid);
+        judge(listed, waiting, network, *pid, network.head(*pid));
     }
 }
 
@@ -243,8 +255,9 @@ fn renew(
     requires lists { ListsAll network.now.endpoints network.now.state waiting.now }
     ensures { Renews network.now.endpoints network.now.state done listed.old (pid ∷ []) listed.new }
 {
-    judge(listed, waiting, network, pid);
-    match awaited_by(network.head(pid)) {
+    let head = network.head(pid);
+    judge(listed, waiting, network, pid, head);
+    match awaited_by(head) {
         Some(Awaited::Channel(channel)) if done != Some(channel) => {
             let joiners = waiting.get(Awaited::Channel(channel));
             judge_all(listed, waiting, network, joiners);

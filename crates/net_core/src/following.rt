@@ -109,7 +109,7 @@ impl Network<'_> {
         if !self.can_make(pid, hosts, event) {
             return Followed::Unmatched;
         }
-        match self.go(pid, hosts) {
+        match self.go(pid, self.head(pid), hosts) {
             Ok(()) => Followed::Did,
             Err(_) => Followed::Memory,
         }

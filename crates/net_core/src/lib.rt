@@ -11,6 +11,7 @@ mod network;
 mod parts;
 mod queues;
 mod schedule;
+mod standing;
 
 pub use answer::{Followed, Picked, Step};
 pub use network::Network;

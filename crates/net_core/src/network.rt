@@ -19,6 +19,7 @@ use crate::acts::{act, reserve};
 use crate::answer::Step;
 use crate::parts::{append, channel_named, standing_all};
 use crate::queues::Queues;
+use crate::standing::{has_ended, is_joining};
 use chor_base::{Entry, Event, List, Memory, NameId, Why};
 use chor_host::HostTable;
 use endpoint_code::{Channel, Endpoints};
@@ -104,7 +105,7 @@ impl<'a> Network<'a> {
         requires { pid < length self.now.state.machines }
         ensures { result ≡ ended_at self.now.endpoints self.now.state pid }
     {
-        matches!(self.head(pid), Head::Ended)
+        has_ended(self.head(pid))
     }
 
     /// Whether every process has ended.
@@ -151,7 +152,7 @@ impl<'a> Network<'a> {
     }
 
     // The first active role of a channel, other than a process's own, that nobody joins.
-    fn absent(&self, channel: NameId, own: NameId) -> Option<Why>
+    pub(crate) fn absent(&self, channel: NameId, own: NameId) -> Option<Why>
         ensures { result ≡ absent_on self.now.endpoints self.now.state.machines channel own (channel_of self.now.endpoints.channels channel) }
     {
         let roles = channel_named(self.endpoints.channels.as_slice(), channel)?
@@ -165,69 +166,6 @@ impl<'a> Network<'a> {
         None
     }
 
-    // Why a process waits, if it does.
-    pub(crate) fn waiting(&self, pid: u32) -> Option<Why>
-        requires { pid < length self.now.state.machines }
-        ensures { result ≡ why_at self.now.endpoints self.now.state pid }
-    {
-        match self.head(pid) {
-            Head::Join(channel, role) => self.absent(channel, role),
-            Head::Take(sid, from, to) => self.awaits(pid, sid, from, to),
-            Head::Out(_, _, _) => None,
-            Head::Local => None,
-            Head::Ended => None,
-        }
-    }
-
-    // Why a process waits that takes on a queue, if it does.
-    fn awaits(&self, pid: u32, sid: u32, from: NameId, to: NameId) -> Option<Why>
-        requires there { pid < length self.now.state.machines }
-        requires takes { Shows self.now.endpoints self.now.state pid (head.Take sid from to) }
-        ensures { result ≡ why_at self.now.endpoints self.now.state pid }
-    {
-        let Some(load) = self.queues.first(sid, from, to) else {
-            return Some(Why::Empty(sid, from, to));
-        };
-        let machine = &self.machines[pid as usize];
-        if machine.fits(self.endpoints, load) {
-            None
-        } else {
-            Some(Why::Wrong(sid, from, to))
-        }
-    }
-
-    // Whether a process can step.
-    fn can_step(&self, pid: u32) -> bool
-        requires { pid < length self.now.state.machines }
-        ensures { result ≡ steps_at self.now.endpoints self.now.state pid }
-    {
-        !self.ended(pid) && self.waiting(pid).is_none()
-    }
-
-    // Whether a process that joins does so in its channel's first active role.
-    pub(crate) fn leads(&self, pid: u32) -> bool
-        requires { pid < length self.now.state.machines }
-        ensures { result ≡ leads_at self.now.endpoints self.now.state pid }
-    {
-        match self.head(pid) {
-            Head::Join(channel, role) => {
-                match channel_named(self.endpoints.channels.as_slice(), channel) {
-                    Some(channel) => channel.active.as_slice().first() == Some(&role),
-                    None => false,
-                }
-            }
-            _ => true,
-        }
-    }
-
-    // Whether the pick rule may take a process.
-    pub(crate) fn is_listed(&self, pid: u32) -> bool
-        requires { pid < length self.now.state.machines }
-        ensures { result ≡ is_listed_at self.now.endpoints self.now.state pid }
-    {
-        self.can_step(pid) && self.leads(pid)
-    }
-
     /// Takes memory for the next event of a process, if that event isn't the start of a session.
     /// The room lasts until a call changes the network.
     pub fn reserve(&mut self, pid: u32) -> Result<(), Memory>
@@ -237,16 +175,28 @@ impl<'a> Network<'a> {
         ensures kept { (p : ℕ) → IsReserved self.old p → IsReserved self.new p }
         ensures succeeds { IsReserved self.old pid → IsOk result }
     {
-        let head = self.head(pid);
+        self.reserve_for(pid, self.head(pid))
+    }
+
+    // The same for a process with this head.
+    fn reserve_for(&mut self, pid: u32, head: Head) -> Result<(), Memory>
+        requires there { pid < length self.old.state.machines }
+        requires shows { Shows self.old.endpoints self.old.state pid head }
+        ensures same { IsSame self.old self.new }
+        ensures ok { OnOk result (IsReserved self.new pid) }
+        ensures kept { (p : ℕ) → IsReserved self.old p → IsReserved self.new p }
+        ensures succeeds { IsReserved self.old pid → IsOk result }
+    {
         let endpoints = self.endpoints;
         self.history.reserve(1)?;
         let machine = &mut self.machines[pid as usize];
         reserve(endpoints, machine, head, &mut self.queues)
     }
 
-    // Makes the event of a process that can step and doesn't join.
-    fn act(&mut self, pid: u32, hosts: &HostTable)
+    // Makes the event of a process with this head that can step and doesn't join.
+    fn act(&mut self, pid: u32, head: Head, hosts: &HostTable)
         requires there { pid < length self.old.state.machines }
+        requires shows { Shows self.old.endpoints self.old.state pid head }
         requires hosts { AsksKnown (is_listed (names_of (functions_of hosts.now)) self.old.endpoints) self.old.endpoints }
         requires steps { steps_at self.old.endpoints self.old.state pid ≡ true }
         requires alone { joins_at_all self.old.endpoints self.old.state pid ≡ false }
@@ -254,19 +204,10 @@ impl<'a> Network<'a> {
         ensures stepped { HasStepped (hosts_in self.old.endpoints.names (functions_of hosts.now)) self.old pid self.new }
         ensures grown { HasGrown self.old self.new }
     {
-        let head = self.head(pid);
         let endpoints = self.endpoints;
         let machine = &mut self.machines[pid as usize];
         let event = act(endpoints, hosts, machine, head, &mut self.queues);
         append(&mut self.history, event);
-    }
-
-    // Whether a process stands where it joins a session.
-    fn is_joining(&self, pid: u32) -> bool
-        requires { pid < length self.now.state.machines }
-        ensures { result ≡ joins_at_all self.now.endpoints self.now.state pid }
-    {
-        matches!(self.head(pid), Head::Join(_, _))
     }
 
     /// One step of a process. A start takes the least process that joins in each other active role.
@@ -276,21 +217,23 @@ impl<'a> Network<'a> {
         requires fits { FitsMore self.old 1 }
         ensures { Answers (hosts_in self.old.endpoints.names (functions_of hosts.now)) self.old pid result self.new }
     {
-        if self.ended(pid) {
+        let head = self.head(pid);
+        if has_ended(head) {
             return Step::Ended;
         }
-        if let Some(why) = self.waiting(pid) {
+        if let Some(why) = self.waiting(pid, head) {
             return Step::Waits(why);
         }
-        match self.go(pid, hosts) {
+        match self.go(pid, head, hosts) {
             Ok(()) => Step::Did,
             Err(_) => Step::Memory,
         }
     }
 
-    // The event of a process that can step.
-    pub(crate) fn go(&mut self, pid: u32, hosts: &HostTable) -> Result<(), Memory>
+    // The event of a process with this head that can step.
+    pub(crate) fn go(&mut self, pid: u32, head: Head, hosts: &HostTable) -> Result<(), Memory>
         requires there { pid < length self.old.state.machines }
+        requires shows { Shows self.old.endpoints self.old.state pid head }
         requires hosts { AsksKnown (is_listed (names_of (functions_of hosts.now)) self.old.endpoints) self.old.endpoints }
         requires fits { FitsMore self.old 1 }
         requires steps { steps_at self.old.endpoints self.old.state pid ≡ true }
@@ -299,11 +242,11 @@ impl<'a> Network<'a> {
         ensures room { OnErr result (IsReserved self.old pid → joins_at_all self.old.endpoints self.old.state pid ≡ true) }
         ensures same { OnErr result (IsSame self.old self.new) }
     {
-        if self.is_joining(pid) {
-            return self.start(pid);
+        if is_joining(head) {
+            return self.start(pid, head);
         }
-        self.reserve(pid)?;
-        self.act(pid, hosts);
+        self.reserve_for(pid, head)?;
+        self.act(pid, head, hosts);
         Ok(())
     }
 
@@ -339,9 +282,10 @@ impl<'a> Network<'a> {
         Ok(parts)
     }
 
-    // Starts a session on the channel that a process joins, with the least partners.
-    fn start(&mut self, pid: u32) -> Result<(), Memory>
+    // Starts a session on the channel that a process with this head joins, with the least partners.
+    fn start(&mut self, pid: u32, head: Head) -> Result<(), Memory>
         requires there { pid < length self.old.state.machines }
+        requires shows { Shows self.old.endpoints self.old.state pid head }
         requires steps { steps_at self.old.endpoints self.old.state pid ≡ true }
         requires joins { joins_at_all self.old.endpoints self.old.state pid ≡ true }
         requires fits { FitsMore self.old 1 }
@@ -349,7 +293,7 @@ impl<'a> Network<'a> {
         ensures grown { OnOk result (HasGrown self.old self.new) }
         ensures err { OnErr result (IsSame self.old self.new) }
     {
-        let Head::Join(channel, own) = self.head(pid) else {
+        let Head::Join(channel, own) = head else {
             unreachable!()
         };
         let endpoints = self.endpoints;

@@ -32,7 +32,7 @@ impl Network<'_> {
     {
         let mut count = 0;
         for pid in 0..self.count() {
-            if self.is_listed(pid) {
+            if self.is_listed(pid, self.head(pid)) {
                 count += 1;
             }
         }
@@ -45,7 +45,7 @@ impl Network<'_> {
     {
         let mut left = place;
         for pid in 0..self.count() {
-            if self.is_listed(pid) {
+            if self.is_listed(pid, self.head(pid)) {
                 if left == 0 {
                     return Some(pid);
                 }
@@ -91,7 +91,7 @@ impl Network<'_> {
         let Some(pid) = self.first_unended() else {
             unreachable!()
         };
-        let Some(why) = self.waiting(pid) else {
+        let Some(why) = self.waiting(pid, self.head(pid)) else {
             unreachable!()
         };
         Picked::Stuck(pid, why)
@@ -123,8 +123,8 @@ impl Network<'_> {
             return Some(self.stuck());
         };
         let head = self.head(pid);
-        match self.go(pid, hosts) {
-            Ok(()) => match candidates.follow(self.alloc, self, Past { pid, head, count }) {
+        match self.go(pid, head, hosts) {
+            Ok(()) => match candidates.follow(self, Past { pid, head, count }) {
                 Ok(()) => None,
                 Err(_) => Some(Picked::Memory),
             },

@@ -1,5 +1,5 @@
 -- Lists of processes after one of them has changed.
-use Rattle.std.proofs.Common.{◌≡◌, ℕ, ◌==◌, ◌&&◌, Bool, true, false, cond, List, [], ◌∷◌, ◌++◌, refl, sym, ap, ◌∙◌, Option, None, arith, if◌then◌else◌}
+use Rattle.std.proofs.Common.{◌≡◌, ℕ, ◌==◌, ◌&&◌, Bool, true, false, cond, List, [], refl, sym, ap, ◌∙◌, Option, Some, None, arith, if◌then◌else◌}
 use Rattle.std.proofs.lemmas.Bool.Decides.{nat_tests}
 use Rattle.std.specs.Map.{lookup}
 use Rattle.waiting_processes.specs.declared.waits.Awaited.{Awaited}
@@ -74,12 +74,11 @@ no_list old w h v = go (same_awaited w v) refl
     go true e = ap (λ (u : Awaited). list_of (lookup (same_awaited u) old)) (sym (is_same w v e)) ∙ ap list_of h
     go false e = refl
 
--- the list is taken out, and put back with one more
-pub put_after : (old taken new : Awaited → List ℕ) (w : Awaited) (p : ℕ) (ps : List ℕ) → ps ≡ old w ++ p ∷ []
-    → ((v : Awaited) → taken v ≡ (if same_awaited w v then [] else old v)) → ((v : Awaited) → new v ≡ (if same_awaited w v then ps else taken v))
-    → (v : Awaited) → new v ≡ (if same_awaited w v then old w ++ p ∷ [] else old v)
-put_after old taken new w p ps is out put v = put v ∙ ap (λ (l : List ℕ). if same_awaited w v then ps else l) (out v) ∙ go (same_awaited w v)
-  where
-    go : (b : Bool) → (if b then ps else (if b then [] else old v)) ≡ (if b then old w ++ p ∷ [] else old v)
-    go true = is
-    go false = refl
+-- a list becomes another, and the others stay
+pub becomes : (old new : Entries) (w : Awaited) (ps qs : List ℕ) → ps ≡ qs → ((v : Awaited) → lookup (eq_of v) new ≡ cond (eq_of w v) (Some ps) (lookup (eq_of v) old))
+    → (v : Awaited) → list_of (lookup (same_awaited v) new) ≡ (if same_awaited w v then qs else list_of (lookup (same_awaited v) old))
+becomes old new w ps qs is h v = other_list old new w (Some ps) h v ∙ ap (λ (l : List ℕ). if same_awaited w v then l else list_of (lookup (same_awaited v) old)) is
+
+-- the list that was found
+pub found_list : (es : Entries) (w : Awaited) (ps : List ℕ) → Some ps ≡ lookup (eq_of w) es → ps ≡ list_of (lookup (same_awaited w) es)
+found_list es w ps h = ap list_of (h ∙ look_up es w)

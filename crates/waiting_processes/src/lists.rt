@@ -1,6 +1,6 @@
 //! Lists of processes by what they wait for.
 
-ghost use Rattle.std.specs.Prelude.{◌≡◌, [], OnOk, if◌then◌else◌};
+ghost use Rattle.std.specs.Prelude.{◌≡◌, ◌++◌, ◌∷◌, [], OnOk, if◌then◌else◌};
 ghost use Rattle.waiting_processes.specs.declared.waits.Awaited.{Awaited as AnyAwaited};
 ghost use Rattle.waiting_processes.specs.Lists.{same_awaited, waiting_for, HasCome};
 
@@ -9,6 +9,7 @@ use chor_base::Memory;
 use indexmap::IndexMap;
 use std::alloc::Global;
 use std::marker::Model;
+use std::mem::replace;
 
 // Processes in the order in which they came.
 #[derive(Drop)]
@@ -24,11 +25,33 @@ impl Model for Waiting {
     ghost view = { λ a. a.processes.items };
 }
 
-/// For each thing that processes wait for a list of processes.
+impl Waiting {
+    // A process comes last.
+    fn push(&mut self, process: u32) -> Result<(), Memory>
+        ensures { OnOk result (self.new ≡ self.old ++ process ∷ []) }
+    {
+        self.processes.push(process)?;
+        Ok(())
+    }
+
+    // Takes out all processes, and has this memory for those that come.
+    fn take(&mut self, memory: Vec<u32>) -> Vec<u32>
+        requires { memory.items ≡ [] }
+        ensures taken { result.items ≡ self.old }
+        ensures rest { self.new ≡ [] }
+    {
+        replace(&mut self.processes, memory)
+    }
+}
+
+/// For each thing that processes wait for a list of processes. A list keeps its memory when it is
+/// taken out, so that processes that come and go take memory at the first time only.
 #[derive(Drop)]
 pub struct WaitingLists {
     alloc: Global,
     lists: IndexMap<Awaited, Waiting>,
+    // Memory of a list that was taken out.
+    spare: Vec<u32>,
 }
 
 impl WaitingLists {
@@ -39,6 +62,7 @@ impl WaitingLists {
         WaitingLists {
             alloc,
             lists: IndexMap::new(alloc),
+            spare: Vec::new(alloc),
         }
     }
 
@@ -56,10 +80,38 @@ impl WaitingLists {
     pub fn add(&mut self, wait: Awaited, process: u32) -> Result<(), Memory>
         ensures { OnOk result (HasCome self.old wait process self.new) }
     {
-        let mut processes = self.take(wait);
+        match self.lists.get_mut(&wait) {
+            Some(waiting) => waiting.push(process),
+            None => self.open(wait, process),
+        }
+    }
+
+    // Makes a list of one process.
+    fn open(&mut self, wait: Awaited, process: u32) -> Result<(), Memory>
+        requires { waiting_for self.old wait ≡ [] }
+        ensures { OnOk result (HasCome self.old wait process self.new) }
+    {
+        let mut processes = Vec::new(self.alloc);
         processes.push(process)?;
         self.lists.insert(wait, Waiting { processes })?;
         Ok(())
+    }
+
+    /// No processes, with the memory that was given back.
+    pub fn nobody(&mut self) -> Vec<u32>
+        ensures list { result.items ≡ [] }
+        ensures same { self.new.lists ≡ self.old.lists }
+    {
+        let mut memory = replace(&mut self.spare, Vec::new(self.alloc));
+        memory.clear();
+        memory
+    }
+
+    /// Gives back the memory of a list that was taken out.
+    pub fn give_back(&mut self, memory: Vec<u32>)
+        ensures { self.new.lists ≡ self.old.lists }
+    {
+        self.spare = memory;
     }
 
     /// Takes out a list, and leaves it empty.
@@ -67,9 +119,10 @@ impl WaitingLists {
         ensures list { result.items ≡ waiting_for self.old wait }
         ensures rest { (w : AnyAwaited) → waiting_for self.new w ≡ (if same_awaited wait w then [] else waiting_for self.old w) }
     {
-        match self.lists.swap_remove(&wait) {
-            Some(waiting) => waiting.processes,
-            None => Vec::new(self.alloc),
+        let memory = self.nobody();
+        match self.lists.get_mut(&wait) {
+            Some(waiting) => waiting.take(memory),
+            None => memory,
         }
     }
 }

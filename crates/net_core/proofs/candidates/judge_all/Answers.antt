@@ -5,6 +5,9 @@ use Rattle.net_core.specs.Candidates.{Judges}
 use Rattle.net_core.proofs.Anew.{judged_more}
 use Rattle.net_core.proofs.candidates.judge_all.Goals as goal
 
+pub head-requires : goal.head-requires
+head-requires c = let i = c.loop-pid.pid-index in c.requires.there (get_or c.args.pids.now i 0) (i, slice_get-get_or c.args.pids.now i 0 c.loop-pid-test.true)
+
 pub judge-requires-clause-there : goal.judge-requires-clause-there
 judge-requires-clause-there c = let i = c.loop-pid.pid-index in c.requires.there (get_or c.args.pids.now i 0) (i, slice_get-get_or c.args.pids.now i 0 c.loop-pid-test.true)
 

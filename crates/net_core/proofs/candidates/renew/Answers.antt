@@ -15,6 +15,6 @@ returns-in-Some-Channel c =
     let e = v.endpoints in
     let n = v.state in
     let p = c.args.pid in
-    let is : awaited_at e n p ≡ Some (Channel c.in-Some-Channel.channel) = awaits e n p c.head.result c.head.ensures ∙ sym c.in-Some-Channel.ensures ∙ ap (λ (a : Awaited). Some a) c.in-Some-Channel.field-0-is in
+    let is : awaited_at e n p ≡ Some (Channel c.in-Some-Channel.channel) = awaits e n p c.head-head.result c.head-head.ensures ∙ sym c.in-Some-Channel.ensures ∙ ap (λ (a : Awaited). Some a) c.in-Some-Channel.field-0-is in
     renewed_channel e n c.args.done c.args.waiting.now c.args.listed.now c.judge.new.listed c.judge_all.new.listed p c.in-Some-Channel.channel c.requires.lists c.judge.ensures is
     (subst (λ (l : List ℕ). Judges e n c.judge.new.listed l c.judge_all.new.listed) c.get-joiners.ensures c.judge_all.ensures)

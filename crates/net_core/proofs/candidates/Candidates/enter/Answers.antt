@@ -12,9 +12,9 @@ returns-in-Some c =
     let n = v.state in
     let p = c.args.pid in
     let old = c.args.self.now in
-    let is : awaited_at e n p ≡ Some c.in-Some.awaited = awaits e n p c.head.result c.head.ensures ∙ sym c.in-Some.ensures in
+    let is : awaited_at e n p ≡ Some c.in-Some.awaited = awaits e n p c.head-head.result c.head-head.ensures ∙ sym c.in-Some.ensures in
     on_ok_weaker c.add.result (λ put.
-    entered_one e n old (record { listed = old.listed; unended = c.set.new.self; waiting = c.add.new.self }) p c.requires.there c.requires.places refl (c.set.ensures ∙ ap (λ (b : Bool). slice_set old.unended p (not b)) c.ended.ensures)
+    entered_one e n old (record { listed = old.listed; unended = c.set.new.self; waiting = c.add.new.self }) p c.requires.there c.requires.places refl (c.set.ensures ∙ ap (λ (b : Bool). slice_set old.unended p (not b)) (c.has_ended.ensures ∙ sym c.head-head.ensures.ended))
     (added e n old.waiting c.add.new.self c.in-Some.awaited p put is)
     (adds e n old.waiting c.add.new.self c.in-Some.awaited p put)
     (adds_below e n old.waiting c.add.new.self c.in-Some.awaited p put _ c.requires.there c.requires.places.within)) c.add.ensures
@@ -26,8 +26,8 @@ returns-in-None c =
     let n = v.state in
     let p = c.args.pid in
     let old = c.args.self.now in
-    let is : awaited_at e n p ≡ None = awaits e n p c.head.result c.head.ensures ∙ sym c.in-None.ensures in
-    entered_one e n old (record { listed = old.listed; unended = c.set.new.self; waiting = old.waiting }) p c.requires.there c.requires.places refl (c.set.ensures ∙ ap (λ (b : Bool). slice_set old.unended p (not b)) c.ended.ensures)
+    let is : awaited_at e n p ≡ None = awaits e n p c.head-head.result c.head-head.ensures ∙ sym c.in-None.ensures in
+    entered_one e n old (record { listed = old.listed; unended = c.set.new.self; waiting = old.waiting }) p c.requires.there c.requires.places refl (c.set.ensures ∙ ap (λ (b : Bool). slice_set old.unended p (not b)) (c.has_ended.ensures ∙ sym c.head-head.ensures.ended))
     (λ w i. let z : None ≡ Some w = sym is ∙ i in absurd cc)
     (λ w q i. i)
     c.requires.places.within

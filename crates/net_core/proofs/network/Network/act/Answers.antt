@@ -20,10 +20,10 @@ act-event-requires g c =
     let m = c.index_mut-machine.result.now in
     let in_it = within i.machines.items i.queues c.self.view_is p c.requires.there in
     let here = c.index_mut-machine.ensures.value in
-    let t = shows_in i.machines.items i.queues c.self.view_is p c.head-head.result c.head-head.ensures in
-    let shown = head_there e i.machines.items i.queues i.sid p m c.head-head.result t in_it here in
+    let t = shows_in i.machines.items i.queues c.self.view_is p c.args.head c.requires.shows in
+    let shown = head_there e i.machines.items i.queues i.sid p m c.args.head t in_it here in
     let k = vec_capacity i.history - vec_len i.history in
-    let room = room_known e k i.queues m c.head-head.result shown
+    let room = room_known e k i.queues m c.args.head shown
     (reserved_room e k i.queues i.machines.items p m in_it here (subst (λ (v : NetworkView). slice_get v.reserved p ≡ Some true) (sym c.self.view_is) c.requires.room)) in
     record {
       faultless = record { faultless = c.self.invariant.faultless; hosts = subst (λ (v : NetworkView). AsksKnown (is_listed (names_of (functions_of c.args.hosts.now)) v.endpoints) v.endpoints) (sym c.self.view_is) c.requires.hosts };
@@ -32,7 +32,7 @@ act-event-requires g c =
       room = room.1;
       queue = room.2;
       goes =
-          acts_freely e i.machines.items i.queues i.sid p m c.head-head.result t in_it here
+          acts_freely e i.machines.items i.queues i.sid p m c.args.head t in_it here
           (subst (λ (v : NetworkView). steps_at v.endpoints v.state p ≡ true) (sym c.self.view_is) c.requires.steps)
           (subst (λ (v : NetworkView). joins_at_all v.endpoints v.state p ≡ false) (sym c.self.view_is) c.requires.alone);
     }
@@ -59,8 +59,8 @@ returns-clause-stepped g c =
     let p = c.args.pid in
     let hosts = hosts_in c.args.self.now.endpoints.names (functions_of c.args.hosts.now) in
     stepped i.machines.items i.queues c.self.view_is hosts _ p c.act-event.result _ refl refl c.append.ensures
-    (alone_chooses i.endpoints.now hosts i.machines.items i.queues c.act-event.new.queues i.sid p c.index_mut-machine.result.now c.act-event.new.machine c.head-head.result c.act-event.result
-    (shows_in i.machines.items i.queues c.self.view_is p c.head-head.result c.head-head.ensures) c.self.invariant.counted
+    (alone_chooses i.endpoints.now hosts i.machines.items i.queues c.act-event.new.queues i.sid p c.index_mut-machine.result.now c.act-event.new.machine c.args.head c.act-event.result
+    (shows_in i.machines.items i.queues c.self.view_is p c.args.head c.requires.shows) c.self.invariant.counted
     (within i.machines.items i.queues c.self.view_is p c.requires.there) c.index_mut-machine.ensures.value
     (subst (λ (v : NetworkView). joins_at_all v.endpoints v.state p ≡ false) (sym c.self.view_is) c.requires.alone)
     (subst (λ (v : NetworkView). ActsWith i.endpoints.now (hosts_in v.endpoints.names (functions_of c.args.hosts.now)) i.queues c.index_mut-machine.result.now c.act-event.result c.act-event.new.queues c.act-event.new.machine) c.self.view_is c.act-event.ensures.acts))

@@ -6,6 +6,7 @@ use Rattle.endpoint_code.specs.Faults.{IsFaultless}
 use Rattle.chor_base.specs.Meaning.{Hosts}
 use Rattle.chor_base.specs.declared.names.NameId.{NameId}
 use Rattle.session_starts.specs.Starts.{AllJoin}
+use Rattle.net_core.specs.Heads.{Shows}
 use Rattle.net_core.specs.Starts.{IsCast}
 use Rattle.net_core.specs.Views.{NetworkView}
 use Rattle.net_core.specs.Steps.{HasBegun}
@@ -18,7 +19,7 @@ use Rattle.net_core.proofs.network.Network.start.Goals as goal
 pub unreachable-requires-in_default-channel_named : goal.unreachable-requires-in_default-channel_named
 unreachable-requires-in_default-channel_named c =
     let v = c.args.self.now in
-    let active = join_channel v.endpoints v.state c.args.pid c.in-Join.channel c.in-Join.own c.in-Join.ensures in
+    let active = join_channel v.endpoints v.state c.args.pid c.in-Join.channel c.in-Join.own (subst (Shows v.endpoints v.state c.args.pid) c.in-Join.is c.requires.shows) in
     let none : None ≡ channel_of v.endpoints.channels c.in-Join.channel =
     ap option_copied (sym c.in_default-channel_named.is) ∙ c.channel_named.ensures ∙ ap (λ (ks : List Channel). channel_of ks c.in-Join.channel) c.as_slice.ensures ∙ ap (λ (w : NetworkView). channel_of w.endpoints.channels c.in-Join.channel) c.self.view_is
     in
@@ -28,7 +29,7 @@ unreachable-requires-in_default-channel_named c =
 pub begin-requires : goal.begin-requires
 begin-requires c =
     let v = c.args.self.now in
-    let s = (join_stands v.endpoints v.state c.args.pid c.in-Join.channel c.in-Join.own c.in-Join.ensures).2 in
+    let s = (join_stands v.endpoints v.state c.args.pid c.in-Join.channel c.in-Join.own (subst (Shows v.endpoints v.state c.args.pid) c.in-Join.is c.requires.shows)).2 in
     let k = c.in-Some.found.now in
     let found : channel_of v.endpoints.channels c.in-Join.channel ≡ Some k =
     sym (c.in-Some.ensures ∙ ap (λ (ks : List Channel). channel_of ks c.in-Join.channel) c.as_slice.ensures ∙ ap (λ (w : NetworkView). channel_of w.endpoints.channels c.in-Join.channel) c.self.view_is)
@@ -50,7 +51,7 @@ begin-requires c =
 pub returns-clause-ok : goal.returns-clause-ok
 returns-clause-ok c =
     let v = c.args.self.now in
-    let t = join_stands v.endpoints v.state c.args.pid c.in-Join.channel c.in-Join.own c.in-Join.ensures in
+    let t = join_stands v.endpoints v.state c.args.pid c.in-Join.channel c.in-Join.own (subst (Shows v.endpoints v.state c.args.pid) c.in-Join.is c.requires.shows) in
     let k = c.in-Some.found.now in
     let found : channel_of v.endpoints.channels c.in-Join.channel ≡ Some k =
     sym (c.in-Some.ensures ∙ ap (λ (ks : List Channel). channel_of ks c.in-Join.channel) c.as_slice.ensures ∙ ap (λ (w : NetworkView). channel_of w.endpoints.channels c.in-Join.channel) c.self.view_is)
