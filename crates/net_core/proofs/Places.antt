@@ -1,7 +1,7 @@
 -- The places of queues, by their triples.
-use Rattle.std.proofs.Common.{◌≡◌, ℕ, suc, ◌+◌, ◌==◌, ◌&&◌, Bool, true, false, cond, List, [], ◌∷◌, ◌++◌, length, map, refl, sym, ap, ◌∙◌, Option, Some, None, arith, add-one, ◌<◌, ◌||◌, get_or}
-use Rattle.std.specs.Prelude.{position, slice_set, if◌then◌else◌}
-use Rattle.std.specs.List.{position_from, list_any}
+use Rattle.std.proofs.Common.{◌≡◌, ℕ, zero, suc, ◌+◌, ◌==◌, ◌&&◌, Bool, true, false, cond, List, [], ◌∷◌, ◌++◌, length, map, refl, sym, ap, subst, ◌∙◌, Option, Some, None, arith, add-one, ◌<◌, ◌||◌, get_or}
+use Rattle.std.specs.Prelude.{position, slice_get, slice_set, if◌then◌else◌}
+use Rattle.std.specs.List.{position_from, list_any, IsDistinct, AllByRecursion}
 use Rattle.std.proofs.lemmas.Bool.Decides.{nat_tests}
 use Rattle.std.proofs.lemmas.List.{map-append}
 use Rattle.std.proofs.lemmas.Iterator.Adapters.{position_from-zero}
@@ -60,3 +60,56 @@ indexed_more p t ds new ls all d m is same none n a triple =
 -- the queue that is put stands for the same triple
 pub indexed_put : (ds : List Direction) (ls : List LaneView) (i : ℕ) (l m : LaneView) → map triple_of ds ≡ map (λ l. l.triple) ls → i < length ls → l ≡ get_or ls i l → m.triple ≡ l.triple → map triple_of ds ≡ map (λ l. l.triple) (slice_set ls i m)
 indexed_put ds ls i l m same lt h k = same ∙ sym (mapped_put (λ (x : LaneView). x.triple) ls i l m lt h k)
+
+-- ---- a direction that was found before
+
+abbrev pub is_at : Direction → Direction → Bool
+is_at d x = (d.sid == x.sid) && ((d.from.0 == x.from.0) && (d.to.0 == x.to.0))
+
+both_true : (a b : Bool) → (a && b) ≡ true → (a ≡ true) × (b ≡ true)
+both_true true b h = (refl, h)
+both_true false b h = absurd cc
+
+number_same : (m n : ℕ) → (m == n) ≡ true → m ≡ n
+number_same m n h = grind (arith, nat_tests)
+
+name_same : (a b : NameId) → (a.0 == b.0) ≡ true → a ≡ b
+name_same a b h = ap (λ (n : ℕ). let r : NameId = record { 0 = n } in r) (number_same a.0 b.0 h)
+
+same_direction : (d x : Direction) → is_at d x ≡ true → d ≡ x
+same_direction d x h =
+    let one = both_true (d.sid == x.sid) ((d.from.0 == x.from.0) && (d.to.0 == x.to.0)) h in
+    let two = both_true (d.from.0 == x.from.0) (d.to.0 == x.to.0) one.1 in
+    ap (λ (k : ℕ). let r : Direction = record { sid = k; from = d.from; to = d.to } in r) (number_same d.sid x.sid one.0)
+    ∙ ap (λ (a : NameId). let r : Direction = record { sid = x.sid; from = a; to = d.to } in r) (name_same d.from x.from two.0)
+    ∙ ap (λ (b : NameId). let r : Direction = record { sid = x.sid; from = x.from; to = b } in r) (name_same d.to x.to two.1)
+
+holds_at : (P : Direction → Type 0) (ds : List Direction) (i : ℕ) (d : Direction) → AllByRecursion P ds → slice_get ds i ≡ Some d → P d
+holds_at P [] i d all h = absurd cc
+holds_at P (x ∷ ds) zero d all h = let same : x ≡ d = cc in subst P same all.0
+holds_at P (x ∷ ds) (suc i) d all h = holds_at P ds i d all.1 h
+
+found_from : (d : Direction) (k i : ℕ) (ds : List Direction) → IsDistinct is_at ds → slice_get ds i ≡ Some d → is_at d d ≡ true → position_from (is_at d) k ds ≡ Some (k + i)
+unfolding IsDistinct
+found_from d k i [] apart h itself = absurd cc
+found_from d k zero (x ∷ ds) apart h itself =
+    let same : x ≡ d = cc in
+    ap (λ (b : Bool). cond b (Some k) (position_from (is_at d) (k + 1) ds)) (ap (is_at d) same ∙ itself) ∙ ap Some (let e : k ≡ k + 0 = omega arith in e)
+found_from d k (suc i) (x ∷ ds) apart h itself = go (is_at d x) refl (found_from d (k + 1) i ds apart.1 h itself)
+  where
+    go : (b : Bool) → is_at d x ≡ b → position_from (is_at d) (k + 1) ds ≡ Some (k + 1 + i) → cond b (Some k) (position_from (is_at d) (k + 1) ds) ≡ Some (k + suc i)
+    go true j rest =
+        let other : is_at x d ≡ false = holds_at (λ (y : Direction). is_at x y ≡ false) ds i d apart.0 h in
+        let same : is_at x d ≡ true = ap (λ (y : Direction). is_at y d) (sym (same_direction d x j)) ∙ itself in
+        let clash : true ≡ false = sym same ∙ other in
+        absurd cc
+    go false j rest = rest ∙ ap Some (let e : k + 1 + i ≡ k + suc i = omega arith in e)
+
+-- of distinct directions each is found at its place
+pub found_there : (d x : Direction) (i : ℕ) (ds : List Direction) → IsDistinct is_at ds → slice_get ds i ≡ Some x → is_at d x ≡ true → position (is_at d) ds ≡ Some i
+found_there d x i ds apart h is =
+    let same = same_direction d x is in
+    let there : slice_get ds i ≡ Some d = h ∙ ap Some (sym same) in
+    let itself : is_at d d ≡ true = ap (is_at d) same ∙ is in
+    let plain : 0 + i ≡ i = omega arith in
+    position_from-zero (is_at d) ds ∙ found_from d 0 i ds apart there itself ∙ ap Some plain

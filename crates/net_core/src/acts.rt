@@ -90,10 +90,9 @@ fn receive(
     ensures moves { (v : ℤ) → MovesWith endpoints.now v queues.old machine.old result queues.new machine.new }
 {
     let (sid, from, to) = lane;
-    let Some(load) = queues.first(sid, from, to) else {
+    let Some(load) = queues.take(sid, from, to) else {
         unreachable!()
     };
-    queues.take(sid, from, to);
     machine.receive(endpoints, load);
     Event::Recv {
         pid: machine.number(),

@@ -1,6 +1,6 @@
 //! The queues of a network.
 
-ghost use Rattle.std.specs.Prelude.{◌≡◌, ◌≤◌, ◌<◌, ◌∷◌, ◌++◌, [], length, drop, OnOk, IsOk, IfSome, slice_get, None, ◌≢◌};
+ghost use Rattle.std.specs.Prelude.{◌≡◌, ◌≤◌, ◌<◌, ◌∷◌, ◌++◌, [], length, drop, OnOk, IsOk, IfSome, slice_get, None};
 ghost use Rattle.chor_base.specs.Events.{Triple};
 ghost use Rattle.endpoint_code.specs.Network.{loads_for, with_loads};
 ghost use Rattle.net_core.specs.Lanes.{loads_in, room_on, lane_from};
@@ -60,11 +60,12 @@ impl Lane {
         }
     }
 
-    fn pop(&mut self)
+    fn pop(&mut self) -> Option<Load>
+        ensures first { result ≡ slice_get self.old.loads 0 }
         ensures triple { self.new.triple ≡ self.old.triple }
         ensures loads { self.new.loads ≡ drop 1 self.old.loads }
     {
-        let _ = self.loads.pop_front();
+        self.loads.pop_front()
     }
 }
 
@@ -85,6 +86,8 @@ pub struct Queues {
     lanes: Vec<Lane>,
     // Room for the first load of a new queue.
     spare: VecDeque<Load>,
+    // The place of the queue for which memory was taken last: mostly the next one that is asked for.
+    recent: usize,
 }
 
 impl Model for Queues {
@@ -110,6 +113,7 @@ impl Queues {
             directions: IndexSet::new(alloc),
             lanes: Vec::new(alloc),
             spare: VecDeque::new(alloc),
+            recent: 0,
         }
     }
 
@@ -119,7 +123,10 @@ impl Queues {
         ensures within { IfSome result (λ i. i < length self.now.lanes) }
     {
         let direction = Direction { sid, from, to };
-        self.directions.get_index_of(&direction)
+        match self.directions.as_slice().get(self.recent) {
+            Some(recent) if direction == *recent => Some(self.recent),
+            _ => self.directions.get_index_of(&direction),
+        }
     }
 
     /// The first load of a queue.
@@ -139,6 +146,7 @@ impl Queues {
     {
         match self.place_of(sid, from, to) {
             Some(place) => {
+                self.recent = place;
                 let lane = &mut self.lanes[place];
                 lane.reserve()
             }
@@ -198,14 +206,13 @@ impl Queues {
         }
     }
 
-    /// Takes the first load out of its queue.
-    pub fn take(&mut self, sid: u32, from: NameId, to: NameId)
-        requires { slice_get (loads_for (loads_in self.old.lanes) (sid, from, to)) 0 ≢ None }
-        ensures { loads_in self.new.lanes ≡ with_loads (loads_in self.old.lanes) (sid, from, to) (drop 1 (loads_for (loads_in self.old.lanes) (sid, from, to))) }
+    /// Takes the first load out of its queue, if there is one.
+    pub fn take(&mut self, sid: u32, from: NameId, to: NameId) -> Option<Load>
+        ensures first { result ≡ slice_get (loads_for (loads_in self.old.lanes) (sid, from, to)) 0 }
+        ensures rest { IfSome result (λ load. loads_in self.new.lanes ≡ with_loads (loads_in self.old.lanes) (sid, from, to) (drop 1 (loads_for (loads_in self.old.lanes) (sid, from, to)))) }
     {
-        if let Some(place) = self.place_of(sid, from, to) {
-            let lane = &mut self.lanes[place];
-            lane.pop();
-        }
+        let place = self.place_of(sid, from, to)?;
+        let lane = &mut self.lanes[place];
+        lane.pop()
     }
 }

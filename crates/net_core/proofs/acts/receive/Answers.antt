@@ -10,7 +10,7 @@ use Rattle.net_core.proofs.Counts.{first_rest}
 use Rattle.net_core.proofs.acts.receive.Goals as goal
 
 pub receive-requires-clause-fits : goal.receive-requires-clause-fits
-receive-requires-clause-fits c = ap (fits_first c.args.endpoints.now c.args.machine.now.machine) c.in-Some.ensures ∙ c.requires.fits
+receive-requires-clause-fits c = ap (fits_first c.args.endpoints.now c.args.machine.now.machine) c.in-Some.ensures.first ∙ c.requires.fits
 
 pub returns-clause-moves : goal.returns-clause-moves
 returns-clause-moves c = λ v n h.
@@ -18,7 +18,7 @@ returns-clause-moves c = λ v n h.
     let l = c.in-Some.load in
     let m = c.receive.new.self in
     let all = loads_for (loads_in c.args.queues.now.lanes) t in
-    c.receive.ensures.taken None n v t.0 t.1 t.2 (drop 1 all) c.requires.head (ap (λ (qs : List (Triple × List Load)). loads_for qs t) h ∙ first_rest all l (sym c.in-Some.ensures))
+    c.receive.ensures.taken None n v t.0 t.1 t.2 (drop 1 all) c.requires.head (ap (λ (qs : List (Triple × List Load)). loads_for qs t) h ∙ first_rest all l (sym c.in-Some.ensures.first))
     ∙ ap (λ (qs : List (Triple × List Load)). Some (Makes (event.Recv c.args.machine.now.number t.0 t.1 t.2 l) (let k : NetworkState = record { machines = slice_set n.machines c.args.machine.now.number m.machine; queues = qs; sid = n.sid } in k)))
-    (ap (λ (qs : List (Triple × List Load)). with_loads qs t (drop 1 all)) h ∙ sym c.take.ensures)
+    (ap (λ (qs : List (Triple × List Load)). with_loads qs t (drop 1 all)) h ∙ sym c.in-Some.ensures.rest)
     ∙ ap (λ (p : ℕ). Some (Makes (event.Recv p t.0 t.1 t.2 l) (let k : NetworkState = record { machines = slice_set n.machines c.args.machine.now.number m.machine; queues = loads_in c.take.new.self.lanes; sid = n.sid } in k))) (sym (c.number.ensures ∙ c.receive.ensures.number))

@@ -1,32 +1,43 @@
 use Rattle.std.proofs.Common.{List, ap, length, rules, sym, ◌<◌, ◌∙◌}
-use Rattle.std.specs.Prelude.{drop}
+use Rattle.std.specs.Prelude.{drop, slice_get, IfSome, Option, Some, None}
 use Rattle.chor_base.specs.declared.value.Load.{Load}
 use Rattle.chor_base.specs.Events.{Triple}
 use Rattle.endpoint_code.specs.Network.{loads_for, with_loads}
 use Rattle.net_core.specs.Lanes.{QueuesView, loads_in, lane_from}
-use Rattle.net_core.proofs.Lanes.{put_found, first_lacking}
+use Rattle.net_core.proofs.Lanes.{put_found, first_lacking, first_found}
 use Rattle.net_core.proofs.Places.{indexed_put}
 use Rattle.net_core.proofs.queues.Queues.take.Goals as goal
 
-pub returns-in-Some : goal.returns-in-Some
-returns-in-Some c =
+if_some : {X : Type 0} {P : Type 0} (r : Option X) → P → IfSome r (λ _. P)
+if_some None p = tt
+if_some (Some x) p = p
+
+pub returns-in_err-place-clause-first : goal.returns-in_err-place-clause-first
+returns-in_err-place-clause-first c =
+    let t : Triple = (c.args.sid, c.args.from, c.args.to) in
+    c.from_residual.ensures ∙ sym (first_lacking c.args.self.now.lanes t (sym c.in_err-place.ensures.place))
+
+pub returns-clause-first : goal.returns-clause-first
+returns-clause-first c =
     let t : Triple = (c.args.sid, c.args.from, c.args.to) in
     let ls = c.self.inside.lanes.items in
-    put_found (λ (q : List Load). drop 1 q) ls t c.in-Some.place c.index_mut-lane.result.now c.pop.new.self
-    (sym (c.in-Some.ensures.place ∙ ap (λ (v : QueuesView). lane_from 0 v.lanes t) (sym c.self.view_is))) c.index_mut-lane.ensures.value c.pop.ensures.triple c.pop.ensures.loads
-    ∙ ap (λ (v : QueuesView). with_loads (loads_in v.lanes) t (drop 1 (loads_for (loads_in v.lanes) t))) c.self.view_is
+    c.pop.ensures.first ∙ sym (first_found ls t c.in_ok-place.place c.index_mut-lane.result.now (sym (c.in_ok-place.ensures.place ∙ ap (λ (v : QueuesView). lane_from 0 v.lanes t) (sym c.self.view_is))) c.index_mut-lane.ensures.value)
+    ∙ ap (λ (v : QueuesView). slice_get (loads_for (loads_in v.lanes) t) 0) c.self.view_is
 
-pub returns-in_default : goal.returns-in_default
-returns-in_default c =
+pub returns-clause-rest : goal.returns-clause-rest
+returns-clause-rest c =
     let t : Triple = (c.args.sid, c.args.from, c.args.to) in
-    absurd (c.requires (first_lacking c.args.self.now.lanes t
-    (sym (c.in_default.ensures.place))))
+    let ls = c.self.inside.lanes.items in
+    if_some c.pop.result
+    (put_found (λ (q : List Load). drop 1 q) ls t c.in_ok-place.place c.index_mut-lane.result.now c.pop.new.self
+    (sym (c.in_ok-place.ensures.place ∙ ap (λ (v : QueuesView). lane_from 0 v.lanes t) (sym c.self.view_is))) c.index_mut-lane.ensures.value c.pop.ensures.triple c.pop.ensures.loads
+    ∙ ap (λ (v : QueuesView). with_loads (loads_in v.lanes) t (drop 1 (loads_for (loads_in v.lanes) t))) c.self.view_is)
 
 pub invariant_of-self : goal.invariant_of-self
 invariant_of-self c =
     let i = c.self.inside in
-    let within : c.in-Some.place < length i.lanes.items = search rules in
+    let within : c.in_ok-place.place < length i.lanes.items = search rules in
     record {
-      same = indexed_put i.directions.keys i.lanes.items c.in-Some.place c.index_mut-lane.result.now c.pop.new.self c.self.invariant.same within c.index_mut-lane.ensures.value c.pop.ensures.triple;
+      same = indexed_put i.directions.keys i.lanes.items c.in_ok-place.place c.index_mut-lane.result.now c.pop.new.self c.self.invariant.same within c.index_mut-lane.ensures.value c.pop.ensures.triple;
       unused = c.self.invariant.unused;
     }
