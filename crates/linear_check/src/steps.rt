@@ -89,12 +89,32 @@ impl Heard {
         requires { length channels.now ≤ 64 }
         ensures { OnOk result ((m : ℕ → Members) → Tracks channels.now self.old m → Tracks channels.now self.new (λ c. after_start (channel.0 == (channel_at channels.now c).0) (m c) (firsts (parts_of active.now)) (service_refs 0 (served_of serve.now)))) }
     {
-        let brought = self.any_of(active).or(named(channels, channel));
-        let others = not_named(channels, channel);
-        self.keep(alloc, others)?;
+        let own = named(channels, channel);
+        let brought = self.any_of(active).or(own);
+        self.forget(alloc, channels, channel, own)?;
         self.add_all(active, brought)?;
         self.add_all(serve, brought)?;
         Ok(())
+    }
+
+    // No process has heard of the channels that have a name, which are these own ones. Where no
+    // channel has it, nothing is done.
+    fn forget(
+        &mut self,
+        alloc: Global,
+        channels: &[NameId],
+        channel: NameId,
+        own: Marks,
+    ) -> Result<(), Memory>
+        requires few { length channels.now ≤ 64 }
+        requires own { (c : ℕ) → c < length channels.now → is_marked own c ≡ (channel.0 == (channel_at channels.now c).0) }
+        ensures { OnOk result ((c x : ℕ) → c < length channels.now → hears self.new c x ≡ (hears self.old c x && not (channel.0 == (channel_at channels.now c).0))) }
+    {
+        if own == Marks::none() {
+            return Ok(());
+        }
+        let others = not_named(channels, channel);
+        self.keep(alloc, others)
     }
 
     // Whether a node is a start of one of the channels, and one of its active processes hasn't heard
