@@ -52,7 +52,7 @@ pub fn run_endpoints(
     }
     let mut network = Network::new(alloc, endpoints)?;
     let closed = closed_by(network.run_picked(hosts, seed, steps))?;
-    let history = entries(alloc, network.history())?;
+    let history = list_of(network.into_history())?;
     Ok(Ran { history, closed })
 }
 
@@ -68,12 +68,12 @@ fn closed_by(picked: Picked) -> Result<Closed, Memory>
     }
 }
 
-fn entries(alloc: Global, history: &[Entry]) -> Result<List<Entry>, Memory>
-    ensures { IfOk result (λ list. list ≡ history.now) }
+// A list has fewer than 2^32 items.
+fn list_of(entries: Vec<Entry>) -> Result<List<Entry>, Memory>
+    ensures { IfOk result (λ list. list ≡ entries.items) }
 {
-    let mut list = List::new(alloc);
-    for entry in history {
-        list.push(entry.copy(alloc)?)?;
+    if entries.len() > u32::MAX as usize {
+        return Err(Memory);
     }
-    Ok(list)
+    Ok(List::from_vec(entries))
 }

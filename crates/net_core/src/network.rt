@@ -83,6 +83,13 @@ impl<'a> Network<'a> {
         self.history.as_slice()
     }
 
+    /// The events so far, of a network that makes no more.
+    pub fn into_history(self) -> Vec<Entry>
+        ensures { result.items ≡ self.entry.history }
+    {
+        self.history
+    }
+
     // The next action of a process.
     pub(crate) fn head(&self, pid: u32) -> Head
         requires { pid < length self.now.state.machines }
