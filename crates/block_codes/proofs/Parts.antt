@@ -1,11 +1,14 @@
 -- How the codes before a statement are made, one process after another.
 use Rattle.std.proofs.Common.{◌≡◌, ℕ, ◌+◌, ◌<◌, List, [], ◌∷◌, ◌++◌, length, take, get_or, refl, sym, ap, ◌∙◌, subst, Some, None, Ok, Err, arith, length-append}
-use Rattle.std.specs.Prelude.{IfOk, Option, Result}
+use Rattle.std.specs.Prelude.{IfOk, Option, Result, map}
 use Rattle.std.specs.List.{AllZip}
 use Rattle.chor_base.specs.declared.memory.Memory.{Memory}
 use Rattle.chor_base.specs.declared.names.NameId.{NameId}
 use Rattle.chor_tree.specs.declared.file.Proc.{Proc}
+use Rattle.chor_tree.specs.declared.file.Named.{Named as Written}
 use Rattle.chor_tree.specs.declared.tree.Form.{Form}
+use Rattle.chor_tree.specs.declared.tree.Form.TheVariants.{Call}
+use Rattle.chor_semantics.specs.Sources.{name_ref}
 use Rattle.endpoint_code.specs.declared.code.CodeId.{CodeId}
 use Rattle.endpoint_code.specs.declared.code.CodeNode.{CodeNode}
 use Rattle.endpoint_code.specs.declared.code.CodeNode.TheVariants.{End}
@@ -13,10 +16,10 @@ use Rattle.endpoint_code.specs.Trees.{Ends, code_at, trees_of}
 use Rattle.endpoint_code.proofs.CodeTables.{code_at-pushed}
 use Rattle.branch_merge.specs.Merged.{Keeps}
 use Rattle.branch_merge.proofs.ArmTables.{keeps_all, code_kept, kept_length}
-use Rattle.projection.specs.Codes.{Part}
+use Rattle.projection.specs.Codes.{Part, call_code, proc_named}
 use Rattle.projection.specs.Making.{part_tree, part_at, Puts}
 use Rattle.block_codes.specs.declared.coded.Coded.{Coded}
-use Rattle.block_codes.specs.Nodes.{call_in}
+use Rattle.block_codes.specs.Nodes.{call_in, called_in}
 use Rattle.block_codes.specs.Parts.{IsPut, IsEndAt, IsLeaf, IsCallAt, IsCalled}
 use Rattle.block_codes.proofs.Zips.{zip_weaker, zip_step}
 
@@ -75,6 +78,13 @@ call_pushed procs g old new r n made (Ok id) leaf e h =
       code = code_at-pushed old new n id h.1 h.0 ∙ l.1 (trees_of old);
     }
 call_pushed procs g old new r n made (Err m) leaf e h = tt
+
+-- a leaf of the call of a procedure that was looked up is one of the call
+pub tail_calls : (procs : List Proc) (r : NameId) (g : Form) (f : Written) (ps ks : List Written) (h : Option Proc) (made : Option CodeNode) → g ≡ Call f ps ks → h ≡ called_in procs g
+    → IsLeaf (call_code r f.name (map name_ref ps) (map name_ref ks) h) made → IsLeaf (call_in procs r g) made
+tail_calls procs r g f ps ks h made is same leaf =
+    let found : h ≡ proc_named procs f.name = same ∙ ap (called_in procs) is in
+    subst (λ k. IsLeaf (call_in procs r k) made) (sym is) (subst (λ x. IsLeaf (call_code r f.name (map name_ref ps) (map name_ref ks) x) made) found leaf)
 
 called_kept : {procs : List Proc} {g : Form} {mid new : List CodeNode} (r : NameId) (y : Coded) → Keeps mid new → IsCalled procs g mid r y → IsCalled procs g new r y
 called_kept r y k h = record {

@@ -1,5 +1,5 @@
 -- How a block goes on after its first node.
-use Rattle.std.specs.Prelude.{◌≡◌, ◌<◌, List, [], ◌∷◌, map, length, All}
+use Rattle.std.specs.Prelude.{◌≡◌, ◌<◌, List, [], ◌∷◌, map, length, All, Option, None}
 use Rattle.chor_base.specs.declared.names.NameId.{NameId}
 use Rattle.chor_base.specs.declared.rule.Place.{Place}
 use Rattle.chor_base.specs.declared.expr.Expr.{Expr}
@@ -55,6 +55,11 @@ pub record IsConditional (g : Form) (first second : NodeId) : Type 0 where
 abbrev pub call_in : List Proc → NameId → Form → CodeTree
 call_in procs r (Call f ps ks) = call_code r f.name (map name_ref ps) (map name_ref ks) (proc_named procs f.name)
 call_in procs r _ = Ends
+
+-- the procedure that a form calls
+abbrev pub called_in : List Proc → Form → Option Proc
+called_in procs (Call f ps ks) = proc_named procs f.name
+called_in procs _ = None
 
 -- the form is a call or the end
 pub record IsLast (g : Form) : Type 0 where

@@ -4,40 +4,58 @@ ghost use Rattle.std.specs.Prelude.{◌≡◌, IfOk, map};
 ghost use Rattle.std.specs.Option.{option_copied};
 ghost use Rattle.chor_semantics.specs.Sources.{name_ref};
 ghost use Rattle.projection.specs.Codes.{proc_named, param_for, passed_for, holds};
-ghost use Rattle.block_codes.specs.Nodes.{call_in};
+ghost use Rattle.block_codes.specs.Nodes.{call_in, called_in};
 ghost use Rattle.block_codes.specs.Parts.{IsLeaf};
 
+use crate::node::Spot;
 use chor_base::{List, Memory, NameId};
 use chor_tree::{Form, Named, Proc, ProcParam, SessionParam};
 use endpoint_code::CodeNode;
 use std::alloc::Global;
 
-/// The call of a process at a node of this form; none where it isn't passed, and at other forms.
-pub fn call_node(
-    alloc: Global,
-    procs: &[Proc],
-    form: &Form,
-    process: NameId,
-) -> Result<Option<CodeNode>, Memory>
-    ensures { IfOk result (IsLeaf (call_in procs.now process form.now)) }
+/// The last node of a block, and the procedure that it calls, if it calls one.
+#[derive(Clone, Copy)]
+pub struct Tail<'a> {
+    pub spot: Spot<'a>,
+    pub called: Option<&'a Proc>,
+    pub ghost is_called: { option_copied called ≡ called_in spot.file.now.procs spot.node.now.form },
+}
+
+impl Tail<'_> {
+    /// The call of a process; none where it isn't passed, and where the node is no call.
+    #[tactic(auto, using(crate::proofs::Parts::tail_calls))]
+    pub fn call_node(&self, alloc: Global, process: NameId) -> Result<Option<CodeNode>, Memory>
+        ensures { IfOk result (IsLeaf (call_in self.now.spot.file.now.procs process self.now.spot.node.now.form)) }
+    {
+        match &self.spot.node.form {
+            Form::Call {
+                name,
+                processes,
+                sessions,
+            } => {
+                let Some(proc) = self.called else {
+                    return Ok(None);
+                };
+                let params = proc.params.as_slice();
+                let Some(param) = param_for(process, params, processes.as_slice()) else {
+                    return Ok(None);
+                };
+                let declared = proc.sessions.as_slice();
+                let passed = passed_for(alloc, param, declared, sessions.as_slice())?;
+                Ok(Some(CodeNode::Call(name.name, param, passed)))
+            }
+            _ => Ok(None),
+        }
+    }
+}
+
+/// The procedure that a node of this form calls.
+pub fn called<'a>(procs: &'a [Proc], form: &Form) -> Option<&'a Proc>
+    ensures { option_copied result ≡ called_in procs.now form.now }
 {
     match form {
-        Form::Call {
-            name,
-            processes,
-            sessions,
-        } => {
-            let Some(proc) = proc_named(procs, name.name) else {
-                return Ok(None);
-            };
-            let params = proc.params.as_slice();
-            let Some(param) = param_for(process, params, processes.as_slice()) else {
-                return Ok(None);
-            };
-            let passed = passed_for(alloc, param, proc.sessions.as_slice(), sessions.as_slice())?;
-            Ok(Some(CodeNode::Call(name.name, param, passed)))
-        }
-        _ => Ok(None),
+        Form::Call { name, .. } => proc_named(procs, name.name),
+        _ => None,
     }
 }
 

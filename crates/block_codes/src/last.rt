@@ -5,7 +5,7 @@ ghost use Rattle.endpoint_code.specs.Trees.{Ends, code_at};
 ghost use Rattle.endpoint_code.specs.declared.code.CodeNode.TheVariants.{End};
 ghost use Rattle.block_codes.specs.Parts.{IsEndAt, first_id, IsCallAt, AreCalled};
 
-use crate::call::call_node;
+use crate::call::{Tail, called};
 use crate::coded::Coded;
 use crate::node::Spot;
 use chor_base::{List, Memory, NameId};
@@ -23,9 +23,13 @@ pub fn last_codes(
     ensures { IfOk result (AreCalled spot.now.file.now.procs spot.now.node.now.form code.old.nodes code.new.nodes scope.now) }
 {
     let end = put_end(code)?;
+    let tail = Tail {
+        spot: *spot,
+        called: called(spot.file.procs.as_slice(), &spot.node.form),
+    };
     let mut codes = List::new(alloc);
     for process in scope {
-        let id = put_call(alloc, spot, *process, end, code)?;
+        let id = put_call(alloc, &tail, *process, end, code)?;
         codes.push(Coded {
             process: *process,
             code: id,
@@ -44,22 +48,26 @@ pub fn last_code(
     ensures { IfOk result (IsCallAt spot.now.file.now.procs spot.now.node.now.form code.old.nodes code.new.nodes process) }
 {
     let end = put_end(code)?;
-    put_call(alloc, spot, process, end, code)
+    let tail = Tail {
+        spot: *spot,
+        called: called(spot.file.procs.as_slice(), &spot.node.form),
+    };
+    put_call(alloc, &tail, process, end, code)
 }
 
 // Adds the call of a process, if it is passed; else it goes on at the end.
 fn put_call(
     alloc: Global,
-    spot: &Spot<'_>,
+    tail: &Tail<'_>,
     process: NameId,
     end: CodeId,
     code: &mut Code,
 ) -> Result<CodeId, Memory>
     requires inside { end.0 < length code.old.nodes }
     requires ends { code_at code.old.nodes end ≡ Ends }
-    ensures { IfOk result (IsCallAt spot.now.file.now.procs spot.now.node.now.form code.old.nodes code.new.nodes process) }
+    ensures { IfOk result (IsCallAt tail.now.spot.file.now.procs tail.now.spot.node.now.form code.old.nodes code.new.nodes process) }
 {
-    match call_node(alloc, spot.file.procs.as_slice(), &spot.node.form, process)? {
+    match tail.call_node(alloc, process)? {
         None => Ok(end),
         Some(node) => code.push(node),
     }
