@@ -1,6 +1,6 @@
 -- The acts of a role and their edges, found move by move.
 use Rattle.std.proofs.Common.{ℕ, ◌≡◌, ◌+◌, ◌<◌, ◌≤◌, List, [], ◌∷◌, ◌++◌, Bool, true, false, refl, ap, sym, subst, ◌∙◌, inl, inr, length, take}
-use Rattle.std.specs.Prelude.{◌⊎◌, Some, slice_index_or, slice_set, MatchBool}
+use Rattle.std.specs.Prelude.{◌⊎◌, Some, slice_index_or, slice_set}
 use Rattle.std.proofs.lemmas.List.{take_all, take_more, map-append}
 use Rattle.global_types.specs.Moves.{IsIn}
 use Rattle.global_types.specs.Paths.{Action}
@@ -132,20 +132,6 @@ direct_out n ms i d s old h not was = set_same n _ _ old was more less
       go : IsOf ms i d s [] j → (s ≡ j) ⊎ HasMove (take i ms) s [] j
       go (before b) = inr b
       go (that p q r) = absurd (not (p, r))
-
-pub direct_begins : (n : ℕ) (ms : List Move) (s : ℕ) (marks : List ℕ) → s < n → IsSetFor n (λ i. ⊥) marks → IsSetFor n (λ j. (s ≡ j) ⊎ HasMove (take 0 ms) s [] j) (slice_set marks s 1)
-direct_begins n ms s marks h none = set_same n _ _ _ (set_put n (λ i. ⊥) marks s none h) more less
-  where
-    more : (j : ℕ) → ⊥ ⊎ (s ≡ j) → (s ≡ j) ⊎ HasMove (take 0 ms) s [] j
-    more j (inl b) = absurd b
-    more j (inr e) = inl e
-
-    less : (j : ℕ) → (s ≡ j) ⊎ HasMove (take 0 ms) s [] j → ⊥ ⊎ (s ≡ j)
-    less j (inl e) = inr e
-    less j (inr m) = absurd m.among
-
-pub direct_whole : (n : ℕ) (ms : List Move) (i s : ℕ) (marks : List ℕ) → length ms ≤ i → IsSetFor n (λ j. (s ≡ j) ⊎ HasMove (take i ms) s [] j) marks → IsSetFor n (λ j. (s ≡ j) ⊎ HasMove ms s [] j) marks
-direct_whole n ms i s marks h was = subst (λ l. IsSetFor n (λ j. (s ≡ j) ⊎ HasMove l s [] j) marks) (take_all i ms h) was
 
 -- ---- groups
 

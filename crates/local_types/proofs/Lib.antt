@@ -17,3 +17,5 @@ pub mod Texts
 pub mod Counts
 pub mod Parts
 pub mod Ascents
+pub mod Allowed
+pub mod Direct

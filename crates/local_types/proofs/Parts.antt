@@ -1,6 +1,9 @@
 -- Moves cut into parts, so that acts are compared with few others.
-use Rattle.std.proofs.Common.{ℕ, ◌≡◌, ◌≢◌, ◌+◌, ◌<◌, ◌≤◌, List, [], ◌∷◌, ◌++◌, true, false, refl, ap, sym, subst, ◌∙◌, arith, inl, inr, length, take}
-use Rattle.std.specs.Prelude.{◌⊎◌, ◌==◌, Option, Some, None, slice_index_or}
+use Rattle.std.specs.declared.alloc.Global.{Global}
+use Rattle.std.proofs.lemmas.Option.{slice_get-get_or}
+use Rattle.local_types.proofs.Sets.{same_or_not}
+use Rattle.std.proofs.Common.{zero, suc, length-set, length-append, Bool, ℕ, ◌≡◌, ◌≢◌, ◌+◌, ◌<◌, ◌≤◌, List, [], ◌∷◌, ◌++◌, true, false, refl, ap, sym, subst, ◌∙◌, arith, inl, inr, length, take}
+use Rattle.std.specs.Prelude.{◌⊎◌, ◌==◌, Option, Some, None, Vec, slice_get, slice_set, slice_index_or}
 use Rattle.std.specs.List.Sorted.{IsPermutation}
 use Rattle.std.proofs.lemmas.Bool.{cases_lt}
 use Rattle.std.proofs.lemmas.Bool.Decides.{nat_tests}
@@ -15,13 +18,13 @@ use Rattle.local_types.specs.declared.graph.Edge.{Edge}
 use Rattle.local_types.specs.declared.graph.Group.{Group}
 use Rattle.local_types.specs.declared.moves.Move.{Move}
 use Rattle.local_types.specs.Moves.{action_of, actions_in}
-use Rattle.local_types.specs.Graph.{HasMove, AreEdges, IsActOf, AreApart, group_acts, AreGroups, part_number, falls, IsPart}
+use Rattle.local_types.specs.Graph.{HasMove, AreEdges, IsActOf, AreApart, group_acts, AreGroups, part_number, falls, IsPart, AreParts, AreEmptyParts, HasMoreIn}
 use Rattle.local_types.proofs.Lists.{in_more, in_kept, in_new, in_push, in_left, in_right, in_either, in_last, in_map_back, in_permuted}
 use Rattle.local_types.proofs.Pairs.{pairs_append, pairs_permuted}
 
 -- ---- the moves of a part
 
-pub part_in : (ms : List Move) (n i : ℕ) (d : Move) (old new : List Move) → i < length ms → IsPart (take i ms) n old → falls n (slice_index_or ms i d).act ≡ true
+part_in : (ms : List Move) (n i : ℕ) (d : Move) (old new : List Move) → i < length ms → IsPart (take i ms) n old → falls n (slice_index_or ms i d).act ≡ true
     → new ≡ old ++ slice_index_or ms i d ∷ [] → IsPart (take (i + 1) ms) n new
 part_in ms n i d old new h was test is = rw is (record {
   sound = λ m o. sound_at m (in_push m (slice_index_or ms i d) old o);
@@ -36,7 +39,7 @@ part_in ms n i d old new h was test is = rw is (record {
     complete_at m f (inl o) = in_left m old (slice_index_or ms i d ∷ []) (was.complete m o f)
     complete_at m f (inr e) = subst (λ (v : Move). IsIn v (old ++ slice_index_or ms i d ∷ [])) e (in_last (slice_index_or ms i d) old)
 
-pub part_out : (ms : List Move) (n i : ℕ) (d : Move) (old : List Move) → i < length ms → IsPart (take i ms) n old → falls n (slice_index_or ms i d).act ≡ false → IsPart (take (i + 1) ms) n old
+part_out : (ms : List Move) (n i : ℕ) (d : Move) (old : List Move) → i < length ms → IsPart (take i ms) n old → falls n (slice_index_or ms i d).act ≡ false → IsPart (take (i + 1) ms) n old
 part_out ms n i d old h was test = record {
   sound = λ m o. let p = was.sound m o in (in_kept m ms i d h p.0, p.1);
   complete = λ m o f. complete_at m f (in_more m ms i d h o);
@@ -46,8 +49,92 @@ part_out ms n i d old h was test = record {
     complete_at m f (inl o) = was.complete m o f
     complete_at m f (inr e) = absurd (let g : false ≡ true = sym test ∙ ap (λ (v : Move). falls n v.act) e ∙ f in cc)
 
-pub part_whole : (ms : List Move) (n i : ℕ) (part : List Move) → length ms ≤ i → IsPart (take i ms) n part → IsPart ms n part
-part_whole ms n i part h was = subst (λ l. IsPart l n part) (take_all i ms h) was
+-- ---- all parts
+
+get_set : {A : Type 0} (xs : List A) (k : ℕ) (v : A) (n : ℕ) (u : A) → slice_get (slice_set xs k v) n ≡ Some u → ((n ≡ k) × (v ≡ u)) ⊎ ((n ≢ k) × (slice_get xs n ≡ Some u))
+get_set [] k v n u h = absurd (cc)
+get_set (x ∷ xs) zero v zero u h = inl (refl, cc)
+get_set (x ∷ xs) zero v (suc n) u h = inr ((λ e. absurd (omega (arith, e))), h)
+get_set (x ∷ xs) (suc k) v zero u h = inr ((λ e. absurd (omega (arith, e))), h)
+get_set (x ∷ xs) (suc k) v (suc n) u h = go (get_set xs k v n u h) where
+  go : ((n ≡ k) × (v ≡ u)) ⊎ ((n ≢ k) × (slice_get xs n ≡ Some u)) → ((suc n ≡ suc k) × (v ≡ u)) ⊎ ((suc n ≢ suc k) × (slice_get xs n ≡ Some u))
+  go (inl p) = inl (ap suc p.0, p.1)
+  go (inr p) = inr ((λ e. p.0 (omega (arith, e))), p.1)
+
+get_push : {A : Type 0} (xs : List A) (v : A) (n : ℕ) (u : A) → slice_get (xs ++ v ∷ []) n ≡ Some u → (slice_get xs n ≡ Some u) ⊎ (v ≡ u)
+get_push [] v zero u h = inr cc
+get_push [] v (suc n) u h = absurd (cc)
+get_push (x ∷ xs) v zero u h = inl h
+get_push (x ∷ xs) v (suc n) u h = get_push xs v n u h
+
+pub count_more : (old new : List (Vec Move Global)) (v : Vec Move Global) (k : ℕ) → new ≡ old ++ v ∷ [] → length old ≡ k → length new ≡ k + 1
+count_more old new v k is e = let a : length (old ++ v ∷ []) ≡ length old + 1 = length-append old (v ∷ []) in let b : length new ≡ length (old ++ v ∷ []) = ap (λ (l : List (Vec Move Global)). length l) is in omega (arith, a, b, e)
+
+pub empty_more : (old new : List (Vec Move Global)) (v : Vec Move Global) → v.items ≡ [] → new ≡ old ++ v ∷ [] → ((n : ℕ) (u : Vec Move Global) → slice_get old n ≡ Some u → u.items ≡ [])
+    → (n : ℕ) (u : Vec Move Global) → slice_get new n ≡ Some u → u.items ≡ []
+empty_more old new v e is was n u h = go (get_push old v n u (subst (λ (l : List (Vec Move Global)). slice_get l n ≡ Some u) is h)) where
+  go : (slice_get old n ≡ Some u) ⊎ (v ≡ u) → u.items ≡ []
+  go (inl o) = was n u o
+  go (inr s) = subst (λ (x : Vec Move Global). x.items ≡ []) s e
+
+pub parts_begin : (ms : List Move) (parts : List (Vec Move Global)) → AreEmptyParts parts → AreParts (take 0 ms) parts
+parts_begin ms parts none = record {
+  size = none.size;
+  part = λ n v h. record { sound = λ m o. absurd (subst (λ (l : List Move). IsIn m l) (none.empty n v h) o); complete = λ m o f. absurd o };
+}
+
+pub part_written : (k : ℕ) (m : Move) (old new : List (Vec Move Global)) (was part : Vec Move Global) → k < length old → was ≡ slice_index_or old k was → part.items ≡ was.items ++ m ∷ [] → new ≡ slice_set old k part → HasMoreIn k m old new
+part_written k m old new was part h at grows is = rw is (record {
+  size = length-set old k part;
+  own = λ v g. own_at v (get_set old k part k v g);
+  rest = λ n v d g. rest_at n v d (get_set old k part n v g);
+})
+  where
+    here : slice_get old k ≡ Some was
+    here = slice_get-get_or old k was h ∙ ap (λ (v : Vec Move Global). Some v) (sym at)
+
+    own_at : (v : Vec Move Global) → ((k ≡ k) × (part ≡ v)) ⊎ ((k ≢ k) × (slice_get old k ≡ Some v)) → (u : Vec Move Global) × (slice_get old k ≡ Some u) × (v.items ≡ u.items ++ m ∷ [])
+    own_at v (inl p) = (was, here, subst (λ (x : Vec Move Global). x.items ≡ was.items ++ m ∷ []) p.1 grows)
+    own_at v (inr p) = absurd (p.0 refl)
+
+    rest_at : (n : ℕ) (v : Vec Move Global) → n ≢ k → ((n ≡ k) × (part ≡ v)) ⊎ ((n ≢ k) × (slice_get old n ≡ Some v)) → slice_get old n ≡ Some v
+    rest_at n v d (inl p) = absurd (d p.0)
+    rest_at n v d (inr p) = p.1
+
+falls_here : (n : ℕ) (a : Act) (o : Option Act) → o ≡ Some a → n ≡ part_number a → falls n o ≡ true
+falls_here n a o e f = rw e (grind (arith, nat_tests))
+
+falls_not : (n : ℕ) (a : Act) (o : Option Act) → o ≡ Some a → n ≢ part_number a → falls n o ≡ false
+falls_not n a o e f = rw e (other (part_number a == n) refl) where
+  other : (b : Bool) → (part_number a == n) ≡ b → (part_number a == n) ≡ false
+  other true g = absurd (f (grind (arith, nat_tests)))
+  other false g = g
+
+pub parts_in : (ms : List Move) (i : ℕ) (d : Move) (a : Act) (old new : List (Vec Move Global)) → i < length ms → AreParts (take i ms) old → (slice_index_or ms i d).act ≡ Some a
+    → HasMoreIn (part_number a) (slice_index_or ms i d) old new → AreParts (take (i + 1) ms) new
+parts_in ms i d a old new h was is more = record {
+  size = more.size ∙ was.size;
+  part = λ n v g. part_at n v g (same_or_not n (part_number a));
+}
+  where
+    part_at : (n : ℕ) (v : Vec Move Global) → slice_get new n ≡ Some v → (n ≡ part_number a) ⊎ (n ≢ part_number a) → IsPart (take (i + 1) ms) n v.items
+    part_at n v g (inl e) =
+        let o = more.own v (subst (λ k. slice_get new k ≡ Some v) e g) in
+        let p = was.part n o.0 (subst (λ k. slice_get old k ≡ Some o.0) (sym e) o.1) in
+        part_in ms n i d o.0.items v.items h p (falls_here n a (slice_index_or ms i d).act is e) o.2
+    part_at n v g (inr e) = part_out ms n i d v.items h (was.part n v (more.rest n v e g)) (falls_not n a (slice_index_or ms i d).act is e)
+
+pub parts_out : (ms : List Move) (i : ℕ) (d : Move) (parts : List (Vec Move Global)) → i < length ms → AreParts (take i ms) parts → (slice_index_or ms i d).act ≡ None → AreParts (take (i + 1) ms) parts
+parts_out ms i d parts h was is = record {
+  size = was.size;
+  part = λ n v g. part_out ms n i d v.items h (was.part n v g) (ap (falls n) is);
+}
+
+pub parts_whole : (ms : List Move) (i : ℕ) (parts : List (Vec Move Global)) → length ms ≤ i → AreParts (take i ms) parts → AreParts ms parts
+parts_whole ms i parts h was = subst (λ l. AreParts l parts) (take_all i ms h) was
+
+pub part_of : (ms : List Move) (parts : List (Vec Move Global)) (n : ℕ) (part : Vec Move Global) → AreParts ms parts → n < length parts → part ≡ slice_index_or parts n part → IsPart ms n part.items
+part_of ms parts n part are h at = are.part n part (slice_get-get_or parts n part h ∙ ap (λ (v : Vec Move Global). Some v) (sym at))
 
 -- ---- part by part
 
@@ -139,13 +226,13 @@ groups_add ms n part seen old more new was cut same found is = rw is (record {
         let p = are.covers m a (cut.complete m o (falls_into n a m.act e here)) e in
         (p.0, in_right p.0 old more p.1, p.2)
 
-number_below : (a : Act) → part_number a < 128
+pub number_below : (a : Act) → part_number a < 1024
 number_below (Send b c) = omega arith
 number_below (Recv a c) = omega arith
-number_below (Pick b l) = mod_below l.0 128 (omega arith)
-number_below (Branch a l) = mod_below l.0 128 (omega arith)
+number_below (Pick b l) = mod_below l.0 1024 (omega arith)
+number_below (Branch a l) = mod_below l.0 1024 (omega arith)
 
-pub groups_all : (ms : List Move) (n : ℕ) (gs sorted : List Group) → 128 ≤ n → GroupsSoFar ms n gs → IsPermutation gs sorted → AreGroups ms sorted
+pub groups_all : (ms : List Move) (n : ℕ) (gs sorted : List Group) → 1024 ≤ n → GroupsSoFar ms n gs → IsPermutation gs sorted → AreGroups ms sorted
 groups_all ms n gs sorted h was order = record {
   own = λ g o. was.own g (back g o);
   edges = λ g o. was.edges g (back g o);

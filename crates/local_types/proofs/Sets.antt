@@ -34,7 +34,7 @@ set_none n = record {
         let within : i < n = let e : length (replicate n 0) ≡ n = length-replicate {A = ℕ} n 0 in let b : i < length (replicate n 0) = has_within (replicate n 0) i h in omega (arith, e, b) in
         zero_or_one (slice_index_or (replicate n 0) i 0) (get_or-replicate n i 0 0 within) h
 
-same_or_not : (i j : ℕ) → (i ≡ j) ⊎ (i ≢ j)
+pub same_or_not : (i j : ℕ) → (i ≡ j) ⊎ (i ≢ j)
 same_or_not i j = go (i == j) refl where
   go : (b : Bool) → (i == j) ≡ b → (i ≡ j) ⊎ (i ≢ j)
   go true e = inl (grind (arith, nat_tests))
@@ -142,7 +142,7 @@ pub row_is : (rows : List (Vec ℕ Global)) (k : ℕ) (row : Vec ℕ Global) →
 row_is rows k row h is =
     get_or_from_slice_get (words_of rows) k row.items [] (slice_get-map (λ w. w.items) rows k ∙ ap (option_map (λ w. w.items)) (slice_get-get_or rows k row h) ∙ ap (λ w. Some w.items) (sym is))
 
-length-words : (rows : List (Vec ℕ Global)) → length (words_of rows) ≡ length rows
+pub length-words : (rows : List (Vec ℕ Global)) → length (words_of rows) ≡ length rows
 length-words [] = refl
 length-words (w ∷ ws) = ap suc (length-words ws)
 
@@ -233,7 +233,7 @@ rows_more n R old new k row len is own was = rw is (record {
 
 -- ---- one row written
 
-words-set : (rows : List (Vec ℕ Global)) (k : ℕ) (row : Vec ℕ Global) → words_of (slice_set rows k row) ≡ slice_set (words_of rows) k row.items
+pub words-set : (rows : List (Vec ℕ Global)) (k : ℕ) (row : Vec ℕ Global) → words_of (slice_set rows k row) ≡ slice_set (words_of rows) k row.items
 words-set [] k row = refl
 words-set (w ∷ ws) zero row = refl
 words-set (w ∷ ws) (suc k) row = ap (λ l. w.items ∷ l) (words-set ws k row)

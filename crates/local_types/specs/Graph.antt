@@ -1,5 +1,5 @@
 -- What a role's view is made from: where silent exchanges lead, and where the role's own acts lead.
-use Rattle.std.specs.Prelude.{ℕ, Bool, true, false, ◌%◌, ◌==◌, Option, None, ◌≡◌, ◌≢◌, ◌<◌, ◌⊎◌, List, [], ◌∷◌, map, Some, length, Vec, AllPairs}
+use Rattle.std.specs.Prelude.{ℕ, Bool, true, false, ◌%◌, ◌==◌, Option, None, ◌≡◌, ◌≢◌, ◌<◌, ◌⊎◌, List, [], ◌∷◌, ◌++◌, map, Some, length, slice_get, slice_set, Vec, AllPairs}
 use Rattle.std.specs.declared.alloc.Global.{Global}
 use Rattle.global_types.specs.Moves.{IsIn}
 use Rattle.global_types.specs.Paths.{Action}
@@ -69,8 +69,8 @@ pub record AreGroups (ms : List Move) (gs : List Group) : Type 0 where
 abbrev pub part_number : Act → ℕ
 part_number (Send b c) = 0
 part_number (Recv a c) = 0
-part_number (Pick b l) = l.0 % 128
-part_number (Branch a l) = l.0 % 128
+part_number (Pick b l) = l.0 % 1024
+part_number (Branch a l) = l.0 % 1024
 
 abbrev pub falls : ℕ → Option Act → Bool
 falls n None = false
@@ -80,6 +80,22 @@ falls n (Some a) = part_number a == n
 pub record IsPart (ms : List Move) (n : ℕ) (part : List Move) : Type 0 where
   pub sound : (m : Move) → IsIn m part → IsIn m ms × (falls n m.act ≡ true)
   pub complete : (m : Move) → IsIn m ms → falls n m.act ≡ true → IsIn m part
+
+-- there are as many lists as parts, each with the moves of its part
+pub record AreParts (ms : List Move) (parts : List (Vec Move Global)) : Type 0 where
+  pub size : length parts ≡ 1024
+  pub part : (n : ℕ) (part : Vec Move Global) → slice_get parts n ≡ Some part → IsPart ms n part.items
+
+-- the move comes last in list k, and the other lists stay
+pub record HasMoreIn (k : ℕ) (m : Move) (old new : List (Vec Move Global)) : Type 0 where
+  pub size : length new ≡ length old
+  pub own : (v : Vec Move Global) → slice_get new k ≡ Some v → (u : Vec Move Global) × (slice_get old k ≡ Some u) × (v.items ≡ u.items ++ m ∷ [])
+  pub rest : (n : ℕ) (v : Vec Move Global) → n ≢ k → slice_get new n ≡ Some v → slice_get old n ≡ Some v
+
+-- as many lists as parts, with nothing in them
+pub record AreEmptyParts (parts : List (Vec Move Global)) : Type 0 where
+  pub size : length parts ≡ 1024
+  pub empty : (n : ℕ) (v : Vec Move Global) → slice_get parts n ≡ Some v → v.items ≡ []
 
 -- both states of each edge are among the first n
 abbrev pub AreInside : ℕ → List Group → Type 0
@@ -95,6 +111,12 @@ AreWithin n ms = (m : Move) → IsIn m ms → (m.from < n) × (m.to < n)
 pub record AreRowsFor (n : ℕ) (R : ℕ → ℕ → Type 0) (rows : List (Vec ℕ Global)) : Type 0 where
   pub size : length rows ≡ n
   pub row : (i : ℕ) → i < n → IsSetFor n (R i) (row_at rows i)
+
+-- state s comes into row k, and the other rows stay
+pub record IsPutIn (k s : ℕ) (old new : List (Vec ℕ Global)) : Type 0 where
+  pub size : length new ≡ length old
+  pub own : row_at new k ≡ slice_set (row_at old k) s 1
+  pub rest : (i : ℕ) → i ≢ k → row_at new i ≡ row_at old i
 
 -- what leads to state s leads in the new rows to all that s leads to
 pub record IsThrough (n s : ℕ) (old new : List (Vec ℕ Global)) : Type 0 where

@@ -6,3 +6,4 @@ pub mod Moves
 pub mod Graph
 pub mod Table
 pub mod States
+pub mod Starts

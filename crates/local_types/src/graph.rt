@@ -6,7 +6,7 @@ ghost use Rattle.local_types.specs.Moves.{action_of, actions_in};
 ghost use Rattle.local_types.specs.Reading.{Ascend};
 ghost use Rattle.local_types.specs.Table.{group_words};
 ghost use Rattle.local_types.specs.Sets.{Has, row_at, IsSetFor};
-ghost use Rattle.local_types.specs.Graph.{HasMove, IsSilentPath, GoesSilently, Knows, AreApart, AreEdges, AreActsOf, AreGroups, part_number, falls, IsPart, AreWithin, AreRowsFor, IsThrough};
+ghost use Rattle.local_types.specs.Graph.{HasMove, IsSilentPath, GoesSilently, Knows, AreApart, AreEdges, AreActsOf, AreGroups, part_number, AreParts, AreEmptyParts, HasMoreIn, AreWithin, AreRowsFor, IsPutIn, IsThrough};
 
 use crate::act::{Act, by_label, same_act};
 use crate::marks::{has, no_marks, put, put_all};
@@ -30,16 +30,16 @@ pub struct Group {
 
 // Into how many parts moves are cut, by the numbers of their labels. An act is compared with those of
 // its part alone, which are few also where no two exchanges have the same label.
-const PARTS: u32 = 128;
+const PARTS: u32 = 1024;
 
 // The acts of a role, by ascending labels.
 pub fn groups(alloc: Global, moves: &[Move], names: &Names) -> Result<Vec<Group>, Memory>
     ensures are { IfOk result (λ v. AreGroups moves.now v.items) }
     ensures ascend { IfOk result (λ v. Ascend (group_words names.now v.items)) }
 {
+    let parts = parts(alloc, moves)?;
     let mut groups = Vec::new(alloc);
-    for number in 0..PARTS {
-        let part = part(alloc, moves, number)?;
+    for part in parts.as_slice() {
         let mut more = groups_in(alloc, part.as_slice())?;
         groups.append(&mut more)?;
     }
@@ -47,27 +47,40 @@ pub fn groups(alloc: Global, moves: &[Move], names: &Names) -> Result<Vec<Group>
     Ok(groups)
 }
 
-// The moves whose acts fall into a part.
-fn part(alloc: Global, moves: &[Move], number: u32) -> Result<Vec<Move>, Memory>
-    ensures { IfOk result (λ v. IsPart moves.now number v.items) }
+// The moves in which the role acts, cut into parts.
+fn parts(alloc: Global, moves: &[Move]) -> Result<Vec<Vec<Move>>, Memory>
+    ensures { IfOk result (λ v. AreParts moves.now v.items) }
 {
-    let mut part = Vec::new(alloc);
+    let mut parts = no_parts(alloc)?;
     for item in moves {
-        if falls(item, number) {
-            part.push(*item)?;
+        match &item.act {
+            Some(act) => add_to_part(&mut parts, part_number(act) as usize, *item)?,
+            None => {}
         }
     }
-    Ok(part)
+    Ok(parts)
 }
 
-// Whether the act of a move falls into a part. Where the role doesn't act, it falls into none.
-fn falls(item: &Move, number: u32) -> bool
-    ensures { result ≡ falls number item.now.act }
+// As many lists as there are parts, with nothing in them.
+fn no_parts(alloc: Global) -> Result<Vec<Vec<Move>>, Memory>
+    ensures { IfOk result (λ v. AreEmptyParts v.items) }
 {
-    match &item.act {
-        Some(act) => part_number(act) == number,
-        None => false,
+    let mut parts = Vec::new(alloc);
+    for _ in 0..PARTS {
+        let part = Vec::new(alloc);
+        parts.push(part)?;
     }
+    Ok(parts)
+}
+
+// A move comes into a part.
+fn add_to_part(parts: &mut Vec<Vec<Move>>, number: usize, item: Move) -> Result<(), Memory>
+    requires { number < length parts.old.items }
+    ensures { OnOk result (HasMoreIn number item parts.old.items parts.new.items) }
+{
+    let part = &mut parts[number];
+    part.push(item)?;
+    Ok(())
 }
 
 // The part into which an act falls.
@@ -182,35 +195,51 @@ fn direct(alloc: Global, count: usize, moves: &[Move]) -> Result<Vec<Vec<u8>>, M
     requires { AreWithin count moves.now }
     ensures { IfOk result (λ v. AreRowsFor count (λ i j. (i ≡ j) ⊎ HasMove moves.now i [] j) v.items) }
 {
-    let mut rows = Vec::new(alloc);
-    for state in 0..count {
-        rows.push(direct_row(alloc, count, moves, state)?)?;
+    let mut rows = alone(alloc, count)?;
+    for item in moves {
+        if is_silent(item) {
+            put_in_row(&mut rows, item.from as usize, item.to as usize);
+        }
     }
     Ok(rows)
 }
 
-fn direct_row(alloc: Global, count: usize, moves: &[Move], state: usize) -> Result<Vec<u8>, Memory>
-    requires within { AreWithin count moves.now }
-    requires state { state < count }
-    ensures { IfOk result (λ v. IsSetFor count (λ j. (state ≡ j) ⊎ HasMove moves.now state [] j) v.items) }
+// For each state itself.
+fn alone(alloc: Global, count: usize) -> Result<Vec<Vec<u8>>, Memory>
+    ensures { IfOk result (λ v. AreRowsFor count (λ i j. i ≡ j) v.items) }
+{
+    let mut rows = Vec::new(alloc);
+    for state in 0..count {
+        rows.push(own_row(alloc, count, state)?)?;
+    }
+    Ok(rows)
+}
+
+fn own_row(alloc: Global, count: usize, state: usize) -> Result<Vec<u8>, Memory>
+    requires { state < count }
+    ensures { IfOk result (λ v. IsSetFor count (λ j. state ≡ j) v.items) }
 {
     let mut row = no_marks(alloc, count)?;
     put(&mut row, state);
-    for item in moves {
-        if is_silent_from(item, state) {
-            put(&mut row, item.to as usize);
-        }
-    }
     Ok(row)
 }
 
-// Whether a move leads from a state and isn't the role's.
-fn is_silent_from(item: &Move, state: usize) -> bool
-    ensures { IsTrue result ↔ ((item.now.from ≡ state) × (actions_in item.now.act ≡ [])) }
+// A state comes into a row.
+fn put_in_row(rows: &mut Vec<Vec<u8>>, number: usize, state: usize)
+    requires { number < length rows.old.items }
+    ensures { IsPutIn number state rows.old.items rows.new.items }
+{
+    let row = &mut rows[number];
+    put(row, state);
+}
+
+// Whether a move isn't the role's.
+fn is_silent(item: &Move) -> bool
+    ensures { IsTrue result ↔ (actions_in item.now.act ≡ []) }
 {
     match &item.act {
         Some(_) => false,
-        None => item.from as usize == state,
+        None => true,
     }
 }
 

@@ -9,6 +9,7 @@ mod local_type;
 mod marks;
 mod moves;
 mod print;
+mod starts;
 mod table;
 mod view;
 

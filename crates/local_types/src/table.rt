@@ -1,6 +1,7 @@
 //! The sets of states that a role can't tell apart, each once, in the order in which they are found.
 
 ghost use Rattle.std.specs.Prelude.{◌≡◌, ◌<◌, ◌≤◌, ◌⊎◌, ℕ, List, IfOk, OnOk, MatchBool, MatchOption, Some, length, slice_get};
+ghost use Rattle.std.specs.List.Sorted.{IsNonDecreasing};
 ghost use Rattle.chor_base.specs.declared.names.NameId.{NameId};
 ghost use Rattle.chor_base.specs.Words.{AllDistinct};
 ghost use Rattle.chor_tree.specs.declared.protocol.State.{State};
@@ -9,10 +10,12 @@ ghost use Rattle.local_types.specs.Sets.{Has, row_at, IsSetFor};
 ghost use Rattle.local_types.specs.Graph.{AreRowsFor, AreInside};
 ghost use Rattle.local_types.specs.Table.{Silent, AreActs, HasGrown, AreArms, nexts, Counts, group_words, arm_words, HasAscendingArms, AreTooMany, IsWhole};
 ghost use Rattle.local_types.specs.Reading.{Ascend};
+ghost use Rattle.local_types.specs.Starts.{HaveAllowed};
 
 use crate::act::Act;
 use crate::graph::{Edge, Group};
 use crate::marks::{has, no_marks, put, union};
+use crate::starts::{candidates, starts};
 use chor_base::{Memory, Texts};
 use std::alloc::Global;
 
@@ -46,10 +49,18 @@ pub fn rows(alloc: Global, groups: &[Group], reach: &[Vec<u8>]) -> Result<Option
     put(&mut first, 0);
     let mut sets = Texts::new(alloc);
     sets.intern(first.as_slice())?;
+    let starts = starts(alloc, reach.len(), groups)?;
     let mut rows = Vec::new(alloc);
     while rows.len() < sets.len() {
         let still = union(alloc, sets.at(rows.len() as u32), reach)?;
-        match arms(alloc, groups, still.as_slice(), &mut sets)? {
+        let numbers = candidates(alloc, still.as_slice(), starts.as_slice(), groups)?;
+        match arms(
+            alloc,
+            groups,
+            numbers.as_slice(),
+            still.as_slice(),
+            &mut sets,
+        )? {
             Some(arms) => rows.push(Row { still, arms })?,
             None => return Ok(None),
         }
@@ -57,17 +68,20 @@ pub fn rows(alloc: Global, groups: &[Group], reach: &[Vec<u8>]) -> Result<Option
     Ok(Some(rows))
 }
 
-// The acts that these states allow, each with the set after it. There are none where a set comes in
-// that is too many.
+// The acts that these states allow, which are among those of the groups with these numbers, each with
+// the set after it. There are none where a set comes in that is too many.
 fn arms(
     alloc: Global,
     groups: &[Group],
+    numbers: &[usize],
     still: &[u8],
     sets: &mut Texts,
 ) -> Result<Option<Vec<Arm>>, Memory>
     requires inside { AreInside (length still.now) groups.now }
     requires few { length sets.old ≤ 1024 }
     requires distinct { AllDistinct sets.old }
+    requires rising { IsNonDecreasing numbers.now }
+    requires allowed { HaveAllowed groups.now still.now numbers.now }
     ensures distinct { AllDistinct sets.new }
     ensures longer { OnOk result (length sets.old ≤ length sets.new) }
     ensures sizes { OnOk result ((k : ℕ) (v : List ℕ) → slice_get sets.new k ≡ Some v → (slice_get sets.old k ≡ Some v) ⊎ (length v ≡ length still.now)) }
@@ -78,17 +92,22 @@ fn arms(
     ensures arms { IfOk result (λ o. (ss : List State) (r : NameId) → AreActs ss r groups.now → MatchOption o (Unit {0}) (λ v. AreArms ss r (length still.now) sets.new still.now v.items)) }
 {
     let mut arms = Vec::new(alloc);
-    for group in groups {
-        if is_allowed(still, group.edges.as_slice()) {
-            let after = targets(alloc, still, group.edges.as_slice())?;
-            let next = sets.intern(after.as_slice())?;
-            if sets.len() > MOST {
-                return Ok(None);
+    let mut place = 0;
+    for &number in numbers {
+        if place <= number && number < groups.len() {
+            place = number + 1;
+            let group = &groups[number];
+            if is_allowed(still, group.edges.as_slice()) {
+                let after = targets(alloc, still, group.edges.as_slice())?;
+                let next = sets.intern(after.as_slice())?;
+                if sets.len() > MOST {
+                    return Ok(None);
+                }
+                arms.push(Arm {
+                    act: group.act,
+                    next,
+                })?;
             }
-            arms.push(Arm {
-                act: group.act,
-                next,
-            })?;
         }
     }
     Ok(Some(arms))

@@ -1,11 +1,6 @@
-use Rattle.std.proofs.Common.{ℕ, ◌≡◌, ◌<◌, length, []}
-use Rattle.std.specs.Prelude.{◌⊎◌}
-use Rattle.local_types.specs.Sets.{IsSetFor, row_at}
-use Rattle.local_types.specs.Graph.{HasMove}
+use Rattle.std.proofs.Common.{take}
+use Rattle.local_types.proofs.Direct.{AreDirect}
 use Rattle.local_types.proofs.graph.direct.Given as goal
 
-abbrev pub invariant-loop-state : goal.invariant-loop-state
-invariant-loop-state l = record {
-  size : length l.rows.items ≡ l.state;
-  row : (i : ℕ) → i < l.state → IsSetFor l.count (λ j. (i ≡ j) ⊎ HasMove l.moves i [] j) (row_at l.rows.items i);
-}
+abbrev pub invariant-loop-item : goal.invariant-loop-item
+invariant-loop-item l = AreDirect l.count (take l.item-index l.moves) l.rows.items

@@ -9,6 +9,8 @@ use Rattle.local_types.proofs.table.rows.Goals as goal
 use Rattle.std.proofs.lemmas.Option.{MatchOption-at_some, MatchOption-at_none}
 use Rattle.chor_base.specs.Words.{with_word}
 use Rattle.local_types.specs.Graph.{AreInside}
+use Rattle.local_types.specs.Starts.{AreStarts, HaveAllowed}
+use Rattle.std.specs.List.Sorted.{IsNonDecreasing}
 
 pub loop-alloc-init : goal.loop-alloc-init
 loop-alloc-init c = rows_begin c.args.groups.now c.args.reach.now c.in_ok-first.first.items c.as_slice.result.now c.intern.new.self c.new-rows.result.items c.requires.first c.in_ok-first.ensures (c.as_slice.ensures.value ∙ c.put.ensures)
@@ -18,20 +20,32 @@ pub arms-requires-clause-inside : goal.arms-requires-clause-inside
 arms-requires-clause-inside c =
     let at : slice_get c.loop-alloc.sets (length c.loop-alloc.rows.items) ≡ Some c.at.result.now = ap (λ n. slice_get c.loop-alloc.sets n) (sym (c.len-in-loop-alloc-2.ensures ∙ c.loop-alloc.rows.ok.0)) ∙ c.at.ensures in
     let still = c.in_ok-still.ensures in
-    let size : length c.as_slice-in-loop-alloc.result.now ≡ length c.args.reach.now = ap (λ (l : List ℕ). length l) c.as_slice-in-loop-alloc.ensures.value ∙ still.size ∙ c.loop-alloc.invariant.sizes (length c.loop-alloc.rows.items) c.at.result.now at in
+    let size : length c.as_slice-in-loop-alloc-4.result.now ≡ length c.args.reach.now = ap (λ (l : List ℕ). length l) c.as_slice-in-loop-alloc-4.ensures.value ∙ still.size ∙ c.loop-alloc.invariant.sizes (length c.loop-alloc.rows.items) c.at.result.now at in
     subst (λ n. AreInside n c.args.groups.now) (sym size) c.requires.inside
+
+pub candidates-requires : goal.candidates-requires
+candidates-requires c = subst (λ l. AreStarts c.args.groups.now l) (sym c.as_slice-in-loop-alloc-2.ensures.value) c.in_ok-starts.ensures
+
+pub arms-requires-clause-rising : goal.arms-requires-clause-rising
+arms-requires-clause-rising c = let P : List ℕ → Type 0 = λ l. IsNonDecreasing l in subst P (sym c.as_slice-in-loop-alloc-3.ensures.value) c.in_ok-numbers.ensures.rising
+
+pub arms-requires-clause-allowed : goal.arms-requires-clause-allowed
+arms-requires-clause-allowed c =
+    let same : c.as_slice-in-loop-alloc.result.now ≡ c.as_slice-in-loop-alloc-4.result.now = c.as_slice-in-loop-alloc.ensures.value ∙ sym c.as_slice-in-loop-alloc-4.ensures.value in
+    subst (λ l. HaveAllowed c.args.groups.now l c.as_slice-in-loop-alloc-3.result.now) same
+    (subst (λ l. HaveAllowed c.args.groups.now c.as_slice-in-loop-alloc.result.now l) (sym c.as_slice-in-loop-alloc-3.ensures.value) c.in_ok-numbers.ensures.allowed)
 
 pub loop-alloc-preserved : goal.loop-alloc-preserved
 loop-alloc-preserved c =
     let at : slice_get c.loop-alloc.sets (length c.loop-alloc.rows.items) ≡ Some c.at.result.now = ap (λ n. slice_get c.loop-alloc.sets n) (sym (c.len-in-loop-alloc-2.ensures ∙ c.loop-alloc.rows.ok.0)) ∙ c.at.ensures in
     let new = c.arms.new.sets in
     let sets = c.loop-alloc.sets in
-    let value = c.as_slice-in-loop-alloc.ensures.value in
+    let value = c.as_slice-in-loop-alloc-4.ensures.value in
     let few : length new ≤ 1024 = MatchOption-at_some (length new ≡ 1025) (λ v. length new ≤ 1024) c.in-Some.arms c.in-Some.is c.in_ok-arms.ensures.count in
     rows_in c.args.groups.now c.args.reach.now sets new c.loop-alloc.rows.items c.push.new.self.items c.at.result.now _ c.loop-alloc.invariant at c.in_ok-still.ensures c.in_ok-arms.ensures.distinct few c.in_ok-arms.ensures.longer
     (subst (λ (l : List ℕ). (k : ℕ) (v : List ℕ) → slice_get new k ≡ Some v → (slice_get sets k ≡ Some v) ⊎ (length v ≡ length l)) value c.in_ok-arms.ensures.sizes)
     (subst (λ (l : List ℕ). (ss : List State) (r : NameId) → AreActs ss r c.args.groups.now → HasGrown ss r (length l) l sets new) value c.in_ok-arms.ensures.grown)
-    (λ ss r acts. subst (λ (l : List ℕ). AreArms ss r (length l) new l c.in-Some.arms.items) value (MatchOption-at_some (Unit {0}) (λ v. AreArms ss r (length c.as_slice-in-loop-alloc.result.now) new c.as_slice-in-loop-alloc.result.now v.items) c.in-Some.arms c.in-Some.is (c.in_ok-arms.ensures.arms ss r acts)))
+    (λ ss r acts. subst (λ (l : List ℕ). AreArms ss r (length l) new l c.in-Some.arms.items) value (MatchOption-at_some (Unit {0}) (λ v. AreArms ss r (length c.as_slice-in-loop-alloc-4.result.now) new c.as_slice-in-loop-alloc-4.result.now v.items) c.in-Some.arms c.in-Some.is (c.in_ok-arms.ensures.arms ss r acts)))
     (MatchOption-at_some (Unit {0}) (λ v. Counts (length sets) (nexts v.items) (length new)) c.in-Some.arms c.in-Some.is c.in_ok-arms.ensures.numbered)
     (MatchOption-at_some (Unit {0}) (λ v. (names : List (List ℕ)) → Ascend (group_words names c.args.groups.now) → Ascend (arm_words names v.items)) c.in-Some.arms c.in-Some.is c.in_ok-arms.ensures.ascend)
     c.in_ok-push-in-Some.ensures.items
@@ -42,7 +56,7 @@ returns-in-None-clause-table c =
     let new = c.arms.new.sets in
     let many : length new ≡ 1025 = MatchOption-at_none (length new ≡ 1025) (λ v. length new ≤ 1024) c.in-None.is c.in_ok-arms.ensures.count in
     rows_over c.args.groups.now c.args.reach.now c.loop-alloc.sets new c.loop-alloc.rows.items c.at.result.now c.in_ok-still.still.items c.loop-alloc.invariant at c.in_ok-still.ensures c.in_ok-arms.ensures.distinct many
-    (subst (λ (l : List ℕ). (ss : List State) (r : NameId) → AreActs ss r c.args.groups.now → HasGrown ss r (length l) l c.loop-alloc.sets new) c.as_slice-in-loop-alloc.ensures.value c.in_ok-arms.ensures.grown)
+    (subst (λ (l : List ℕ). (ss : List State) (r : NameId) → AreActs ss r c.args.groups.now → HasGrown ss r (length l) l c.loop-alloc.sets new) c.as_slice-in-loop-alloc-4.ensures.value c.in_ok-arms.ensures.grown)
 
 pub returns-clause-ascend : goal.returns-clause-ascend
 returns-clause-ascend c = c.loop-alloc.invariant.ascend
