@@ -3,3 +3,4 @@ pub mod Scopes
 pub mod Goings
 pub mod Makings
 pub mod Actings
+pub mod Apart

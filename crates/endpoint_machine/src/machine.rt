@@ -5,7 +5,7 @@ ghost use Rattle.std.specs.Option.{option_copied};
 ghost use Rattle.std.specs.FinMap as fin;
 ghost use Rattle.chor_host.specs.Functions.{hosts_in, names_of};
 ghost use Rattle.chor_host.specs.Tables.{functions_of};
-ghost use Rattle.endpoint_code.specs.Faults.{IsFaultless, IsFaultlessWith};
+ghost use Rattle.endpoint_code.specs.Faults.{AreApart, IsFaultless, IsFaultlessWith};
 ghost use Rattle.endpoint_code.specs.Network.{node_at, procedure_of};
 ghost use Rattle.endpoint_machine.specs.Bound.{IsBound};
 ghost use Rattle.endpoint_machine.specs.Heads.{head_of, is_out, is_join};
@@ -35,6 +35,8 @@ pub struct Machine {
     pub(crate) sessions: Bindings,
     // Room for the sessions beyond a call.
     pub(crate) beyond: Bindings,
+    // Where the procedure stands that the process calls here, or has called last.
+    called: usize,
 }
 
 impl Model for Machine {
@@ -75,6 +77,38 @@ fn procedure_named(procedures: &[Procedure], name: NameId, param: NameId) -> Opt
     None
 }
 
+// The same where it may well stand at this place.
+fn procedure_at(
+    procedures: &[Procedure],
+    place: usize,
+    name: NameId,
+    param: NameId,
+) -> Option<&Procedure>
+    requires { AreApart procedures.now }
+    ensures { option_copied result ≡ procedure_of procedures.now name param }
+{
+    match procedures.get(place) {
+        Some(procedure) if procedure.name == name && procedure.param == param => Some(procedure),
+        _ => procedure_named(procedures, name, param),
+    }
+}
+
+// The place of the code of a procedure for a parameter, not before another place.
+fn place_from(
+    procedures: &[Procedure],
+    first: usize,
+    name: NameId,
+    param: NameId,
+) -> Option<usize> {
+    for place in first..procedures.len() {
+        let procedure = &procedures[place];
+        if procedure.name == name && procedure.param == param {
+            return Some(place);
+        }
+    }
+    None
+}
+
 impl Machine {
     // The node at which the process stands, through at most one call.
     fn place<'e>(&self, endpoints: &'e Endpoints) -> Place<'e>
@@ -88,7 +122,8 @@ impl Machine {
         let CodeNode::Call(name, param, names) = node else {
             return Place { node, call: None };
         };
-        let Some(procedure) = procedure_named(endpoints.procedures.as_slice(), *name, *param) else {
+        let procedures = endpoints.procedures.as_slice();
+        let Some(procedure) = procedure_at(procedures, self.called, *name, *param) else {
             unreachable!()
         };
         let call = Passing {
@@ -130,6 +165,26 @@ impl Machine {
         }
     }
 
+    // Where the process stands at a call now, notes the place of the procedure, which most often
+    // comes after the one that it called before.
+    fn look_ahead(&mut self, endpoints: &Endpoints)
+        ensures { self.new ≡ self.old }
+    {
+        let procedures = endpoints.procedures.as_slice();
+        let Some(CodeNode::Call(name, param, _)) = endpoints
+            .code
+            .nodes
+            .as_slice()
+            .get(self.at.0 as usize)
+        else {
+            return;
+        };
+        let place = place_from(procedures, self.called, *name, *param);
+        if let Some(place) = place.or(place_from(procedures, 0, *name, *param)) {
+            self.called = place;
+        }
+    }
+
     /// A process at a body, with no variable set and at most one session.
     pub fn new(
         alloc: Global,
@@ -151,6 +206,7 @@ impl Machine {
             vars: Vars::new(alloc),
             sessions,
             beyond: Bindings::new(alloc),
+            called: 0,
         })
     }
 
@@ -214,6 +270,7 @@ impl Machine {
         let place = self.place(endpoints);
         self.enter(place.call);
         self.send_at(place.node);
+        self.look_ahead(endpoints);
     }
 
     /// Whether the process takes a load next. It takes no memory.
@@ -240,6 +297,7 @@ impl Machine {
         let place = self.place(endpoints);
         self.enter(place.call);
         self.take_at(place.node, load);
+        self.look_ahead(endpoints);
     }
 
     /// Joins a session of the channel and in the role of the head. It takes no memory.
@@ -255,6 +313,7 @@ impl Machine {
         let place = self.place(endpoints);
         self.enter(place.call);
         self.join_at(place.node, sid);
+        self.look_ahead(endpoints);
     }
 
     /// Sets a variable, shows a value, decides or asks a host function, and tells the event. It
@@ -273,6 +332,7 @@ impl Machine {
         let event = self.event_at(place.node, answer);
         self.enter(place.call);
         self.act_at(place.node, answer);
+        self.look_ahead(endpoints);
         event
     }
 
