@@ -37,9 +37,8 @@ fn is_limit(
 }
 
 #[test]
-fn limits_of_lists(rt: HostRuntime) -> Result<(), Fail> {
+fn limits_of_protocols_and_services(rt: HostRuntime) -> Result<(), Fail> {
     let alloc = rt.alloc();
-    assert!(rt; is_limit(alloc, [b"main (p", b", p", b") { end }"], 63, Rule::P3, 199)?);
     assert!(rt;
         is_limit(
             alloc,
@@ -80,6 +79,12 @@ fn limits_of_lists(rt: HostRuntime) -> Result<(), Fail> {
             671
         )?
     );
+    Ok(())
+}
+
+#[test]
+fn limits_of_procedures(rt: HostRuntime) -> Result<(), Fail> {
+    let alloc = rt.alloc();
     assert!(rt;
         is_limit(
             alloc,
@@ -115,6 +120,13 @@ fn limits_of_lists(rt: HostRuntime) -> Result<(), Fail> {
             155
         )?
     );
+    Ok(())
+}
+
+#[test]
+fn limits_of_bodies(rt: HostRuntime) -> Result<(), Fail> {
+    let alloc = rt.alloc();
+    assert!(rt; is_limit(alloc, [b"main (p", b", p", b") { end }"], 63, Rule::P3, 199)?);
     // The 1,025th on the path is the tail.
     assert!(rt;
         is_limit(
