@@ -1,0 +1,22 @@
+-- What a process of a service role knows.
+use Rattle.std.proofs.Common.{◌≡◌, ℕ, ◌<◌, true, List, [], ◌∷◌, length, slice_index_or, Some, sym, subst}
+use Rattle.std.specs.Prelude.{All}
+use Rattle.std.specs.FinMap as fin
+use Rattle.endpoint_code.specs.declared.endpoints.ServiceCode.{ServiceCode}
+use Rattle.endpoint_code.specs.declared.endpoints.Endpoints.{Endpoints}
+use Rattle.endpoint_code.specs.Faults.{IsScoped}
+use Rattle.endpoint_machine.specs.declared.sessions.Binding.{Binding}
+use Rattle.endpoint_machine.specs.Bound.{IsBound, AreBound}
+use Rattle.endpoint_machine.specs.Steps.{begins}
+use Rattle.endpoint_machine.proofs.Scopes.{bound_put}
+
+none_bound : AreBound fin.empty []
+none_bound k h = absurd cc
+
+-- it knows its session
+pub serves : (e : Endpoints) (ss : List ServiceCode) (i : ℕ) (d : ServiceCode) (sid : ℕ) → ss ≡ e.services → i < length ss → All (λ s. IsScoped e s.body (s.channel ∷ [])) e.services
+    → IsBound e (begins (slice_index_or ss i d).body (Some (record { session = (slice_index_or ss i d).channel; sid = sid; role = (slice_index_or ss i d).role })))
+serves e ss i d sid same lt all =
+    let s : ServiceCode = slice_index_or ss i d in
+    let here : All (λ x. IsScoped e x.body (x.channel ∷ [])) ss = subst (λ (xs : List ServiceCode). All (λ x. IsScoped e x.body (x.channel ∷ [])) xs) (sym same) all in
+    record { names = s.channel ∷ []; scoped = here i d lt; bound = bound_put fin.empty [] s.channel (sid, s.role) none_bound }
