@@ -1,11 +1,10 @@
 -- What a process of a service role knows.
-use Rattle.std.proofs.Common.{◌≡◌, ℕ, ◌<◌, true, List, [], ◌∷◌, length, slice_index_or, Some, sym, subst}
+use Rattle.std.proofs.Common.{◌≡◌, ℕ, ◌<◌, List, [], ◌∷◌, length, slice_index_or, Some, sym, subst}
 use Rattle.std.specs.Prelude.{All}
 use Rattle.std.specs.FinMap as fin
 use Rattle.endpoint_code.specs.declared.endpoints.ServiceCode.{ServiceCode}
 use Rattle.endpoint_code.specs.declared.endpoints.Endpoints.{Endpoints}
 use Rattle.endpoint_code.specs.Faults.{IsScoped}
-use Rattle.endpoint_machine.specs.declared.sessions.Binding.{Binding}
 use Rattle.endpoint_machine.specs.Bound.{IsBound, AreBound}
 use Rattle.endpoint_machine.specs.Steps.{begins}
 use Rattle.endpoint_machine.proofs.Scopes.{bound_put}

@@ -1,5 +1,5 @@
-//! Tests of the single calls of one process, by public calls alone. They say what no clause says: that the calls succeed where
-//! there is memory, and answer what was worked out by hand.
+//! Tests of the single calls of one process and of a network, by public calls alone. They say what no clause says: that the
+//! calls succeed where there is memory, and that those of a process answer what was worked out by hand.
 #![tactic(auto)]
 
 #[cfg(test)]
@@ -10,3 +10,7 @@ mod actors;
 mod deeds;
 #[cfg(test)]
 mod programs;
+#[cfg(test)]
+mod scheduled;
+#[cfg(test)]
+mod steps;

@@ -1,4 +1,4 @@
-use Rattle.std.proofs.Common.{ℕ, List, ap, subst}
+use Rattle.std.proofs.Common.{List, subst}
 use Rattle.chor_host.specs.Functions.{Function, names_of}
 use Rattle.chor_host.specs.Tables.{functions_of}
 use Rattle.endpoint_code.specs.Faults.{AsksKnown, is_listed}
