@@ -1,12 +1,20 @@
 -- Lists of processes after one of them has changed.
 use Rattle.std.proofs.Common.{◌≡◌, ℕ, ◌==◌, ◌&&◌, Bool, true, false, cond, List, [], refl, sym, ap, ◌∙◌, Option, Some, None, arith, if◌then◌else◌}
 use Rattle.std.proofs.lemmas.Bool.Decides.{nat_tests}
-use Rattle.std.specs.Map.{lookup}
+use Rattle.std.specs.Map.{lookup, lookup_key}
+use Rattle.std.specs.Prelude.{slice_get}
+use Rattle.std.specs.Option.{option_map}
+use Rattle.std.proofs.lemmas.Option.{slice_get-map}
+use Rattle.std.proofs.lemmas.Map.Entries.{hash_map_get_place}
+use Rattle.std.specs.Cmp.{IsEquivalence}
+use Rattle.std.proofs.lemmas.Map.Made.{lookup_key_passes}
+use Rattle.indexmap.specs.IndexMap.{IndexMap, IsUnique, values, with_value_at}
+use Rattle.indexmap.proofs.CallerLemmas.{updates-with_value_at}
 use Rattle.waiting_processes.specs.declared.waits.Awaited.{Awaited}
 use Rattle.waiting_processes.specs.declared.waits.Awaited.TheVariants.{Queue, Channel}
 use Rattle.waiting_processes.specs.contracts.waits.AwaitedPartialEq.TheImpl as awaited
 use Rattle.chor_base.specs.declared.names.NameId.{NameId}
-use Rattle.waiting_processes.specs.Lists.{same_awaited, list_of}
+use Rattle.waiting_processes.specs.Lists.{same_awaited, list_of, StandsAt}
 
 abbrev Entries : Type 0
 Entries = List (Awaited × List ℕ)
@@ -15,7 +23,7 @@ Entries = List (Awaited × List ℕ)
 abbrev eq_of : Awaited → Awaited → Bool
 eq_of = awaited.ghosts.eq
 
-alike : (v w : Awaited) → eq_of v w ≡ same_awaited v w
+pub alike : (v w : Awaited) → eq_of v w ≡ same_awaited v w
 alike (Queue s a b) (Queue t c d) = refl
 alike (Channel c) (Channel d) = refl
 alike (Queue s a b) (Channel d) = refl
@@ -82,3 +90,36 @@ becomes old new w ps qs is h v = other_list old new w (Some ps) h v ∙ ap (λ (
 -- the list that was found
 pub found_list : (es : Entries) (w : Awaited) (ps : List ℕ) → Some ps ≡ lookup (eq_of w) es → ps ≡ list_of (lookup (same_awaited w) es)
 found_list es w ps h = ap list_of (h ∙ look_up es w)
+
+-- ---- a list whose place is known
+
+eq_laws : IsEquivalence eq_of
+eq_laws = record { refl = λ x. alike x x ∙ same_itself x; symm = λ x y. symm x y (eq_of x y) (eq_of y x) refl refl; congr = λ x y z h. ap (λ (u : Awaited). eq_of u z) (same x y h) }
+  where
+    same : (x y : Awaited) → eq_of x y ≡ true → x ≡ y
+    same x y h = is_same x y (sym (alike x y) ∙ h)
+
+    symm : (x y : Awaited) (a b : Bool) → eq_of x y ≡ a → eq_of y x ≡ b → eq_of x y ≡ eq_of y x
+    symm x y true b i j = ap (λ (u : Awaited). eq_of u y) (same x y i) ∙ ap (λ (u : Awaited). eq_of y u) (sym (same x y i))
+    symm x y false true i j = ap (λ (u : Awaited). eq_of u y) (sym (same y x j)) ∙ ap (λ (u : Awaited). eq_of y u) (same y x j)
+    symm x y false false i j = i ∙ sym j
+
+-- the key that a look-up finds is the same
+pub found_same : (es : Entries) (w k : Awaited) → Some k ≡ lookup_key (eq_of w) es → same_awaited w k ≡ true
+found_same es w k h = sym (alike w k) ∙ lookup_key_passes (eq_of w) es k (sym h)
+
+-- the list at such a place is the one of those that wait for this
+pub listed_at : {S : Type 0} (m : IndexMap Awaited (List ℕ) S) (w : Awaited) (i : ℕ) (ps : List ℕ) → IsUnique eq_of m → StandsAt m.entries w i → Some ps ≡ slice_get (values m) i → ps ≡ list_of (lookup (same_awaited w) m.entries)
+listed_at m w i ps unique s there =
+    let same : w ≡ s.0 = is_same w s.0 s.3 in
+    let both : Some ps ≡ Some s.1 = there ∙ slice_get-map (λ (e : Awaited × List ℕ). e.1) m.entries i ∙ ap (option_map (λ (e : Awaited × List ℕ). e.1)) s.2 in
+    let is : ps ≡ s.1 = cc in
+    is ∙ ap list_of (sym (hash_map_get_place eq_laws m i s.0 s.1 unique s.2) ∙ look_up m.entries s.0 ∙ ap (λ (u : Awaited). lookup (same_awaited u) m.entries) (sym same))
+
+-- it becomes another, and the others stay
+pub becomes_at : {S : Type 0} (m : IndexMap Awaited (List ℕ) S) (w : Awaited) (i : ℕ) (ps qs : List ℕ) → IsUnique eq_of m → StandsAt m.entries w i → ps ≡ qs
+    → (v : Awaited) → list_of (lookup (same_awaited v) (with_value_at m i ps).entries) ≡ (if same_awaited w v then qs else list_of (lookup (same_awaited v) m.entries))
+becomes_at m w i ps qs unique s is v =
+    let same : w ≡ s.0 = is_same w s.0 s.3 in
+    becomes m.entries (with_value_at m i ps).entries s.0 ps qs is ((updates-with_value_at m i ps eq_laws unique s.0 s.1 s.2).0) v
+    ∙ ap (λ (u : Awaited). if same_awaited u v then qs else list_of (lookup (same_awaited v) m.entries)) (sym same)

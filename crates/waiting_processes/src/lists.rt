@@ -2,8 +2,9 @@
 
 ghost use Rattle.std.specs.Prelude.{◌≡◌, ◌++◌, ◌∷◌, [], OnOk, if◌then◌else◌};
 ghost use Rattle.waiting_processes.specs.declared.waits.Awaited.{Awaited as AnyAwaited};
-ghost use Rattle.waiting_processes.specs.Lists.{same_awaited, waiting_for, HasCome};
+ghost use Rattle.waiting_processes.specs.Lists.{same_awaited, waiting_for, IsPlaceOf, HasCome};
 
+use crate::recent::RecentPlaces;
 use crate::waits::Awaited;
 use chor_base::Memory;
 use indexmap::IndexMap;
@@ -44,12 +45,21 @@ impl Waiting {
     }
 }
 
+// The numbers by which the place of a list is kept.
+fn numbers_of(wait: Awaited) -> (u32, u32, u32) {
+    match wait {
+        Awaited::Queue(sid, from, to) => (sid, from.0, to.0),
+        Awaited::Channel(name) => (name.0, 0, 0),
+    }
+}
+
 /// For each thing that processes wait for a list of processes. A list keeps its memory when it is
 /// taken out, so that processes that come and go take memory at the first time only.
 #[derive(Drop)]
 pub struct WaitingLists {
     alloc: Global,
     lists: IndexMap<Awaited, Waiting>,
+    recent: RecentPlaces,
     // Memory of a list that was taken out.
     spare: Vec<u32>,
 }
@@ -62,6 +72,7 @@ impl WaitingLists {
         WaitingLists {
             alloc,
             lists: IndexMap::new(alloc),
+            recent: RecentPlaces::new(alloc),
             spare: Vec::new(alloc),
         }
     }
@@ -76,13 +87,38 @@ impl WaitingLists {
         }
     }
 
+    // The place of the list of those that wait for this.
+    fn place_of(&self, wait: Awaited) -> Option<usize>
+        ensures { IsPlaceOf self.now.lists.entries wait result }
+    {
+        let recent = self.recent.get(numbers_of(wait));
+        match self.lists.get_index(recent) {
+            Some((other, _)) if wait == *other => Some(recent),
+            _ => self.found(wait),
+        }
+    }
+
+    // The same, looked for by hash.
+    fn found(&self, wait: Awaited) -> Option<usize>
+        ensures { IsPlaceOf self.now.lists.entries wait result }
+    {
+        match self.lists.get_full(&wait) {
+            Some((place, _, _)) => Some(place),
+            None => None,
+        }
+    }
+
     /// A process comes last in a list.
     pub fn add(&mut self, wait: Awaited, process: u32) -> Result<(), Memory>
         ensures { OnOk result (HasCome self.old wait process self.new) }
     {
-        match self.lists.get_mut(&wait) {
+        let Some(place) = self.place_of(wait) else {
+            return self.open(wait, process);
+        };
+        self.recent.note(numbers_of(wait), place);
+        match self.lists.get_index_mut(place) {
             Some(waiting) => waiting.push(process),
-            None => self.open(wait, process),
+            None => unreachable!(),
         }
     }
 
@@ -93,6 +129,7 @@ impl WaitingLists {
     {
         let mut processes = Vec::new(self.alloc);
         processes.push(process)?;
+        self.recent.reserve();
         self.lists.insert(wait, Waiting { processes })?;
         Ok(())
     }
@@ -120,9 +157,12 @@ impl WaitingLists {
         ensures rest { (w : AnyAwaited) → waiting_for self.new w ≡ (if same_awaited wait w then [] else waiting_for self.old w) }
     {
         let memory = self.nobody();
-        match self.lists.get_mut(&wait) {
+        let Some(place) = self.place_of(wait) else {
+            return memory;
+        };
+        match self.lists.get_index_mut(place) {
             Some(waiting) => waiting.take(memory),
-            None => memory,
+            None => unreachable!(),
         }
     }
 }
