@@ -1,5 +1,5 @@
 -- Processes that are noted and judged anew.
-use Rattle.std.proofs.Common.{◌≡◌, ◌⊎◌, inl, inr, ℕ, zero, suc, ◌+◌, ◌==◌, ◌<◌, Bool, true, false, List, [], ◌∷◌, ◌++◌, length, refl, sym, ap, ◌∙◌, subst, Option, Some, arith}
+use Rattle.std.proofs.Common.{◌≡◌, ◌⊎◌, inl, inr, ℕ, zero, suc, ◌+◌, ◌==◌, ◌<◌, Bool, true, false, ◌||◌, List, [], ◌∷◌, ◌++◌, length, refl, sym, ap, ◌∙◌, subst, Option, Some, arith}
 use Rattle.std.specs.Prelude.{slice_get, slice_set, not, ◌≢◌, if◌then◌else◌}
 use Rattle.std.proofs.lemmas.Bool.Decides.{nat_tests}
 use Rattle.std.proofs.lemmas.Option.{slice_get_within}
@@ -16,8 +16,9 @@ use Rattle.waiting_processes.specs.Lists.{waiting_for, same_awaited}
 use Rattle.waiting_processes.proofs.Left.{get_other}
 use Rattle.waiting_processes.proofs.Entries.{is_same, same_itself}
 use Rattle.net_core.specs.declared.candidates.Candidates.{Candidates}
-use Rattle.net_core.specs.Heads.{ended_at, is_listed_at, Shows}
-use Rattle.net_core.specs.Candidates.{IsIn, AreWithin, ListsAll, IsKept, IsNoted, IsJudged, HasPlaces, HasGrownTo, Enters, Judges, Renews}
+use Rattle.net_core.specs.Heads.{ended_at, is_listed_at, is_joining_head, Shows}
+use Rattle.endpoint_machine.specs.declared.head.Head.TheVariants as head
+use Rattle.net_core.specs.Candidates.{IsIn, AreWithin, ListsAll, IsKept, IsNoted, IsJudged, HasPlaces, HasGrownTo, IsSettled, Enters, Judges, Renews}
 use Rattle.net_core.proofs.Lone.{taker}
 
 -- ---- lists
@@ -105,21 +106,30 @@ grown_more count first old listed unended g l u = record {
 pub awaits : (e : Endpoints) (n : NetworkState) (p : ℕ) (h : Head) → Shows e n p h → awaited_at e n p ≡ awaited_by h
 awaits e n p h s = ap (awaited_in e) s.stands.there ∙ ap awaited_of (taker e n p h s)
 
+no_channel : (h : Head) → is_joining_head h ≡ false → (c : NameId) → awaited_by h ≡ Some (Channel c) → ⊥
+no_channel (head.Join d r) none c i = cc
+no_channel (head.Take s a b) none c i = cc
+no_channel (head.Out s a b) none c i = cc
+no_channel head.Local none c i = cc
+no_channel head.Ended none c i = cc
+
 module _ (e : Endpoints) (n : NetworkState) where
   -- ---- noted
 
-  -- what is kept of one process is noted anew
-  pub entered_one : (old new : Candidates) (p : ℕ) → p < length n.machines → HasPlaces (length n.machines) old → new.listed ≡ old.listed → new.unended ≡ slice_set old.unended p (not (ended_at e n p))
-      → IsKept e n new.waiting p → ((w : Awaited) (q : ℕ) → IsIn (waiting_for old.waiting w) q → IsIn (waiting_for new.waiting w) q) → AreWithin (length n.machines) new.waiting → Enters e n old (p ∷ []) new
-  entered_one old new p lt places listed unended kept more within = record {
+  -- what is kept of one process is noted anew, and it is judged unless it joins
+  pub entered_one : (old new : Candidates) (p : ℕ) (joins : Bool) → p < length n.machines → HasPlaces (length n.machines) old → Judges e n old.listed [] new.listed → (joins ≡ false → IsSettled e n new.listed p)
+      → new.unended ≡ slice_set old.unended p (not (ended_at e n p)) → IsKept e n new.waiting p → ((w : Awaited) (q : ℕ) → IsIn (waiting_for old.waiting w) q → IsIn (waiting_for new.waiting w) q) → AreWithin (length n.machines) new.waiting
+      → Enters e n old (p ∷ []) joins new
+  entered_one old new p joins lt places listed settled unended kept more within = record {
     places = record {
-      listed = ap length listed ∙ places.listed;
+      listed = listed.count ∙ places.listed;
       unended = ap length unended ∙ length_set old.unended p (not (ended_at e n p)) ∙ places.unended;
       within = within;
     };
-    listed = listed;
     stays = stays;
     entered = λ q i. subst (IsNoted e n new) (in_one p q i) own;
+    still = listed.stays;
+    settled = λ f q i. subst (IsSettled e n new.listed) (in_one p q i) (settled f);
   }
     where
       own : IsNoted e n new p
@@ -136,19 +146,33 @@ module _ (e : Endpoints) (n : NetworkState) where
               let apart : q ≢ p = λ s. other_number p q i (sym s) in
               record { unended = ap (λ (bs : List Bool). slice_get bs q) unended ∙ get_other old.unended p q (not (ended_at e n p)) apart ∙ r.unended; kept = λ w a. more w q (r.kept w a) }
 
-  pub entered_none : (c : Candidates) → HasPlaces (length n.machines) c → Enters e n c [] c
-  entered_none c places = record { places = places; listed = refl; stays = λ q r. r; entered = λ q i. absurd (in_none q i) }
+  pub entered_none : (c : Candidates) → HasPlaces (length n.machines) c → Enters e n c [] false c
+  entered_none c places = record { places = places; stays = λ q r. r; entered = λ q i. absurd (in_none q i); still = λ q r. r; settled = λ f q i. absurd (in_none q i) }
 
-  pub entered_more : (a b c : Candidates) (ps : List ℕ) (p : ℕ) → Enters e n a ps b → Enters e n b (p ∷ []) c → Enters e n a (ps ++ p ∷ []) c
-  entered_more a b c ps p s t = record { places = t.places; listed = t.listed ∙ s.listed; stays = λ q r. t.stays q (s.stays q r); entered = λ q i. go q (in_either ps p q i) }
+  neither : (j k : Bool) → (j || k) ≡ false → (j ≡ false) × (k ≡ false)
+  neither false k h = (refl, h)
+  neither true k h = absurd cc
+
+  pub entered_more : (a b c : Candidates) (ps : List ℕ) (p : ℕ) (j k : Bool) → Enters e n a ps j b → Enters e n b (p ∷ []) k c → Enters e n a (ps ++ p ∷ []) (j || k) c
+  entered_more a b c ps p j k s t = record {
+    places = t.places;
+    stays = λ q r. t.stays q (s.stays q r);
+    entered = λ q i. go q (in_either ps p q i);
+    still = λ q r. t.still q (s.still q r);
+    settled = λ f q i. settled (neither j k f) q (in_either ps p q i);
+  }
     where
       go : (q : ℕ) → IsIn ps q ⊎ (p ≡ q) → IsNoted e n c q
       go q (inl i) = t.stays q (s.entered q i)
       go q (inr i) = t.entered q (0, ap (λ (k : ℕ). Some k) i)
 
+      settled : (j ≡ false) × (k ≡ false) → (q : ℕ) → IsIn ps q ⊎ (p ≡ q) → IsSettled e n c.listed q
+      settled f q (inl i) = let r = s.settled f.0 q i in record { joins_none = r.joins_none; judged = t.still q r.judged }
+      settled f q (inr i) = t.settled f.1 q (0, ap (λ (k : ℕ). Some k) i)
+
   -- one process after the other
-  pub entered_next : (old new : Candidates) (p : ℕ) → Enters e n old (p ∷ []) new → ((q : ℕ) → q < p → IsNoted e n old q) → (q : ℕ) → q < p + 1 → IsNoted e n new q
-  entered_next old new p l before q lt = go (p == q) refl
+  pub entered_next : (old new : Candidates) (p : ℕ) (joins : Bool) → Enters e n old (p ∷ []) joins new → ((q : ℕ) → q < p → IsNoted e n old q) → (q : ℕ) → q < p + 1 → IsNoted e n new q
+  entered_next old new p joins l before q lt = go (p == q) refl
     where
       go : (t : Bool) → (p == q) ≡ t → IsNoted e n new q
       go true i = l.entered q (0, ap (λ (k : ℕ). Some k) (same_number p q i))
@@ -223,6 +247,17 @@ module _ (e : Endpoints) (n : NetworkState) where
       go : (r : ℕ) (d : NameId) → IsIn ps r ⊎ (p ≡ r) → awaited_at e n r ≡ Some (Channel d) → (done ≡ Some d → ⊥) → (q : ℕ) → q < length n.machines → awaited_at e n q ≡ Some (Channel d) → IsJudged e n c q
       go r d (inl i) w o q lt v = t.judges.stays q (s.came r d i w o q lt v)
       go r d (inr i) w o q lt v = t.came r d (0, ap (λ (j : ℕ). Some j) i) w o q lt v
+
+  -- none of these joins a channel, and all are judged
+  pub renewed_settled : (done : Option NameId) (bits : List Bool) (ps : List ℕ) → ((q : ℕ) → IsIn ps q → IsSettled e n bits q) → Renews e n done bits ps bits
+  renewed_settled done bits ps settled = record {
+    judges = record { count = refl; stays = λ q r. r; judged = λ q i. (settled q i).judged };
+    came = λ p c i a o q lt b. absurd ((settled p i).joins_none c a);
+  }
+
+  -- a process that doesn't join is judged
+  pub settled_one : (bits : List Bool) (p : ℕ) (h : Head) → Shows e n p h → is_joining_head h ≡ false → IsJudged e n bits p → IsSettled e n bits p
+  settled_one bits p h s none judged = record { joins_none = λ c a. no_channel h none c (sym (awaits e n p h s) ∙ a); judged = judged }
 
   -- the process joins no channel but the one that is done
   pub renewed_alone : (done : Option NameId) (old new : List Bool) (p : ℕ) → Judges e n old (p ∷ []) new → ((c : NameId) → awaited_at e n p ≡ Some (Channel c) → done ≡ Some c) → Renews e n done old (p ∷ []) new

@@ -119,7 +119,7 @@ waits_touches head.Local w i = absurd cc
 waits_touches head.Ended w i = absurd cc
 
 module _ (e : Endpoints) (m : NetworkState) (past : Past) (old grown taken entered : Candidates) (ps : List ℕ) (moved : HasMoved e m past old)
-    (grows : HasGrownTo (length m.machines) old grown) (takes : TakesTouched past (length m.machines) grown ps taken) (enters : Enters e m taken ps entered) where
+    (grows : HasGrownTo (length m.machines) old grown) (takes : TakesTouched past (length m.machines) grown ps taken) (joins : Bool) (enters : Enters e m taken ps joins entered) where
   -- who is in the list of what the event touches is among the processes
   in_list : (w : Awaited) (q : ℕ) → touched_by past.head ≡ Some w → IsIn (waiting_for old.waiting w) q → IsIn ps q
   in_list w q i j = takes.touched.waiting w q i (subst (λ (l : WaitingLists). IsIn (waiting_for l w) q) (sym grows.waiting) j)
@@ -188,7 +188,7 @@ module _ (e : Endpoints) (m : NetworkState) (past : Past) (old grown taken enter
         ∙ others_listed e moved.before m past.pid past.head moved.at moved.left q (within q (before q lt out)) (other q lt out) nobody
         ∙ same_listed e moved.before (slice_get moved.before.machines q) in
         let was : IsJudged e m entered.listed q =
-        ap (λ (bs : List Bool). slice_get bs q) (enters.listed ∙ takes.listed) ∙ grows.listed q _ (moved.right.judged q (within q (before q lt out))) ∙ ap (λ (b : Bool). Some b) (sym listed) in
+        enters.still q (ap (λ (bs : List Bool). slice_get bs q) takes.listed ∙ grows.listed q _ (moved.right.judged q (within q (before q lt out))) ∙ ap (λ (b : Bool). Some b) (sym listed)) in
         renews.judges.stays q was
 
     judged_out : (q : ℕ) (lt : q < length m.machines) (out : IsIn ps q → ⊥) (w : Option Awaited) → awaited_at e moved.before q ≡ w → IsJudged e m bits q
@@ -224,6 +224,13 @@ module _ (e : Endpoints) (m : NetworkState) (past : Past) (old grown taken enter
         judged : (q : ℕ) → q < length m.machines → (b : Bool) → among ps q ≡ b → IsJudged e m bits q
         judged q lt true i = renews.judges.judged q (is_among ps q i)
         judged q lt false i = judged_out q lt (not_among ps q i) (awaited_at e moved.before q) refl
+
+  -- the same where the processes are judged last
+  pub renewed_on : (done : Option NameId) (is_done : done ≡ joined_by past.head) (new : Candidates) → new.unended ≡ entered.unended → new.waiting ≡ entered.waiting → Renews e m done entered.listed ps new.listed
+      → IsUpToDate e m (record { listed = new.listed; unended = new.unended; waiting = new.waiting })
+  renewed_on done is_done new unended waiting renews =
+      subst (λ (l : WaitingLists). IsUpToDate e m (record { listed = new.listed; unended = new.unended; waiting = l })) (sym waiting)
+      (subst (λ (bs : List Bool). IsUpToDate e m (record { listed = new.listed; unended = bs; waiting = entered.waiting })) (sym unended) (followed done is_done new.listed renews))
 
 -- ---- a step
 

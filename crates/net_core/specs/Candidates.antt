@@ -1,5 +1,5 @@
 -- Which processes the pick rule may take, as it is kept from event to event (this project's own).
-use Rattle.std.specs.Prelude.{ℕ, ◌≡◌, ◌<◌, ◌≤◌, length, not, Bool, List, [], Option, Some, None, slice_get}
+use Rattle.std.specs.Prelude.{ℕ, ◌≡◌, ◌<◌, ◌≤◌, length, not, Bool, false, List, [], Option, Some, None, slice_get}
 use Rattle.chor_base.specs.declared.names.NameId.{NameId}
 use Rattle.endpoint_code.specs.declared.endpoints.Endpoints.{Endpoints}
 use Rattle.endpoint_code.specs.Network.{NetworkState}
@@ -64,12 +64,18 @@ pub record HasGrownTo (count : ℕ) (old new : Candidates) : Type 0 where
   pub unended : (q : ℕ) (b : Bool) → slice_get old.unended q ≡ Some b → slice_get new.unended q ≡ Some b
   pub waiting : new.waiting ≡ old.waiting
 
--- these processes are noted anew
-pub record Enters (e : Endpoints) (n : NetworkState) (old : Candidates) (ps : List ℕ) (new : Candidates) : Type 0 where
+-- the process joins no channel, and is judged
+pub record IsSettled (e : Endpoints) (n : NetworkState) (listed : List Bool) (q : ℕ) : Type 0 where
+  pub joins_none : (c : NameId) → awaited_at e n q ≡ Some (Channel c) → ⊥
+  pub judged : IsJudged e n listed q
+
+-- these processes are noted anew, and judged if none of them joins
+pub record Enters (e : Endpoints) (n : NetworkState) (old : Candidates) (ps : List ℕ) (joins : Bool) (new : Candidates) : Type 0 where
   pub places : HasPlaces (length n.machines) new
-  pub listed : new.listed ≡ old.listed
   pub stays : (q : ℕ) → IsNoted e n old q → IsNoted e n new q
   pub entered : (q : ℕ) → IsIn ps q → IsNoted e n new q
+  pub still : (q : ℕ) → IsJudged e n old.listed q → IsJudged e n new.listed q
+  pub settled : joins ≡ false → (q : ℕ) → IsIn ps q → IsSettled e n new.listed q
 
 -- these processes are judged anew
 pub record Judges (e : Endpoints) (n : NetworkState) (old : List Bool) (ps : List ℕ) (new : List Bool) : Type 0 where

@@ -1,16 +1,16 @@
 //! Which processes the pick rule may take, kept from event to event.
 
-ghost use Rattle.std.specs.Prelude.{◌≡◌, ℕ, ◌<◌, ◌≤◌, ◌^◌, length, None, IfOk, OnOk, ◌∷◌, []};
+ghost use Rattle.std.specs.Prelude.{◌≡◌, ℕ, ◌<◌, ◌≤◌, ◌^◌, length, None, false, IfOk, OnOk, ◌∷◌, []};
 ghost use Rattle.endpoint_code.specs.declared.endpoints.Endpoints.{Endpoints as AnyEndpoints};
 ghost use Rattle.endpoint_code.specs.Network.{NetworkState};
 ghost use Rattle.endpoint_code.specs.NetworkRuns.{all_ended};
 ghost use Rattle.endpoint_code.specs.Scheduled.{picked};
 ghost use Rattle.net_core.specs.Heads.{Shows, is_listed_at};
-ghost use Rattle.net_core.specs.Candidates.{joined_by, IsUpToDate, HasPlaces, HasGrownTo, AreBelow, ListsAll, IsNoted, IsJudged, Enters, Judges, Renews, TakesWaiting, TakesTouched, HasMoved};
+ghost use Rattle.net_core.specs.Candidates.{joined_by, IsIn, IsUpToDate, HasPlaces, HasGrownTo, AreBelow, ListsAll, IsNoted, IsJudged, IsSettled, Enters, Judges, Renews, TakesWaiting, TakesTouched, HasMoved};
 
 use crate::network::Network;
 use crate::parts::place_of_pick;
-use crate::standing::has_ended;
+use crate::standing::{has_ended, is_joining};
 use chor_base::{Memory, NameId};
 use counted_bits::CountedBits;
 use endpoint_machine::Head;
@@ -86,15 +86,9 @@ impl Candidates {
     {
         self.grow(network.count())?;
         let pids = self.take_touched(network.count(), past)?;
-        self.enter_all(network, pids.as_slice())?;
+        let joins = self.enter_all(network, pids.as_slice())?;
         let done = joined_by(past.head);
-        renew_all(
-            &mut self.listed,
-            &self.waiting,
-            network,
-            pids.as_slice(),
-            done,
-        );
+        self.renew_entered(network, pids.as_slice(), done, joins);
         self.waiting.give_back(pids);
         Ok(())
     }
@@ -142,30 +136,60 @@ impl Candidates {
         Ok(())
     }
 
-    // Notes anew whether a process has ended, and what it waits for.
-    fn enter(&mut self, network: &Network<'_>, pid: u32) -> Result<(), Memory>
+    // Notes anew whether a process has ended, and what it waits for, and judges it unless it joins.
+    // Tells whether it joins.
+    fn enter(&mut self, network: &Network<'_>, pid: u32) -> Result<bool, Memory>
         requires there { pid < length network.now.state.machines }
         requires places { HasPlaces (length network.now.state.machines) self.old }
-        ensures { OnOk result (Enters network.now.endpoints network.now.state self.old (pid ∷ []) self.new) }
+        ensures { IfOk result (λ joins. Enters network.now.endpoints network.now.state self.old (pid ∷ []) joins self.new) }
     {
         let head = network.head(pid);
         self.unended.set(pid, !has_ended(head));
+        let joins = settle(&mut self.listed, network, pid, head);
         match awaited_by(head) {
-            Some(awaited) => self.waiting.add(awaited, pid),
-            None => Ok(()),
+            Some(awaited) => {
+                self.waiting.add(awaited, pid)?;
+                Ok(joins)
+            }
+            None => Ok(joins),
         }
     }
 
-    // The same of each of these processes.
-    fn enter_all(&mut self, network: &Network<'_>, pids: &[u32]) -> Result<(), Memory>
+    // The same of each of these processes. Tells whether one of them joins.
+    fn enter_all(&mut self, network: &Network<'_>, pids: &[u32]) -> Result<bool, Memory>
         requires there { AreBelow (length network.now.state.machines) pids.now }
         requires places { HasPlaces (length network.now.state.machines) self.old }
-        ensures { OnOk result (Enters network.now.endpoints network.now.state self.old pids.now self.new) }
+        ensures { IfOk result (λ joins. Enters network.now.endpoints network.now.state self.old pids.now joins self.new) }
     {
+        let mut joins = false;
         for pid in pids {
-            self.enter(network, *pid)?;
+            let also = self.enter(network, *pid)?;
+            joins |= also;
         }
-        Ok(())
+        Ok(joins)
+    }
+
+    // Judges anew those of these processes that join, if one does, where the others were judged when
+    // they were entered.
+    fn renew_entered(
+        &mut self,
+        network: &Network<'_>,
+        pids: &[u32],
+        done: Option<NameId>,
+        joins: bool,
+    )
+        requires there { AreBelow (length network.now.state.machines) pids.now }
+        requires places { length self.old.listed ≡ length network.now.state.machines }
+        requires lists { ListsAll network.now.endpoints network.now.state self.old.waiting }
+        requires settled { joins ≡ false → (q : ℕ) → IsIn pids.now q → IsSettled network.now.endpoints network.now.state self.old.listed q }
+        ensures unended { self.new.unended ≡ self.old.unended }
+        ensures waiting { self.new.waiting ≡ self.old.waiting }
+        ensures renews { Renews network.now.endpoints network.now.state done self.old.listed pids.now self.new.listed }
+    {
+        if !joins {
+            return;
+        }
+        renew_all(&mut self.listed, &self.waiting, network, pids, done);
     }
 
     // The same of every process.
@@ -211,6 +235,21 @@ fn is_listed(waiting: &WaitingLists, network: &Network<'_>, pid: u32, head: Head
         }
         _ => network.is_listed(pid, head),
     }
+}
+
+// Judges a process with this head, unless it joins. Tells whether it does.
+fn settle(listed: &mut CountedBits, network: &Network<'_>, pid: u32, head: Head) -> bool
+    requires there { pid < length network.now.state.machines }
+    requires places { length listed.old ≡ length network.now.state.machines }
+    requires shows { Shows network.now.endpoints network.now.state pid head }
+    ensures kept { Judges network.now.endpoints network.now.state listed.old [] listed.new }
+    ensures settled { result ≡ false → IsSettled network.now.endpoints network.now.state listed.new pid }
+{
+    if is_joining(head) {
+        return true;
+    }
+    listed.set(pid, network.is_listed(pid, head));
+    false
 }
 
 // Judges anew whether the pick rule may take a process with this head.

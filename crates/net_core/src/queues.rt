@@ -11,6 +11,7 @@ use std::alloc::Global;
 use std::collections::VecDeque;
 use std::marker::Model;
 use std::mem::replace;
+use waiting_processes::RecentPlaces;
 
 /// The loads in transit from one role of a session to another.
 #[derive(Drop)]
@@ -86,8 +87,7 @@ pub struct Queues {
     lanes: Vec<Lane>,
     // Room for the first load of a new queue.
     spare: VecDeque<Load>,
-    // The place of the queue for which memory was taken last: mostly the next one that is asked for.
-    recent: usize,
+    recent: RecentPlaces,
 }
 
 impl Model for Queues {
@@ -113,7 +113,7 @@ impl Queues {
             directions: IndexSet::new(alloc),
             lanes: Vec::new(alloc),
             spare: VecDeque::new(alloc),
-            recent: 0,
+            recent: RecentPlaces::new(alloc),
         }
     }
 
@@ -123,8 +123,9 @@ impl Queues {
         ensures within { IfSome result (λ i. i < length self.now.lanes) }
     {
         let direction = Direction { sid, from, to };
-        match self.directions.as_slice().get(self.recent) {
-            Some(recent) if direction == *recent => Some(self.recent),
+        let recent = self.recent.get((sid, from.0, to.0));
+        match self.directions.as_slice().get(recent) {
+            Some(other) if direction == *other => Some(recent),
             _ => self.directions.get_index_of(&direction),
         }
     }
@@ -146,7 +147,7 @@ impl Queues {
     {
         match self.place_of(sid, from, to) {
             Some(place) => {
-                self.recent = place;
+                self.recent.note((sid, from.0, to.0), place);
                 let lane = &mut self.lanes[place];
                 lane.reserve()
             }
@@ -164,6 +165,7 @@ impl Queues {
         self.directions.reserve(1)?;
         self.lanes.reserve(1)?;
         self.spare.reserve(1)?;
+        self.recent.reserve();
         Ok(())
     }
 

@@ -1,4 +1,4 @@
-use Rattle.std.proofs.Common.{sym, subst, take, get_or, List, ℕ}
+use Rattle.std.proofs.Common.{sym, subst, take, get_or, List, ℕ, ◌||◌}
 use Rattle.std.proofs.lemmas.List.{take_more}
 use Rattle.std.proofs.lemmas.Option.{slice_get-get_or}
 use Rattle.net_core.specs.Candidates.{Enters}
@@ -13,5 +13,5 @@ loop-pid-preserved c =
     let v = c.args.network.now in
     let i = c.loop-pid.pid-index in
     let ps = c.args.pids.now in
-    subst (λ (l : List ℕ). Enters v.endpoints v.state c.args.self.now l c.enter.new.self) (sym (take_more ps i 0 c.loop-pid-test.true))
-    (entered_more v.endpoints v.state c.args.self.now c.loop-pid.self c.enter.new.self (take i ps) (get_or ps i 0) c.loop-pid.invariant c.in_ok-enter.ensures)
+    subst (λ (l : List ℕ). Enters v.endpoints v.state c.args.self.now l (c.loop-pid.joins || c.in_ok-also.also) c.enter.new.self) (sym (take_more ps i 0 c.loop-pid-test.true))
+    (entered_more v.endpoints v.state c.args.self.now c.loop-pid.self c.enter.new.self (take i ps) (get_or ps i 0) c.loop-pid.joins c.in_ok-also.also c.loop-pid.invariant c.in_ok-also.ensures)

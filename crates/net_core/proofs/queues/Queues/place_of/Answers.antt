@@ -21,13 +21,14 @@ returns-in-Some-clause-place c =
     let i = c.self.inside in
     let t : Triple = (c.args.sid, c.args.from, c.args.to) in
     let d : Direction = record { sid = c.args.sid; from = c.args.from; to = c.args.to } in
-    let x = c.in-Some.recent.now in
+    let x = c.in-Some.other.now in
+    let at = c.get-recent.result in
     let keys = c.as_slice.result.now in
     let found = c.in-Some.ensures.lookup in
-    let lt : i.recent < length keys = grind (arith, nat_tests, found.0) in
-    let there : slice_get keys i.recent ≡ Some x = slice_get-get_or keys i.recent x lt ∙ ap Some (sym (found.1)) in
+    let lt : at < length keys = grind (arith, nat_tests, found.0) in
+    let there : slice_get keys at ≡ Some x = slice_get-get_or keys at x lt ∙ ap Some (sym (found.1)) in
     let apart = subst (IsDistinct is_at) (sym c.as_slice.ensures.keys) c.as_slice.ensures.unique in
-    sym (found_there d x i.recent keys apart there (sym c.eq.ensures ∙ c.if-eq.true))
+    sym (found_there d x at keys apart there (sym c.eq.ensures ∙ c.if-eq.true))
     ∙ ap (position (is_at d)) c.as_slice.ensures.keys
     ∙ same_place _ t i.directions.keys i.lanes.items (λ d. is_direction c.args.sid c.args.from c.args.to d) c.self.invariant.same
     ∙ ap (λ (v : QueuesView). lane_from 0 v.lanes t) c.self.view_is
