@@ -1,3 +1,4 @@
 pub mod Text
 pub mod Books
+pub mod Phrases
 pub mod Closing

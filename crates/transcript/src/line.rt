@@ -1,12 +1,14 @@
 //! One line of a transcript.
 
-ghost use Rattle.std.specs.Prelude.{◌≡◌, ◌++◌, ◌∷◌, [], OnOk, OnErr, slice_get, codes};
+ghost use Rattle.std.specs.Prelude.{◌≡◌, ◌++◌, ◌∷◌, [], OnOk, OnErr, IfSome, IfNone, slice_get, codes};
 ghost use Rattle.std.specs.Fmt.{decimal};
 ghost use Rattle.chor_base.specs.Writing.{truth_text};
-ghost use Rattle.transcript.specs.Text.{name_text, process_text, value_text, load_text, parts_text, sending, receiving, message_text, spaced, numbers_text, said, event_text};
+ghost use Rattle.transcript.specs.Text.{Words, name_text, process_text, value_text, load_text, parts_text, spaced, numbers_text, said, event_text};
+ghost use Rattle.transcript.specs.Phrases.{sending_verb, receiving_verb, verb_text, route_text, phrase_text, deed_text};
 ghost use Rattle.transcript.specs.Books.{words};
 
 use crate::book::Book;
+use crate::phrases::{Phrase, Verb};
 use chor_base::{
     Event, Load, Memory, NameId, Value, put_bytes, put_int, put_literal, put_name, put_number,
     put_truth,
@@ -33,7 +35,7 @@ pub fn print_event(
 }
 
 // Appends the text of an event, or some of it where there is no memory.
-pub fn put_event(
+fn put_event(
     line: &mut Vec<u8>,
     alloc: Global,
     number: u64,
@@ -79,7 +81,12 @@ fn put_value(line: &mut Vec<u8>, alloc: Global, book: &Book, value: Value) -> Re
     }
 }
 
-fn put_load(line: &mut Vec<u8>, alloc: Global, book: &Book, load: Load) -> Result<(), Memory>
+pub(crate) fn put_load(
+    line: &mut Vec<u8>,
+    alloc: Global,
+    book: &Book,
+    load: Load,
+) -> Result<(), Memory>
     ensures { OnOk result (line.new.items ≡ line.old.items ++ load_text (words book.now) load) }
 {
     match load {
@@ -105,36 +112,115 @@ fn put_parts(
     Ok(())
 }
 
-// The word for a message that is sent.
-fn sending(load: Load) -> &'static [u8]
-    ensures { result.now ≡ sending load }
+// What stands for a message that is sent.
+fn sending(load: Load) -> Verb
+    ensures { result ≡ sending_verb load }
 {
     match load {
-        Load::Label(_) => b" pick ",
-        Load::Value(Value::Part(_, _)) => b" give ",
-        Load::Value(_) => b" send ",
+        Load::Label(_) => Verb::Pick,
+        Load::Value(Value::Part(_, _)) => Verb::Give,
+        Load::Value(_) => Verb::Send,
     }
 }
 
-// The word for a message that is received.
-fn receiving(load: Load) -> &'static [u8]
-    ensures { result.now ≡ receiving load }
+// What stands for a message that is received.
+fn receiving(load: Load) -> Verb
+    ensures { result ≡ receiving_verb load }
 {
     match load {
-        Load::Label(_) => b" branch ",
-        Load::Value(Value::Part(_, _)) => b" gain ",
-        Load::Value(_) => b" recv ",
+        Load::Label(_) => Verb::Branch,
+        Load::Value(Value::Part(_, _)) => Verb::Gain,
+        Load::Value(_) => Verb::Recv,
     }
 }
 
-// What a message is: who makes the event, in which session, from which role to which, and the load.
+// What a message is: what its text has before the load, and the load.
 #[derive(Clone, Copy)]
-struct Message {
-    pid: u32,
-    sid: u32,
-    from: NameId,
-    to: NameId,
-    load: Load,
+pub(crate) struct Message {
+    pub phrase: Phrase,
+    pub load: Load,
+}
+
+// The message that an event is, if it is one.
+pub(crate) fn message_of(event: &Event) -> Option<Message>
+    ensures message { IfSome result (λ m. (w : Words) → said w event.now ≡ phrase_text w m.phrase ++ load_text w m.load) }
+    ensures deed { IfNone result ((w : Words) → said w event.now ≡ deed_text w event.now) }
+{
+    match *event {
+        Event::Send {
+            pid,
+            sid,
+            from,
+            to,
+            load,
+        } => Some(Message {
+            phrase: Phrase {
+                verb: sending(load),
+                pid,
+                sid,
+                from,
+                to,
+            },
+            load,
+        }),
+        Event::Recv {
+            pid,
+            sid,
+            from,
+            to,
+            load,
+        } => Some(Message {
+            phrase: Phrase {
+                verb: receiving(load),
+                pid,
+                sid,
+                from,
+                to,
+            },
+            load,
+        }),
+        _ => None,
+    }
+}
+
+// The word of a message.
+fn put_verb(line: &mut Vec<u8>, verb: Verb) -> Result<(), Memory>
+    ensures { OnOk result (line.new.items ≡ line.old.items ++ verb_text verb) }
+{
+    match verb {
+        Verb::Send => put_bytes(line, b" send ".as_slice()),
+        Verb::Pick => put_bytes(line, b" pick ".as_slice()),
+        Verb::Give => put_bytes(line, b" give ".as_slice()),
+        Verb::Recv => put_bytes(line, b" recv ".as_slice()),
+        Verb::Branch => put_bytes(line, b" branch ".as_slice()),
+        Verb::Gain => put_bytes(line, b" gain ".as_slice()),
+    }
+}
+
+pub(crate) fn put_phrase(
+    line: &mut Vec<u8>,
+    alloc: Global,
+    book: &Book,
+    phrase: Phrase,
+) -> Result<(), Memory>
+    ensures { OnOk result (line.new.items ≡ line.old.items ++ phrase_text (words book.now) phrase) }
+{
+    put_verb(line, phrase.verb)?;
+    put_route(line, alloc, book, phrase)
+}
+
+// What a message's text has between its word and its load.
+fn put_route(line: &mut Vec<u8>, alloc: Global, book: &Book, phrase: Phrase) -> Result<(), Memory>
+    ensures { OnOk result (line.new.items ≡ line.old.items ++ route_text (words book.now) phrase) }
+{
+    put_process(line, alloc, book, phrase.pid)?;
+    put_bytes(line, b" #".as_slice())?;
+    put_number(line, alloc, u64::from(phrase.sid))?;
+    put_bytes(line, b" ".as_slice())?;
+    put_name(line, book.names, phrase.from)?;
+    put_bytes(line, b">".as_slice())?;
+    put_name(line, book.names, phrase.to)?;
+    put_bytes(line, b" ".as_slice())
 }
 
 fn put_message(
@@ -143,16 +229,9 @@ fn put_message(
     book: &Book,
     message: Message,
 ) -> Result<(), Memory>
-    ensures { OnOk result (line.new.items ≡ line.old.items ++ message_text (words book.now) message.pid message.sid message.from message.to message.load) }
+    ensures { OnOk result (line.new.items ≡ line.old.items ++ (phrase_text (words book.now) message.phrase ++ load_text (words book.now) message.load)) }
 {
-    put_process(line, alloc, book, message.pid)?;
-    put_bytes(line, b" #".as_slice())?;
-    put_number(line, alloc, u64::from(message.sid))?;
-    put_bytes(line, b" ".as_slice())?;
-    put_name(line, book.names, message.from)?;
-    put_bytes(line, b">".as_slice())?;
-    put_name(line, book.names, message.to)?;
-    put_bytes(line, b" ".as_slice())?;
+    put_phrase(line, alloc, book, message.phrase)?;
     put_load(line, alloc, book, message.load)
 }
 
@@ -216,54 +295,28 @@ fn put_spaced(line: &mut Vec<u8>, alloc: Global, number: i64) -> Result<(), Memo
 fn put_said(line: &mut Vec<u8>, alloc: Global, event: &Event, book: &Book) -> Result<(), Memory>
     ensures { OnOk result (line.new.items ≡ line.old.items ++ said (words book.now) event.now) }
 {
+    match message_of(event) {
+        Some(message) => put_message(line, alloc, book, message),
+        None => put_deed(line, alloc, event, book),
+    }
+}
+
+// An event that isn't a message, without its number; of a message nothing.
+pub(crate) fn put_deed(
+    line: &mut Vec<u8>,
+    alloc: Global,
+    event: &Event,
+    book: &Book,
+) -> Result<(), Memory>
+    ensures { OnOk result (line.new.items ≡ line.old.items ++ deed_text (words book.now) event.now) }
+{
     match event {
         Event::Start {
             channel,
             sid,
             parts,
         } => put_start(line, alloc, book, *channel, *sid, parts.as_slice()),
-        Event::Send {
-            pid,
-            sid,
-            from,
-            to,
-            load,
-        } => {
-            put_bytes(line, sending(*load))?;
-            put_message(
-                line,
-                alloc,
-                book,
-                Message {
-                    pid: *pid,
-                    sid: *sid,
-                    from: *from,
-                    to: *to,
-                    load: *load,
-                },
-            )
-        }
-        Event::Recv {
-            pid,
-            sid,
-            from,
-            to,
-            load,
-        } => {
-            put_bytes(line, receiving(*load))?;
-            put_message(
-                line,
-                alloc,
-                book,
-                Message {
-                    pid: *pid,
-                    sid: *sid,
-                    from: *from,
-                    to: *to,
-                    load: *load,
-                },
-            )
-        }
+        Event::Send { .. } | Event::Recv { .. } => Ok(()),
         Event::Test { pid, answer } => {
             put_bytes(line, b" test ".as_slice())?;
             put_process(line, alloc, book, *pid)?;

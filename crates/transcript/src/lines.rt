@@ -1,12 +1,14 @@
 //! The lines of a run.
 
 ghost use Rattle.std.specs.Prelude.{◌≡◌, ◌++◌, IfOk, OnOk, OnErr, map};
-ghost use Rattle.transcript.specs.Text.{lines_from};
+ghost use Rattle.transcript.specs.Text.{said, lines_from};
 ghost use Rattle.transcript.specs.Books.{words};
+ghost use Rattle.transcript.specs.Phrases.{AreTextsOf};
 
 use crate::book::Book;
-use crate::line::put_event;
-use chor_base::{Entry, Memory};
+use crate::line::{message_of, put_deed, put_load};
+use crate::phrases::Phrases;
+use chor_base::{Entry, Event, Memory, put_number};
 use std::alloc::Global;
 
 /// Appends the texts of events, which are numbered from 1, each ended by a line feed. The workers
@@ -34,9 +36,32 @@ fn lines_of(alloc: Global, events: &[Entry], book: &Book) -> Result<Vec<u8>, Mem
     ensures { IfOk result (λ lines. lines.items ≡ lines_from (words book.now) 1 (map (λ entry. entry.event) events.now)) }
 {
     let mut lines = Vec::new(alloc);
+    let mut phrases = Phrases::new(alloc)?;
     for (index, entry) in events.iter().enumerate() {
-        put_event(&mut lines, alloc, index as u64 + 1, &entry.event, book)?;
+        put_number(&mut lines, alloc, index as u64 + 1)?;
+        put_said(&mut lines, &mut phrases, &entry.event, book)?;
         lines.push(b'\n')?;
     }
     Ok(lines)
+}
+
+// Appends an event without its number.
+fn put_said(
+    lines: &mut Vec<u8>,
+    phrases: &mut Phrases,
+    event: &Event,
+    book: &Book,
+) -> Result<(), Memory>
+    requires { AreTextsOf (words book.now) phrases.old.slots.items }
+    ensures kept { OnOk result (AreTextsOf (words book.now) phrases.new.slots.items) }
+    ensures ok { OnOk result (lines.new.items ≡ lines.old.items ++ said (words book.now) event.now) }
+{
+    let alloc = *lines.allocator();
+    match message_of(event) {
+        Some(message) => {
+            phrases.put(lines, message.phrase, book)?;
+            put_load(lines, alloc, book, message.load)
+        }
+        None => put_deed(lines, alloc, event, book),
+    }
 }
