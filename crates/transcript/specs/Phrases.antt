@@ -1,7 +1,6 @@
 -- The texts of messages, in two parts (this project's own).
 use Rattle.std.specs.Prelude.{◌≡◌, ℕ, List, [], ◌++◌, Option, Some, None, codes, All}
 use Rattle.std.specs.Fmt.{decimal}
-use Rattle.chor_base.specs.declared.value.Value.{Value}
 use Rattle.chor_base.specs.declared.value.Value.TheVariants.{Int, Bool as Truth, Text, Part as Endpoint}
 use Rattle.chor_base.specs.declared.value.Load.{Load}
 use Rattle.chor_base.specs.declared.value.Load.TheVariants.{Value as Carries, Label as Picks}

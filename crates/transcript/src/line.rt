@@ -65,10 +65,10 @@ pub(crate) fn put_process(
     }
 }
 
-fn put_value(line: &mut Vec<u8>, alloc: Global, book: &Book, value: Value) -> Result<(), Memory>
-    ensures { OnOk result (line.new.items ≡ line.old.items ++ value_text (words book.now) value) }
+fn put_value(line: &mut Vec<u8>, alloc: Global, book: &Book, value: &Value) -> Result<(), Memory>
+    ensures { OnOk result (line.new.items ≡ line.old.items ++ value_text (words book.now) value.now) }
 {
-    match value {
+    match *value {
         Value::Int(number) => put_int(line, alloc, number),
         Value::Bool(truth) => put_truth(line, truth),
         Value::Text(text) => put_literal(line, alloc, book.texts, text),
@@ -85,13 +85,13 @@ pub(crate) fn put_load(
     line: &mut Vec<u8>,
     alloc: Global,
     book: &Book,
-    load: Load,
+    load: &Load,
 ) -> Result<(), Memory>
-    ensures { OnOk result (line.new.items ≡ line.old.items ++ load_text (words book.now) load) }
+    ensures { OnOk result (line.new.items ≡ line.old.items ++ load_text (words book.now) load.now) }
 {
     match load {
         Load::Value(value) => put_value(line, alloc, book, value),
-        Load::Label(label) => put_name(line, book.names, label),
+        Load::Label(label) => put_name(line, book.names, *label),
     }
 }
 
@@ -113,8 +113,8 @@ fn put_parts(
 }
 
 // What stands for a message that is sent.
-fn sending(load: Load) -> Verb
-    ensures { result ≡ sending_verb load }
+fn sending(load: &Load) -> Verb
+    ensures { result ≡ sending_verb load.now }
 {
     match load {
         Load::Label(_) => Verb::Pick,
@@ -124,8 +124,8 @@ fn sending(load: Load) -> Verb
 }
 
 // What stands for a message that is received.
-fn receiving(load: Load) -> Verb
-    ensures { result ≡ receiving_verb load }
+fn receiving(load: &Load) -> Verb
+    ensures { result ≡ receiving_verb load.now }
 {
     match load {
         Load::Label(_) => Verb::Branch,
@@ -136,17 +136,17 @@ fn receiving(load: Load) -> Verb
 
 // What a message is: what its text has before the load, and the load.
 #[derive(Clone, Copy)]
-pub(crate) struct Message {
+pub(crate) struct Message<'a> {
     pub phrase: Phrase,
-    pub load: Load,
+    pub load: &'a Load,
 }
 
 // The message that an event is, if it is one.
-pub(crate) fn message_of(event: &Event) -> Option<Message>
-    ensures message { IfSome result (λ m. (w : Words) → said w event.now ≡ phrase_text w m.phrase ++ load_text w m.load) }
+pub(crate) fn message_of(event: &Event) -> Option<Message<'_>>
+    ensures message { IfSome result (λ m. (w : Words) → said w event.now ≡ phrase_text w m.phrase ++ load_text w m.load.now) }
     ensures deed { IfNone result ((w : Words) → said w event.now ≡ deed_text w event.now) }
 {
-    match *event {
+    match event {
         Event::Send {
             pid,
             sid,
@@ -156,10 +156,10 @@ pub(crate) fn message_of(event: &Event) -> Option<Message>
         } => Some(Message {
             phrase: Phrase {
                 verb: sending(load),
-                pid,
-                sid,
-                from,
-                to,
+                pid: *pid,
+                sid: *sid,
+                from: *from,
+                to: *to,
             },
             load,
         }),
@@ -172,10 +172,10 @@ pub(crate) fn message_of(event: &Event) -> Option<Message>
         } => Some(Message {
             phrase: Phrase {
                 verb: receiving(load),
-                pid,
-                sid,
-                from,
-                to,
+                pid: *pid,
+                sid: *sid,
+                from: *from,
+                to: *to,
             },
             load,
         }),
@@ -221,18 +221,6 @@ fn put_route(line: &mut Vec<u8>, alloc: Global, book: &Book, phrase: Phrase) -> 
     put_bytes(line, b">".as_slice())?;
     put_name(line, book.names, phrase.to)?;
     put_bytes(line, b" ".as_slice())
-}
-
-fn put_message(
-    line: &mut Vec<u8>,
-    alloc: Global,
-    book: &Book,
-    message: Message,
-) -> Result<(), Memory>
-    ensures { OnOk result (line.new.items ≡ line.old.items ++ (phrase_text (words book.now) message.phrase ++ load_text (words book.now) message.load)) }
-{
-    put_phrase(line, alloc, book, message.phrase)?;
-    put_load(line, alloc, book, message.load)
 }
 
 fn put_start(
@@ -296,7 +284,10 @@ fn put_said(line: &mut Vec<u8>, alloc: Global, event: &Event, book: &Book) -> Re
     ensures { OnOk result (line.new.items ≡ line.old.items ++ said (words book.now) event.now) }
 {
     match message_of(event) {
-        Some(message) => put_message(line, alloc, book, message),
+        Some(message) => {
+            put_phrase(line, alloc, book, message.phrase)?;
+            put_load(line, alloc, book, message.load)
+        }
         None => put_deed(line, alloc, event, book),
     }
 }
@@ -329,13 +320,13 @@ pub(crate) fn put_deed(
             put_bytes(line, b" ".as_slice())?;
             put_name(line, book.names, *var)?;
             put_bytes(line, b" ".as_slice())?;
-            put_value(line, alloc, book, *value)
+            put_value(line, alloc, book, value)
         }
         Event::Show { pid, value } => {
             put_bytes(line, b" show ".as_slice())?;
             put_process(line, alloc, book, *pid)?;
             put_bytes(line, b" ".as_slice())?;
-            put_value(line, alloc, book, *value)
+            put_value(line, alloc, book, value)
         }
         Event::Host {
             pid,
