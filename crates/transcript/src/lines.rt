@@ -37,7 +37,7 @@ fn lines_of(alloc: Global, events: &[Entry], book: &Book) -> Result<Vec<u8>, Mem
     ensures { IfOk result (λ lines. lines.items ≡ lines_from (words book.now) 1 (map (λ entry. entry.event) events.now)) }
 {
     let mut lines = Vec::new(alloc);
-    let mut phrases = Phrases::new(alloc)?;
+    let mut phrases = Phrases::new(alloc, events.len())?;
     let mut digits = Vec::new(alloc);
     put_number(&mut digits, alloc, 0)?;
     for (index, entry) in events.iter().enumerate() {

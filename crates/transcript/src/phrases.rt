@@ -33,24 +33,23 @@ pub struct Phrase {
     pub to: NameId,
 }
 
-// How many phrases are kept.
-const SLOTS: u32 = 1024;
+// How many phrases are kept of a short run and of a long one; both are powers of 2.
+const FEW: u32 = 1024;
 
-// The slot in which a phrase is kept.
-fn slot_of(phrase: Phrase) -> usize
-    ensures { result < 1024 }
-{
-    let mixed = phrase
+const MANY: u32 = 8192;
+
+// A number that tells most phrases apart.
+fn mixed(phrase: Phrase) -> u32 {
+    phrase
         .pid
-        .wrapping_mul(5)
+        .wrapping_mul(135)
         .wrapping_add(phrase.sid)
-        .wrapping_mul(5)
+        .wrapping_mul(135)
         .wrapping_add(phrase.from.0)
-        .wrapping_mul(5)
+        .wrapping_mul(135)
         .wrapping_add(phrase.to.0)
-        .wrapping_mul(5)
-        .wrapping_add(phrase.verb as u32);
-    (mixed % SLOTS) as usize
+        .wrapping_mul(135)
+        .wrapping_add(phrase.verb as u32)
 }
 
 // A phrase and its text, or nothing.
@@ -100,22 +99,36 @@ impl Slot {
 #[derive(Drop)]
 pub struct Phrases {
     slots: Vec<Slot>,
-    ghost full: { vec_len slots ≡ 1024 },
+    // One less than there are slots.
+    mask: u32,
+    ghost within: { mask < vec_len slots },
 }
 
 impl Phrases {
-    /// No texts.
-    pub fn new(alloc: Global) -> Result<Phrases, Memory>
+    /// No texts, with room for those of a run of so many events.
+    pub fn new(alloc: Global, events: usize) -> Result<Phrases, Memory>
         ensures { IfOk result (λ p. (w : Words) → AreTextsOf w p.slots.items) }
     {
+        let count = if events < MANY as usize { FEW } else { MANY };
         let mut slots = Vec::new(alloc);
-        for _ in 0..SLOTS {
+        for _ in 0..count {
             slots.push(Slot {
                 phrase: None,
                 text: Vec::new(alloc),
             })?;
         }
-        Ok(Phrases { slots })
+        Ok(Phrases {
+            slots,
+            mask: count - 1,
+        })
+    }
+
+    // The slot in which a phrase is kept.
+    #[tactic(auto, using(std::proofs::lemmas::Nat::and_le_r))]
+    fn slot_of(&self, phrase: Phrase) -> usize
+        ensures { result < vec_len self.now.slots }
+    {
+        (mixed(phrase) & self.mask) as usize
     }
 
     /// Appends the text of a phrase.
@@ -124,7 +137,8 @@ impl Phrases {
         ensures kept { OnOk result (AreTextsOf (words book.now) self.new.slots.items) }
         ensures ok { OnOk result (line.new.items ≡ line.old.items ++ phrase_text (words book.now) phrase) }
     {
-        let slot = &mut self.slots[slot_of(phrase)];
+        let place = self.slot_of(phrase);
+        let slot = &mut self.slots[place];
         slot.put(line, phrase, book)
     }
 }
