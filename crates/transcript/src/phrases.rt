@@ -33,10 +33,19 @@ pub struct Phrase {
     pub to: NameId,
 }
 
-// How many phrases are kept of a short run and of a long one; both are powers of 2.
-const FEW: u32 = 1024;
-
-const MANY: u32 = 8192;
+// How many phrases are kept of a run of so many events: a power of 2, since a table for a long run
+// takes longer to make than a short run to write.
+fn count_for(events: usize) -> u32
+    ensures { 0 < result }
+{
+    if events < 64 {
+        16
+    } else if events < 8192 {
+        512
+    } else {
+        8192
+    }
+}
 
 // A number that tells most phrases apart.
 fn mixed(phrase: Phrase) -> u32 {
@@ -109,7 +118,7 @@ impl Phrases {
     pub fn new(alloc: Global, events: usize) -> Result<Phrases, Memory>
         ensures { IfOk result (λ p. (w : Words) → AreTextsOf w p.slots.items) }
     {
-        let count = if events < MANY as usize { FEW } else { MANY };
+        let count = count_for(events);
         let mut slots = Vec::new(alloc);
         for _ in 0..count {
             slots.push(Slot {
