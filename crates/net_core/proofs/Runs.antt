@@ -19,7 +19,7 @@ use Rattle.net_core.specs.declared.answer.Picked.TheVariants.{Ended, Limit, Stuc
 use Rattle.net_core.specs.Heads.{steps_at, steps_of, why_at, why_of, ended_at, ended_of}
 use Rattle.net_core.specs.Views.{NetworkView}
 use Rattle.net_core.specs.Steps.{FitsMore, HasGrown, most_served}
-use Rattle.net_core.specs.Picks.{GoesOn, stays, goes, entries_of, HasRun, HasGone, Runs, HasTurned, HasClosed, Turns, IsStuck}
+use Rattle.net_core.specs.Picks.{Underway, GoesOn, stays, goes, entries_of, HasRun, HasGone, Runs, HasTurned, HasClosed, Turns, IsStuck}
 use Rattle.session_starts.proofs.Places.{both_true}
 use Rattle.net_core.proofs.Leaders.{some_there}
 
@@ -172,12 +172,6 @@ closed_by (goes s t u w rest) j c h closes = close.goes s t u w (closed_by rest 
 length-entries_of : (xs : List Event) → length (entries_of xs) ≡ length xs
 length-entries_of xs = length-map xs _
 
--- what holds before each turn
-pub record Underway (hosts : Hosts) (seed steps : ℕ) (first now : NetworkView) : Type 0 where
-  pub gone : HasGone hosts seed steps first now
-  pub before : length now.history ≤ steps
-  pub fits : FitsMore now (steps - length now.history)
-
 pub begun_run : (hosts : Hosts) (seed steps : ℕ) (v : NetworkView) → length v.history ≤ steps → FitsMore v (steps - length v.history) → Underway hosts seed steps v v
 begun_run hosts seed steps v le fits = record { gone = record { events = []; endpoints = refl; history = sym (append-nil v.history); run = stays }; before = le; fits = fits }
 
@@ -261,3 +255,41 @@ closes_run hosts seed steps first old new Memory u (inl h) =
       run = subst (λ (n : NetworkState). GoesOn first.endpoints hosts seed steps first.state (length first.history) g.events n) (sym h.state) g.run;
     }
 closes_run hosts seed steps first old new Memory u (inr t) = (underway_more hosts seed steps first old new u t).gone
+
+-- ---- a run in two parts
+
+goes_then : {e : Endpoints} {hosts : Hosts} {seed steps : ℕ} {n m : NetworkState} {k : ℕ} {xs : List Event} → GoesOn e hosts seed steps n k xs m → (last : NetworkState) (j : ℕ) (ys : List Event) → j ≡ k + length xs → GoesOn e hosts seed steps m j ys last → GoesOn e hosts seed steps n k (xs ++ ys) last
+goes_then {e} {hosts} {seed} {steps} {n} {k = k} stays last j ys h rest =
+    let same : j ≡ k = omega arith in
+    subst (λ (i : ℕ). GoesOn e hosts seed steps n i ys last) same rest
+goes_then (goes s t u w first) last j ys h rest = goes s t u w (goes_then first last j ys (omega arith) rest)
+
+scheduled_then : {e : Endpoints} {hosts : Hosts} {seed steps : ℕ} {n m : NetworkState} {k : ℕ} {xs : List Event} → GoesOn e hosts seed steps n k xs m → (last : NetworkState) (j : ℕ) (ys : List Event) (c : Close) → j ≡ k + length xs → IsScheduled e hosts None seed steps m j ys last c → IsScheduled e hosts None seed steps n k (xs ++ ys) last c
+scheduled_then {e} {hosts} {seed} {steps} {n} {k = k} stays last j ys c h rest =
+    let same : j ≡ k = omega arith in
+    subst (λ (i : ℕ). IsScheduled e hosts None seed steps n i ys last c) same rest
+scheduled_then (goes s t u w first) last j ys c h rest = close.goes s t u w (scheduled_then first last j ys c (omega arith) rest)
+
+history_then : (a b c : List Entry) (xs ys : List Event) → b ≡ a ++ entries_of xs → c ≡ b ++ entries_of ys → c ≡ a ++ entries_of (xs ++ ys)
+history_then a b c xs ys h k =
+    k ∙ ap (λ (l : List Entry). l ++ entries_of ys) h ∙ append_assoc a (entries_of xs) (entries_of ys) ∙ ap (λ (r : List Entry). a ++ r) (sym (map-append _ xs ys))
+
+closed_then : (hosts : Hosts) (seed steps : ℕ) (first mid new : NetworkView) (c : Close) → HasGone hosts seed steps first mid → HasRun hosts seed steps mid new c → HasRun hosts seed steps first new c
+closed_then hosts seed steps first mid new c g r = record {
+  events = g.events ++ r.events;
+  endpoints = r.endpoints ∙ g.endpoints;
+  history = history_then first.history mid.history new.history g.events r.events g.history r.history;
+  run = scheduled_then g.run new.state (length mid.history) r.events c (events_so_far hosts seed steps first mid g) (subst (λ (e : Endpoints). IsScheduled e hosts None seed steps mid.state (length mid.history) r.events new.state c) g.endpoints r.run);
+}
+
+-- a run goes on from where its first part has led
+pub runs_then : (hosts : Hosts) (seed steps : ℕ) (first mid new : NetworkView) (r : Picked) → HasGone hosts seed steps first mid → Runs hosts seed steps mid r new → Runs hosts seed steps first r new
+runs_then hosts seed steps first mid new Ended g h = closed_then hosts seed steps first mid new close.Ended g h
+runs_then hosts seed steps first mid new Limit g h = closed_then hosts seed steps first mid new close.Limit g h
+runs_then hosts seed steps first mid new (Stuck p why) g h = closed_then hosts seed steps first mid new (close.Stuck p why) g h
+runs_then hosts seed steps first mid new Memory g h = record {
+  events = g.events ++ h.events;
+  endpoints = h.endpoints ∙ g.endpoints;
+  history = history_then first.history mid.history new.history g.events h.events g.history h.history;
+  run = goes_then g.run new.state (length mid.history) h.events (events_so_far hosts seed steps first mid g) (subst (λ (e : Endpoints). GoesOn e hosts seed steps mid.state (length mid.history) h.events new.state) g.endpoints h.run);
+}

@@ -1,8 +1,9 @@
 -- Loops over the processes of a network.
-use Rattle.std.proofs.Common.{◌≡◌, ℕ, suc, ◌+◌, ◌<◌, ◌&&◌, Bool, cond, List, [], ◌∷◌, ◌++◌, length, drop, get_or, refl, sym, ap, ◌∙◌, Option, Some, None, arith, add-one}
-use Rattle.std.specs.Prelude.{slice_get}
+use Rattle.std.proofs.Common.{◌≡◌, ℕ, suc, ◌+◌, ◌<◌, ◌&&◌, Bool, true, false, cond, List, [], ◌∷◌, ◌++◌, length, drop, get_or, refl, sym, ap, ◌∙◌, Option, Some, None, arith, add-one}
+use Rattle.std.specs.Prelude.{slice_get, if◌then◌else◌}
 use Rattle.std.proofs.lemmas.Option.{slice_get-get_or}
 use Rattle.std.proofs.lemmas.List.{drop_more}
+use Rattle.std.proofs.Common.{append_assoc}
 use Rattle.chor_base.specs.declared.names.NameId.{NameId}
 use Rattle.chor_base.specs.declared.event.Why.{Why}
 use Rattle.endpoint_code.specs.declared.endpoints.Endpoints.{Endpoints}
@@ -58,3 +59,17 @@ waiting_turn e n i b lt h =
 
 pub get_next : (x : ℕ) (xs : List ℕ) (i j : ℕ) → i ≡ suc j → slice_get (x ∷ xs) i ≡ slice_get xs j
 get_next x xs i j h = ap (slice_get (x ∷ xs)) h
+
+-- ---- a look at each process
+
+pub and_true : (a : Bool) → (a && true) ≡ a
+and_true true = refl
+and_true false = refl
+
+pub ended_more : (a b rest all : Bool) → (a && (b && rest)) ≡ all → ((a && b) && rest) ≡ all
+ended_more true b rest all h = h
+ended_more false b rest all h = h
+
+pub listed_more : (b : Bool) (xs : List ℕ) (i : ℕ) (rest new all : List ℕ) → new ≡ (if b then xs ++ i ∷ [] else xs) → xs ++ cond b (i ∷ rest) rest ≡ all → new ++ rest ≡ all
+listed_more true xs i rest new all h k = ap (λ (l : List ℕ). l ++ rest) h ∙ append_assoc xs (i ∷ []) rest ∙ k
+listed_more false xs i rest new all h k = ap (λ (l : List ℕ). l ++ rest) h ∙ k

@@ -1,5 +1,5 @@
 -- Runs by the pick rule.
-use Rattle.std.specs.Prelude.{ℕ, suc, ◌≡◌, ◌≢◌, ◌⊎◌, ◌++◌, false, List, [], ◌∷◌, length, map, Option, Some, None}
+use Rattle.std.specs.Prelude.{ℕ, suc, ◌≤◌, ◌-◌, ◌≡◌, ◌≢◌, ◌⊎◌, ◌++◌, false, List, [], ◌∷◌, length, map, Option, Some, None}
 use Rattle.chor_base.specs.declared.event.Event.{Event}
 use Rattle.chor_base.specs.declared.event.Entry.{Entry}
 use Rattle.chor_base.specs.declared.event.Why.{Why}
@@ -13,7 +13,7 @@ use Rattle.net_core.specs.declared.answer.Picked.{Picked}
 use Rattle.net_core.specs.declared.answer.Picked.TheVariants.{Ended, Limit, Stuck, Memory}
 use Rattle.net_core.specs.Heads.{why_at}
 use Rattle.net_core.specs.Views.{NetworkView, IsSame}
-use Rattle.net_core.specs.Steps.{HasStepped, HasGrown}
+use Rattle.net_core.specs.Steps.{HasStepped, HasGrown, FitsMore}
 
 -- a process with the cause by which it waits
 abbrev pub waiting_at : Endpoints → NetworkState → Option ℕ → Option (ℕ × Option Why)
@@ -55,6 +55,17 @@ Runs hosts seed steps old Ended new = HasRun hosts seed steps old new close.Ende
 Runs hosts seed steps old Limit new = HasRun hosts seed steps old new close.Limit
 Runs hosts seed steps old (Stuck p why) new = HasRun hosts seed steps old new (close.Stuck p why)
 Runs hosts seed steps old Memory new = HasGone hosts seed steps old new
+
+-- the same, before an event that is still asked for: more events fit
+pub record Underway (hosts : Hosts) (seed steps : ℕ) (first now : NetworkView) : Type 0 where
+  pub gone : HasGone hosts seed steps first now
+  pub before : length now.history ≤ steps
+  pub fits : FitsMore now (steps - length now.history)
+
+-- What a part of a scheduled run answers: how the run closed, or nothing where it goes on
+abbrev pub RunsOrGoesOn : Hosts → ℕ → ℕ → NetworkView → Option Picked → NetworkView → Type 0
+RunsOrGoesOn hosts seed steps old None new = Underway hosts seed steps old new
+RunsOrGoesOn hosts seed steps old (Some r) new = Runs hosts seed steps old r new
 
 -- ---- one turn
 

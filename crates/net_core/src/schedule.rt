@@ -1,20 +1,49 @@
 //! Runs by the pick rule.
 
-ghost use Rattle.std.specs.Prelude.{◌≡◌, ◌≢◌, ◌<◌, ◌≤◌, ◌-◌, ◌^◌, [], length, None, Some, ◌↔◌, true, false, slice_get};
+ghost use Rattle.std.specs.Prelude.{◌≡◌, ◌≢◌, ◌<◌, ◌≤◌, ◌+◌, ◌-◌, ◌^◌, ◌++◌, ◌∷◌, [], if◌then◌else◌, length, IfOk, OnOk, None, Some, ◌↔◌, true, false, slice_get};
 ghost use Rattle.chor_host.specs.Functions.{hosts_in, names_of};
 ghost use Rattle.chor_host.specs.Tables.{functions_of};
 ghost use Rattle.endpoint_code.specs.Faults.{AsksKnown, is_listed};
 ghost use Rattle.endpoint_code.specs.NetworkRuns.{all_ended, none_can_step};
-ghost use Rattle.endpoint_code.specs.Scheduled.{listed, picked, first_waiting};
+ghost use Rattle.endpoint_code.specs.Scheduled.{listed, picked, picked_of, first_waiting};
+ghost use Rattle.net_core.specs.Heads.{EachStands};
 ghost use Rattle.net_core.specs.Steps.{FitsMore};
 ghost use Rattle.net_core.specs.Candidates.{IsUpToDate};
-ghost use Rattle.net_core.specs.Picks.{waiting_at, Runs, Turns, IsStuck};
+ghost use Rattle.net_core.specs.Picks.{waiting_at, Runs, RunsOrGoesOn, Turns, IsStuck};
 
 use crate::answer::Picked;
 use crate::candidates::{Candidates, Past};
 use crate::network::Network;
 use crate::parts::place_of_pick;
+use crate::standing::has_ended;
+use chor_base::Memory;
 use chor_host::HostTable;
+
+// Up to how many processes a look at each of them costs less than to keep who may be picked.
+const FEW: u32 = 4;
+
+// The process that the pick rule takes among these after so many events.
+fn picked_of(pids: &[u32], seed: u64, events: u64) -> Option<u32>
+    requires small { seed < 2 ^ 32 }
+    requires few { events < 2 ^ 63 }
+    ensures { result ≡ picked_of pids.now (seed + events) }
+{
+    let count = pids.len() as u64;
+    if count == 0 {
+        return None;
+    }
+    Some(pids[place_of_pick(seed, events, count) as usize])
+}
+
+// A process comes last among these, if it is one of those that count.
+fn add_if(pids: &mut Vec<u32>, pid: u32, counts: bool) -> Result<(), Memory>
+    ensures { OnOk result (pids.new.items ≡ (if counts then pids.old.items ++ pid ∷ [] else pids.old.items)) }
+{
+    if counts {
+        pids.push(pid)?;
+    }
+    Ok(())
+}
 
 impl Network<'_> {
     // How many events there are.
@@ -132,14 +161,74 @@ impl Network<'_> {
         }
     }
 
-    /// Goes on by the pick rule until every process has ended, there are as many events as asked
-    /// for, or no process can step. After `Memory` the events made so far stand. An event costs
-    /// what its own processes do, and those that wait for what it changes; a start also looks for
-    /// its partners, from the first process on.
-    pub fn run_picked(&mut self, hosts: &HostTable, seed: u64, steps: u64) -> Picked
+    // Who may be picked, in order, by a look at each process. Tells whether every process has ended.
+    fn survey(&self, pids: &mut Vec<u32>) -> Result<bool, Memory>
+        ensures ended { IfOk result (λ ended. ended ≡ all_ended self.now.endpoints self.now.state.machines) }
+        ensures listed { OnOk result (pids.new.items ≡ listed self.now.endpoints None self.now.state) }
+        ensures stand { EachStands self.now.endpoints self.now.state }
+    {
+        pids.clear();
+        let mut ended = true;
+        for pid in 0..self.count() {
+            let head = self.head(pid);
+            ended &= has_ended(head);
+            add_if(pids, pid, self.is_listed(pid, head))?;
+        }
+        Ok(ended)
+    }
+
+    // One event of a scheduled run, unless it is closed, by a look at each process.
+    fn turn_among_few(
+        &mut self,
+        pids: &mut Vec<u32>,
+        hosts: &HostTable,
+        seed: u64,
+        steps: u64,
+    ) -> Option<Picked>
         requires hosts { AsksKnown (is_listed (names_of (functions_of hosts.now)) self.old.endpoints) self.old.endpoints }
         requires seed { seed < 2 ^ 32 }
-        requires few { steps ≤ 1000000 }
+        requires fits { length self.old.history ≢ steps → FitsMore self.old 1 }
+        ensures { Turns (hosts_in self.old.endpoints.names (functions_of hosts.now)) seed steps self.old result self.new }
+    {
+        let Ok(ended) = self.survey(pids) else {
+            return Some(Picked::Memory);
+        };
+        if ended {
+            return Some(Picked::Ended);
+        }
+        if self.events() == steps {
+            return Some(Picked::Limit);
+        }
+        let Some(pid) = picked_of(pids.as_slice(), seed, self.events()) else {
+            return Some(self.stuck());
+        };
+        match self.go(pid, self.head(pid), hosts) {
+            Ok(()) => None,
+            Err(_) => Some(Picked::Memory),
+        }
+    }
+
+    // Goes on by the pick rule as long as there are few processes. Tells how the run closed, if it did.
+    fn run_among_few(&mut self, hosts: &HostTable, seed: u64, steps: u64) -> Option<Picked>
+        requires hosts { AsksKnown (is_listed (names_of (functions_of hosts.now)) self.old.endpoints) self.old.endpoints }
+        requires seed { seed < 2 ^ 32 }
+        requires before { length self.old.history ≤ steps }
+        requires fits { FitsMore self.old (steps - length self.old.history) }
+        ensures { RunsOrGoesOn (hosts_in self.old.endpoints.names (functions_of hosts.now)) seed steps self.old result self.new }
+    {
+        let mut pids = Vec::new(self.alloc);
+        while self.count() <= FEW {
+            if let Some(picked) = self.turn_among_few(&mut pids, hosts, seed, steps) {
+                return Some(picked);
+            }
+        }
+        None
+    }
+
+    // Goes on by the pick rule, and keeps who may be picked from event to event.
+    fn run_among_many(&mut self, hosts: &HostTable, seed: u64, steps: u64) -> Picked
+        requires hosts { AsksKnown (is_listed (names_of (functions_of hosts.now)) self.old.endpoints) self.old.endpoints }
+        requires seed { seed < 2 ^ 32 }
         requires before { length self.old.history ≤ steps }
         requires fits { FitsMore self.old (steps - length self.old.history) }
         ensures { Runs (hosts_in self.old.endpoints.names (functions_of hosts.now)) seed steps self.old result self.new }
@@ -151,6 +240,25 @@ impl Network<'_> {
             if let Some(picked) = self.turn(&mut candidates, hosts, seed, steps) {
                 return picked;
             }
+        }
+    }
+
+    /// Goes on by the pick rule until every process has ended, there are as many events as asked
+    /// for, or no process can step. After `Memory` the events made so far stand. Where there are few
+    /// processes, an event costs a look at each. Where there are more, it costs what its own
+    /// processes do, and those that wait for what it changes; a start also looks for its partners,
+    /// from the first process on.
+    pub fn run_picked(&mut self, hosts: &HostTable, seed: u64, steps: u64) -> Picked
+        requires hosts { AsksKnown (is_listed (names_of (functions_of hosts.now)) self.old.endpoints) self.old.endpoints }
+        requires seed { seed < 2 ^ 32 }
+        requires few { steps ≤ 1000000 }
+        requires before { length self.old.history ≤ steps }
+        requires fits { FitsMore self.old (steps - length self.old.history) }
+        ensures { Runs (hosts_in self.old.endpoints.names (functions_of hosts.now)) seed steps self.old result self.new }
+    {
+        match self.run_among_few(hosts, seed, steps) {
+            Some(picked) => picked,
+            None => self.run_among_many(hosts, seed, steps),
         }
     }
 }

@@ -2,8 +2,8 @@ use Rattle.std.proofs.Common.{◌-◌, length}
 use Rattle.chor_host.specs.Functions.{hosts_in}
 use Rattle.chor_host.specs.Tables.{functions_of}
 use Rattle.net_core.specs.Candidates.{IsUpToDate}
-use Rattle.net_core.proofs.Runs.{Underway}
-use Rattle.net_core.proofs.network.Network.run_picked.Given as goal
+use Rattle.net_core.specs.Picks.{Underway}
+use Rattle.net_core.proofs.network.Network.run_among_many.Given as goal
 
 abbrev pub invariant-loop-picked : goal.invariant-loop-picked
 invariant-loop-picked g l = record {
