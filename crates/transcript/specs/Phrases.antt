@@ -54,14 +54,15 @@ deed_text w (Set p x v) = said w (Set p x v)
 deed_text w (Show p v) = said w (Show p v)
 deed_text w (Host p x f a b v) = said w (Host p x f a b v)
 
--- nothing is kept, or the text of its phrase
+-- this is the text of the phrase that is kept, if one is
 abbrev pub IsKept : Words → Option Phrase → List ℕ → Type 0
 IsKept w None text = Unit {0}
 IsKept w (Some m) text = text ≡ phrase_text w m
 
+-- a slot has the text of its phrase, if it keeps one
 abbrev pub IsTextOf : Words → Slot → Type 0
 IsTextOf w s = IsKept w s.phrase s.text.items
 
--- the slots have the texts of their phrases, with these words
+-- each slot has the text of its phrase, if it keeps one, with these words
 abbrev pub AreTextsOf : Words → List Slot → Type 0
 AreTextsOf w slots = All (IsTextOf w) slots
