@@ -19,3 +19,4 @@ pub mod Parts
 pub mod Ascents
 pub mod Allowed
 pub mod Direct
+pub mod RoleTexts

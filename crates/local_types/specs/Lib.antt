@@ -7,3 +7,4 @@ pub mod Graph
 pub mod Table
 pub mod States
 pub mod Starts
+pub mod Texts
