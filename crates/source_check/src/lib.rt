@@ -5,4 +5,4 @@ mod rules;
 mod source;
 
 pub use rules::{Class, Rules};
-pub use source::{check, read};
+pub use source::{check, read, types_text};

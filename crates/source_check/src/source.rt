@@ -4,6 +4,7 @@ ghost use Rattle.std.specs.Prelude.{◌≤◌, ◌<◌, ◌^◌, IfOk, IfErr, On
 ghost use Rattle.chor_host.specs.Functions.{names_of};
 ghost use Rattle.chor_host.specs.Tables.{functions_of};
 ghost use Rattle.source_check.specs.Classes.{IsFaultless, classes_of};
+ghost use Rattle.local_types.specs.Texts.{IsTypesText};
 ghost use Rattle.source_check.specs.Source.{IsFileOf, IsBroken, IsDenialOfTokens};
 ghost use Rattle.source_check.specs.declared.rules.Rules.TheVariants.{Views};
 
@@ -13,7 +14,7 @@ use chor_lexer::tokens;
 use chor_parser::parse;
 use chor_tree::File;
 use global_types::check_protocols;
-use local_types::check_views;
+use local_types::{check_views, types_text as text_of_types};
 use name_resolution::resolve;
 use std::alloc::Global;
 
@@ -44,4 +45,17 @@ pub fn check(alloc: Global, file: &File, hosts: &HostTable) -> Result<(), Denied
     check_protocols(file)?;
     check_views(alloc, file)?;
     Ok(())
+}
+
+/// The text of the local types of a file, which is judged as by `check`.
+#[tactic(auto, using(crate::proofs::Checked::names_broken, crate::proofs::Checked::protocols_broken, crate::proofs::Checked::views_broken))]
+pub fn types_text(alloc: Global, file: &File, hosts: &HostTable) -> Result<Vec<u8>, Denied>
+    ensures text { IfOk result (λ text. IsTypesText file.now text.items) }
+    ensures faultless { OnOk result (IsFaultless (names_of (functions_of hosts.now)) file.now (classes_of Views)) }
+    ensures broken { IfErr result (IsBroken (classes_of Views) (names_of (functions_of hosts.now)) file.now) }
+{
+    resolve(alloc, file, hosts)?;
+    check_protocols(file)?;
+    let text = text_of_types(alloc, file)?;
+    Ok(text)
 }
