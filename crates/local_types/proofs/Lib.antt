@@ -20,3 +20,4 @@ pub mod Ascents
 pub mod Allowed
 pub mod Direct
 pub mod RoleTexts
+pub mod Places

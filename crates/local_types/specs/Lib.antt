@@ -8,3 +8,4 @@ pub mod Table
 pub mod States
 pub mod Starts
 pub mod Texts
+pub mod Places

@@ -40,16 +40,27 @@ abbrev pub move_to : ℕ → Option Act → Option ℕ → List Move
 move_to i act None = []
 move_to i act (Some j) = record { from = i; act = act; to = j } ∷ []
 
+-- the moves of a choice, where names stand for these states
+abbrev pub arms_by : (NameId → Option ℕ) → NameId → ℕ → NameId → NameId → List ProtoArm → List Move
+arms_by place r i a b [] = []
+arms_by place r i a b (arm ∷ arms) = move_to i (choice_act r a b arm.label.name) (place arm.next.name) ++ arms_by place r i a b arms
+
 abbrev pub arms_moves : List State → NameId → ℕ → NameId → NameId → List ProtoArm → List Move
-arms_moves ss r i a b [] = []
-arms_moves ss r i a b (arm ∷ arms) = move_to i (choice_act r a b arm.label.name) (state_named ss arm.next.name) ++ arms_moves ss r i a b arms
+arms_moves ss = arms_by (state_named ss)
+
+abbrev pub step_by : (NameId → Option ℕ) → NameId → ℕ → ProtoStep → List Move
+step_by place r i End = []
+step_by place r i (Value a b c next) = move_to i (value_act r a.name b.name c) (place next.name)
+step_by place r i (Choice a b arms) = arms_by place r i a.name b.name arms
 
 abbrev pub step_moves : List State → NameId → ℕ → ProtoStep → List Move
-step_moves ss r i End = []
-step_moves ss r i (Value a b c next) = move_to i (value_act r a.name b.name c) (state_named ss next.name)
-step_moves ss r i (Choice a b arms) = arms_moves ss r i a.name b.name arms
+step_moves ss = step_by (state_named ss)
 
 -- the moves from these states, of which the first has the number i
+abbrev pub moves_by : (NameId → Option ℕ) → NameId → ℕ → List State → List Move
+moves_by place r i [] = []
+moves_by place r i (s ∷ rest) = step_by place r i s.step ++ moves_by place r (i + 1) rest
+
+-- where a name stands for the first state that has it
 abbrev pub moves_from : List State → NameId → ℕ → List State → List Move
-moves_from ss r i [] = []
-moves_from ss r i (s ∷ rest) = step_moves ss r i s.step ++ moves_from ss r (i + 1) rest
+moves_from ss = moves_by (state_named ss)

@@ -2,13 +2,13 @@
 
 ghost use Rattle.std.specs.Prelude.{◌≡◌, ◌++◌, ◌<◌, ◌≤◌, ◌^◌, OnOk, IfOk, Some, None, length, if◌then◌else◌};
 ghost use Rattle.std.specs.List.{flat_map};
-ghost use Rattle.global_types.specs.Moves.{IsIn, state_named};
-ghost use Rattle.local_types.specs.Moves.{AreMoves, choice_act, value_act, move_to, arms_moves, step_moves, moves_from};
+ghost use Rattle.global_types.specs.Moves.{IsIn};
+ghost use Rattle.local_types.specs.Places.{place_in, with_place, ArePlaces};
+ghost use Rattle.local_types.specs.Moves.{AreMoves, choice_act, value_act, move_to, arms_by, step_by, moves_by, moves_from};
 
 use crate::act::Act;
-use chor_base::{List, Memory, NameId};
+use chor_base::{List, Memory, NameId, NameMap};
 use chor_tree::{Payload, ProtoArm, ProtoStep, Protocol};
-use global_types::step_at;
 use std::alloc::Global;
 
 /// An exchange that leads from a state to a state, and what the role does in it, if anything.
@@ -23,23 +23,60 @@ pub struct Move {
 pub fn moves(alloc: Global, protocol: &Protocol, role: NameId) -> Result<Vec<Move>, Memory>
     ensures { IfOk result (λ v. v.items ≡ moves_from protocol.now.states role 0 protocol.now.states) }
 {
+    let places = places(alloc, protocol)?;
+    placed_moves(alloc, protocol, &places, role)
+}
+
+// The exchanges, where names stand for the states that they have in a table.
+fn placed_moves(
+    alloc: Global,
+    protocol: &Protocol,
+    places: &NameMap<u32>,
+    role: NameId,
+) -> Result<Vec<Move>, Memory>
+    ensures { IfOk result (λ v. v.items ≡ moves_by (place_in places.now.map) role 0 protocol.now.states) }
+{
     let mut moves = Vec::new(alloc);
     let states = protocol.states.as_slice();
     for number in 0..protocol.states.count() {
         let step = &states[number as usize].step;
-        add_step(&mut moves, protocol, role, number, step)?;
+        add_step(&mut moves, places, role, number, step)?;
     }
     Ok(moves)
 }
 
+// The number of the first state of each name.
+fn places(alloc: Global, protocol: &Protocol) -> Result<NameMap<u32>, Memory>
+    ensures { IfOk result (λ places. ArePlaces protocol.now.states places.map) }
+{
+    let mut places = NameMap::new(alloc);
+    let states = protocol.states.as_slice();
+    for number in 0..protocol.states.count() {
+        let state = &states[number as usize];
+        add_place(&mut places, state.name.name, number)?;
+    }
+    Ok(places)
+}
+
+// A name gets a number, unless it has one.
+fn add_place(places: &mut NameMap<u32>, name: NameId, number: u32) -> Result<(), Memory>
+    ensures { OnOk result (places.new.map ≡ with_place places.old.map name number) }
+{
+    if places.get(name).is_none() {
+        places.reserve()?;
+        places.set(name, number);
+    }
+    Ok(())
+}
+
 fn add_step(
     moves: &mut Vec<Move>,
-    protocol: &Protocol,
+    places: &NameMap<u32>,
     role: NameId,
     from: u32,
     step: &ProtoStep,
 ) -> Result<(), Memory>
-    ensures { OnOk result (moves.new.items ≡ moves.old.items ++ step_moves protocol.now.states role from step.now) }
+    ensures { OnOk result (moves.new.items ≡ moves.old.items ++ step_by (place_in places.now.map) role from step.now) }
 {
     match step {
         ProtoStep::End => Ok(()),
@@ -50,7 +87,7 @@ fn add_step(
             next,
         } => {
             let act = value_act(role, sender.name, receiver.name, *payload);
-            add_move(moves, protocol, from, act, next.name)
+            add_move(moves, places, from, act, next.name)
         }
         ProtoStep::Choice {
             from: sender,
@@ -58,7 +95,7 @@ fn add_step(
             arms,
         } => add_arms(
             moves,
-            protocol,
+            places,
             from,
             Parties {
                 role,
@@ -80,12 +117,12 @@ struct Parties {
 
 fn add_arms(
     moves: &mut Vec<Move>,
-    protocol: &Protocol,
+    places: &NameMap<u32>,
     from: u32,
     parties: Parties,
     arms: &[ProtoArm],
 ) -> Result<(), Memory>
-    ensures { OnOk result (moves.new.items ≡ moves.old.items ++ arms_moves protocol.now.states parties.role from parties.sender parties.receiver arms.now) }
+    ensures { OnOk result (moves.new.items ≡ moves.old.items ++ arms_by (place_in places.now.map) parties.role from parties.sender parties.receiver arms.now) }
 {
     for arm in arms {
         let act = choice_act(
@@ -94,7 +131,7 @@ fn add_arms(
             parties.receiver,
             arm.label.name,
         );
-        add_move(moves, protocol, from, act, arm.next.name)?;
+        add_move(moves, places, from, act, arm.next.name)?;
     }
     Ok(())
 }
@@ -125,14 +162,14 @@ fn choice_act(role: NameId, from: NameId, to: NameId, label: NameId) -> Option<A
 
 fn add_move(
     moves: &mut Vec<Move>,
-    protocol: &Protocol,
+    places: &NameMap<u32>,
     from: u32,
     act: Option<Act>,
     next: NameId,
 ) -> Result<(), Memory>
-    ensures { OnOk result (moves.new.items ≡ moves.old.items ++ move_to from act (state_named protocol.now.states next)) }
+    ensures { OnOk result (moves.new.items ≡ moves.old.items ++ move_to from act (place_in places.now.map next)) }
 {
-    if let Some(to) = step_at(protocol, next) {
+    if let Some(to) = places.get(next) {
         moves.push(Move { from, act, to })?;
     }
     Ok(())
