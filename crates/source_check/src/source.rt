@@ -3,7 +3,8 @@
 ghost use Rattle.std.specs.Prelude.{◌≤◌, ◌<◌, ◌^◌, IfOk, IfErr, OnOk, length};
 ghost use Rattle.chor_host.specs.Functions.{names_of};
 ghost use Rattle.chor_host.specs.Tables.{functions_of};
-ghost use Rattle.source_check.specs.Classes.{IsFaultless, classes_of};
+ghost use Rattle.source_check.specs.Classes.{HasNone, IsFaultless, classes_of};
+ghost use Rattle.source_check.specs.declared.rules.Class.TheVariants.{Names, Protocols};
 ghost use Rattle.local_types.specs.Texts.{IsTypesText};
 ghost use Rattle.source_check.specs.Source.{IsFileOf, IsBroken, IsDenialOfTokens};
 ghost use Rattle.source_check.specs.declared.rules.Rules.TheVariants.{Views};
@@ -36,26 +37,36 @@ pub fn read(alloc: Global, bytes: &[u8]) -> Result<File, Denied>
 
 /// Judges a file by the rules of names, protocols and views, in this order, where it may call these
 /// host functions.
-#[tactic(auto, using(crate::proofs::Checked::names_broken, crate::proofs::Checked::protocols_broken, crate::proofs::Checked::views_broken))]
+#[tactic(auto, using(crate::proofs::Checked::views_broken))]
 pub fn check(alloc: Global, file: &File, hosts: &HostTable) -> Result<(), Denied>
     ensures faultless { OnOk result (IsFaultless (names_of (functions_of hosts.now)) file.now (classes_of Views)) }
     ensures broken { IfErr result (IsBroken (classes_of Views) (names_of (functions_of hosts.now)) file.now) }
 {
-    resolve(alloc, file, hosts)?;
-    check_protocols(file)?;
+    check_declared(alloc, file, hosts)?;
     check_views(alloc, file)?;
     Ok(())
 }
 
 /// The text of the local types of a file, which is judged as by `check`.
-#[tactic(auto, using(crate::proofs::Checked::names_broken, crate::proofs::Checked::protocols_broken, crate::proofs::Checked::views_broken))]
+#[tactic(auto, using(crate::proofs::Checked::views_broken))]
 pub fn types_text(alloc: Global, file: &File, hosts: &HostTable) -> Result<Vec<u8>, Denied>
     ensures text { IfOk result (λ text. IsTypesText file.now text.items) }
     ensures faultless { OnOk result (IsFaultless (names_of (functions_of hosts.now)) file.now (classes_of Views)) }
     ensures broken { IfErr result (IsBroken (classes_of Views) (names_of (functions_of hosts.now)) file.now) }
 {
-    resolve(alloc, file, hosts)?;
-    check_protocols(file)?;
+    check_declared(alloc, file, hosts)?;
     let text = text_of_types(alloc, file)?;
     Ok(text)
+}
+
+// Judges a file by the rules of names and protocols.
+#[tactic(auto, using(crate::proofs::Checked::names_broken, crate::proofs::Checked::protocols_broken))]
+fn check_declared(alloc: Global, file: &File, hosts: &HostTable) -> Result<(), Denied>
+    ensures names { OnOk result (HasNone (names_of (functions_of hosts.now)) file.now Names) }
+    ensures protocols { OnOk result (HasNone (names_of (functions_of hosts.now)) file.now Protocols) }
+    ensures broken { IfErr result (IsBroken (classes_of Views) (names_of (functions_of hosts.now)) file.now) }
+{
+    resolve(alloc, file, hosts)?;
+    check_protocols(file)?;
+    Ok(())
 }
