@@ -21,3 +21,4 @@ pub mod Allowed
 pub mod Direct
 pub mod RoleTexts
 pub mod Places
+pub mod Singles

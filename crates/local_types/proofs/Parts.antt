@@ -51,7 +51,7 @@ part_out ms n i d old h was test = record {
 
 -- ---- all parts
 
-get_set : {A : Type 0} (xs : List A) (k : ℕ) (v : A) (n : ℕ) (u : A) → slice_get (slice_set xs k v) n ≡ Some u → ((n ≡ k) × (v ≡ u)) ⊎ ((n ≢ k) × (slice_get xs n ≡ Some u))
+pub get_set : {A : Type 0} (xs : List A) (k : ℕ) (v : A) (n : ℕ) (u : A) → slice_get (slice_set xs k v) n ≡ Some u → ((n ≡ k) × (v ≡ u)) ⊎ ((n ≢ k) × (slice_get xs n ≡ Some u))
 get_set [] k v n u h = absurd (cc)
 get_set (x ∷ xs) zero v zero u h = inl (refl, cc)
 get_set (x ∷ xs) zero v (suc n) u h = inr ((λ e. absurd (omega (arith, e))), h)

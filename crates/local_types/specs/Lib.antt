@@ -9,3 +9,4 @@ pub mod States
 pub mod Starts
 pub mod Texts
 pub mod Places
+pub mod Numbering

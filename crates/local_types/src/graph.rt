@@ -215,7 +215,7 @@ fn alone(alloc: Global, count: usize) -> Result<Vec<Vec<u8>>, Memory>
     Ok(rows)
 }
 
-fn own_row(alloc: Global, count: usize, state: usize) -> Result<Vec<u8>, Memory>
+pub fn own_row(alloc: Global, count: usize, state: usize) -> Result<Vec<u8>, Memory>
     requires { state < count }
     ensures { IfOk result (λ v. IsSetFor count (λ j. state ≡ j) v.items) }
 {

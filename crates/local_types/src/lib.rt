@@ -8,6 +8,7 @@ mod laws;
 mod local_type;
 mod marks;
 mod moves;
+mod numbering;
 mod print;
 mod starts;
 mod table;

@@ -6,17 +6,19 @@ ghost use Rattle.chor_base.specs.declared.names.NameId.{NameId};
 ghost use Rattle.chor_base.specs.Words.{AllDistinct};
 ghost use Rattle.chor_tree.specs.declared.protocol.State.{State};
 ghost use Rattle.global_types.specs.Moves.{IsIn};
-ghost use Rattle.local_types.specs.Sets.{Has, row_at, IsSetFor};
+ghost use Rattle.local_types.specs.Sets.{Has, row_at};
 ghost use Rattle.local_types.specs.Graph.{AreRowsFor, AreInside};
 ghost use Rattle.local_types.specs.Table.{Silent, AreActs, HasGrown, AreArms, nexts, Counts, group_words, arm_words, HasAscendingArms, AreTooMany, IsWhole};
 ghost use Rattle.local_types.specs.Reading.{Ascend};
+ghost use Rattle.local_types.specs.Numbering.{AreSingles};
 ghost use Rattle.local_types.specs.Starts.{HaveAllowed};
 
 use crate::act::Act;
 use crate::graph::{Edge, Group};
 use crate::marks::{has, no_marks, put, union};
+use crate::numbering::{Numbering, no_sets, number_after};
 use crate::starts::{candidates, starts};
-use chor_base::{Memory, Texts};
+use chor_base::Memory;
 use std::alloc::Global;
 
 /// The most sets that a role's view may have.
@@ -47,19 +49,19 @@ pub fn rows(alloc: Global, groups: &[Group], reach: &[Vec<u8>]) -> Result<Option
 {
     let mut first = no_marks(alloc, reach.len())?;
     put(&mut first, 0);
-    let mut sets = Texts::new(alloc);
-    sets.intern(first.as_slice())?;
+    let mut numbering = no_sets(alloc, reach.len())?;
+    numbering.sets.intern(first.as_slice())?;
     let starts = starts(alloc, reach.len(), groups)?;
     let mut rows = Vec::new(alloc);
-    while rows.len() < sets.len() {
-        let still = union(alloc, sets.at(rows.len() as u32), reach)?;
+    while rows.len() < numbering.sets.len() {
+        let still = union(alloc, numbering.sets.at(rows.len() as u32), reach)?;
         let numbers = candidates(alloc, still.as_slice(), starts.as_slice(), groups)?;
         match arms(
             alloc,
             groups,
             numbers.as_slice(),
             still.as_slice(),
-            &mut sets,
+            &mut numbering,
         )? {
             Some(arms) => rows.push(Row { still, arms })?,
             None => return Ok(None),
@@ -75,21 +77,23 @@ fn arms(
     groups: &[Group],
     numbers: &[usize],
     still: &[u8],
-    sets: &mut Texts,
+    numbering: &mut Numbering,
 ) -> Result<Option<Vec<Arm>>, Memory>
     requires inside { AreInside (length still.now) groups.now }
-    requires few { length sets.old ≤ 1024 }
-    requires distinct { AllDistinct sets.old }
+    requires few { length numbering.old.sets ≤ 1024 }
+    requires distinct { AllDistinct numbering.old.sets }
+    requires singles { AreSingles (length still.now) numbering.old.sets numbering.old.singles.items }
     requires rising { IsNonDecreasing numbers.now }
     requires allowed { HaveAllowed groups.now still.now numbers.now }
-    ensures distinct { AllDistinct sets.new }
-    ensures longer { OnOk result (length sets.old ≤ length sets.new) }
-    ensures sizes { OnOk result ((k : ℕ) (v : List ℕ) → slice_get sets.new k ≡ Some v → (slice_get sets.old k ≡ Some v) ⊎ (length v ≡ length still.now)) }
-    ensures count { IfOk result (λ o. MatchOption o (length sets.new ≡ 1025) (λ v. length sets.new ≤ 1024)) }
-    ensures grown { OnOk result ((ss : List State) (r : NameId) → AreActs ss r groups.now → HasGrown ss r (length still.now) still.now sets.old sets.new) }
-    ensures numbered { IfOk result (λ o. MatchOption o (Unit {0}) (λ v. Counts (length sets.old) (nexts v.items) (length sets.new))) }
+    ensures distinct { AllDistinct numbering.new.sets }
+    ensures singles { OnOk result (AreSingles (length still.now) numbering.new.sets numbering.new.singles.items) }
+    ensures longer { OnOk result (length numbering.old.sets ≤ length numbering.new.sets) }
+    ensures sizes { OnOk result ((k : ℕ) (v : List ℕ) → slice_get numbering.new.sets k ≡ Some v → (slice_get numbering.old.sets k ≡ Some v) ⊎ (length v ≡ length still.now)) }
+    ensures count { IfOk result (λ o. MatchOption o (length numbering.new.sets ≡ 1025) (λ v. length numbering.new.sets ≤ 1024)) }
+    ensures grown { OnOk result ((ss : List State) (r : NameId) → AreActs ss r groups.now → HasGrown ss r (length still.now) still.now numbering.old.sets numbering.new.sets) }
+    ensures numbered { IfOk result (λ o. MatchOption o (Unit {0}) (λ v. Counts (length numbering.old.sets) (nexts v.items) (length numbering.new.sets))) }
     ensures ascend { IfOk result (λ o. MatchOption o (Unit {0}) (λ v. (names : List (List ℕ)) → Ascend (group_words names groups.now) → Ascend (arm_words names v.items))) }
-    ensures arms { IfOk result (λ o. (ss : List State) (r : NameId) → AreActs ss r groups.now → MatchOption o (Unit {0}) (λ v. AreArms ss r (length still.now) sets.new still.now v.items)) }
+    ensures arms { IfOk result (λ o. (ss : List State) (r : NameId) → AreActs ss r groups.now → MatchOption o (Unit {0}) (λ v. AreArms ss r (length still.now) numbering.new.sets still.now v.items)) }
 {
     let mut arms = Vec::new(alloc);
     let mut place = 0;
@@ -98,9 +102,8 @@ fn arms(
             place = number + 1;
             let group = &groups[number];
             if is_allowed(still, group.edges.as_slice()) {
-                let after = targets(alloc, still, group.edges.as_slice())?;
-                let next = sets.intern(after.as_slice())?;
-                if sets.len() > MOST {
+                let next = number_after(alloc, still, group.edges.as_slice(), numbering)?;
+                if numbering.sets.len() > MOST {
                     return Ok(None);
                 }
                 arms.push(Arm {
@@ -123,18 +126,4 @@ fn is_allowed(still: &[u8], edges: &[Edge]) -> bool
         }
     }
     false
-}
-
-// The states to which these exchanges lead from the states.
-fn targets(alloc: Global, still: &[u8], edges: &[Edge]) -> Result<Vec<u8>, Memory>
-    requires { (e : Edge) → IsIn e edges.now → e.to < length still.now }
-    ensures { IfOk result (λ v. IsSetFor (length still.now) (λ j. (e : Edge) × IsIn e edges.now × Has still.now e.from × (e.to ≡ j)) v.items) }
-{
-    let mut after = no_marks(alloc, still.len())?;
-    for edge in edges {
-        if has(still, edge.from as usize) {
-            put(&mut after, edge.to as usize);
-        }
-    }
-    Ok(after)
 }

@@ -1,8 +1,8 @@
 use Rattle.std.proofs.Common.{length}
 use Rattle.local_types.proofs.Sets.{tested_in, tested_out}
 use Rattle.local_types.proofs.Tables.{target_in, target_out, target_begins, target_whole}
-use Rattle.local_types.proofs.table.targets.Goals as goal
-use Rattle.local_types.proofs.table.targets.Goals.{then-has, else-has}
+use Rattle.local_types.proofs.numbering.targets.Goals as goal
+use Rattle.local_types.proofs.numbering.targets.Goals.{then-has, else-has}
 
 pub loop-edge-init : goal.loop-edge-init
 loop-edge-init c = target_begins (length c.args.still.now) c.args.still.now c.args.edges.now c.in_ok-after.after.items c.in_ok-after.ensures
