@@ -22,3 +22,4 @@ pub mod Direct
 pub mod RoleTexts
 pub mod Places
 pub mod Singles
+pub mod Torn

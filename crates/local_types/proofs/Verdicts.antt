@@ -19,7 +19,7 @@ use Rattle.std.proofs.Math.Dec.{eqb}
 use Rattle.std.proofs.lemmas.Bool.Decides.{nat_tests}
 use Rattle.std.proofs.lemmas.Map.Steps.{length-le_from_distinct_below}
 use Rattle.local_types.specs.Graph.{AreRowsFor}
-use Rattle.local_types.specs.Table.{Circles, ApartAt, IsLeft, IsTorn, Target, AreArms, IsFound, IsTable, AreTooMany, IsWhole}
+use Rattle.local_types.specs.Table.{Circles, IsLeft, HasTorn, Target, AreArms, IsFound, IsTable, AreTooMany, IsWhole}
 use Rattle.local_types.proofs.Lists.{at_of_in, in_of_at}
 use Rattle.local_types.proofs.Sets.{row_within, sets_differ}
 use Rattle.local_types.proofs.Tables.{still_set, next_set}
@@ -248,19 +248,12 @@ not_left ss r n rows circling named whole circles names none l =
 
 -- ---- clashes
 
-pub torn : (ss : List State) (r : NameId) (n : ℕ) (rows : List Row) (apart : List (Vec ℕ Global)) → IsWhole ss r n rows → AreRowsFor n (ApartAt ss r) apart
-    → (row : Row) × IsIn row rows × IsTorn apart row.still.items → Clashes ss r
-torn ss r n rows apart whole are p =
-    let w = row_actions ss r n rows whole p.0 p.1 in
-    let i = p.2.0 in
-    let m = p.2.2 in
-    let a = (are.row i (let b = row_within apart i m.0 m.2 in let e = are.size in omega (arith, b, e))).sound m.0 m.2 in
-    record { actions = w.0; first = i; second = m.0; one = a.one; other = a.other; is_still = w.1.sound i p.2.1; also_still = w.1.sound m.0 m.1; is_one = a.is_one; is_other = a.is_other; is_apart = a.is_apart }
+pub torn : (ss : List State) (r : NameId) (n : ℕ) (rows : List Row) → IsWhole ss r n rows → HasTorn ss r rows → Clashes ss r
+torn ss r n rows whole (row, among, i, j, at, too, a) =
+    let w = row_actions ss r n rows whole row among in
+    record { actions = w.0; first = i; second = j; one = a.one; other = a.other; is_still = w.1.sound i at; also_still = w.1.sound j too; is_one = a.is_one; is_other = a.is_other; is_apart = a.is_apart }
 
-pub not_torn : (ss : List State) (r : NameId) (n : ℕ) (rows : List Row) (apart : List (Vec ℕ Global)) → IsWhole ss r n rows → AreRowsFor n (ApartAt ss r) apart → n ≡ length ss
-    → ((row : Row) → IsIn row rows → IsTorn apart row.still.items → ⊥) → Clashes ss r → ⊥
-not_torn ss r n rows apart whole are size none c =
+pub not_torn : (ss : List State) (r : NameId) (n : ℕ) (rows : List Row) → IsWhole ss r n rows → (HasTorn ss r rows → ⊥) → Clashes ss r → ⊥
+not_torn ss r n rows whole none c =
     let row = actions_row ss r n rows whole c.actions c.first c.is_still in
-    let within : c.first < n = (let b = slice_get_within ss c.first c.one c.is_one in omega (arith, b, size)) in
-    let a : ApartAt ss r c.first c.second = record { one = c.one; other = c.other; is_one = c.is_one; is_other = c.is_other; is_apart = c.is_apart } in
-    none row.0 row.1 (c.first, row.2.complete c.first c.is_still, (c.second, row.2.complete c.second c.also_still, (are.row c.first within).complete c.second a))
+    none (row.0, row.1, c.first, c.second, row.2.complete c.first c.is_still, row.2.complete c.second c.also_still, record { one = c.one; other = c.other; is_one = c.is_one; is_other = c.is_other; is_apart = c.is_apart })

@@ -7,6 +7,10 @@ use Rattle.chor_base.specs.Words.{words_of}
 abbrev pub Has : List ℕ → ℕ → Type 0
 Has marks i = slice_index_or marks i 0 ≡ 1
 
+-- two states are in the set
+abbrev pub HasTwo : List ℕ → Type 0
+HasTwo marks = (i : ℕ) × (j : ℕ) × (i < j) × Has marks i × Has marks j
+
 -- the row of a state; a state that has none has an empty one
 abbrev pub row_at : List (Vec ℕ Global) → ℕ → List ℕ
 row_at rows i = slice_index_or (words_of rows) i []

@@ -166,3 +166,7 @@ IsLeft circling named row = Meets row.still.items circling × Meets row.still.it
 -- the states of a row hold one that is apart from another
 abbrev pub IsTorn : List (Vec ℕ Global) → List ℕ → Type 0
 IsTorn apart still = (i : ℕ) × Has still i × Meets still (row_at apart i)
+
+-- some row holds two states of which the one's step is apart from the other's
+abbrev pub HasTorn : List State → NameId → List Row → Type 0
+HasTorn ss r rows = (row : Row) × IsIn row rows × (i : ℕ) × (j : ℕ) × Has row.still.items i × Has row.still.items j × ApartAt ss r i j

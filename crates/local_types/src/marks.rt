@@ -1,7 +1,7 @@
 //! Sets of states: a byte for each state, which is 1 where the state is in the set and else 0.
 
-ghost use Rattle.std.specs.Prelude.{◌≡◌, ◌==◌, ◌<◌, ℕ, IfOk, IsTrue, ◌↔◌, MatchBool, length, slice_index_or, slice_set, if◌then◌else◌};
-ghost use Rattle.local_types.specs.Sets.{Has, row_at, IsSetFor};
+ghost use Rattle.std.specs.Prelude.{◌≡◌, ◌==◌, ◌<◌, ◌≤◌, ℕ, IfOk, IsTrue, ◌↔◌, MatchBool, length, slice_index_or, slice_set, if◌then◌else◌};
+ghost use Rattle.local_types.specs.Sets.{Has, HasTwo, row_at, IsSetFor};
 
 use chor_base::Memory;
 use std::alloc::Global;
@@ -51,6 +51,30 @@ pub fn meets(marks: &[u8], others: &[u8]) -> bool
 {
     for state in 0..marks.len() {
         if has(marks, state) && has(others, state) {
+            return true;
+        }
+    }
+    false
+}
+
+// Whether two states are in a set.
+pub fn has_two(marks: &[u8]) -> bool
+    ensures { MatchBool result (HasTwo marks.now) (HasTwo marks.now → ⊥) }
+{
+    for state in 0..marks.len() {
+        if has(marks, state) {
+            return has_after(marks, state + 1);
+        }
+    }
+    false
+}
+
+// Whether this state or a later one is in a set.
+fn has_after(marks: &[u8], first: usize) -> bool
+    ensures { MatchBool result ((i : ℕ) × (first ≤ i) × Has marks.now i) ((i : ℕ) → first ≤ i → Has marks.now i → ⊥) }
+{
+    for state in first..marks.len() {
+        if has(marks, state) {
             return true;
         }
     }

@@ -2,10 +2,10 @@
 
 ghost use Rattle.std.specs.Prelude.{◌≡◌, ℕ, List, IfOk, IfErr, OnOk, IsSome, Some, MatchBool, MatchOption, length};
 ghost use Rattle.global_types.specs.Views.{HasTooMany, HasNoViewFault};
-ghost use Rattle.local_types.specs.Sets.{IsSetFor};
+ghost use Rattle.local_types.specs.Sets.{IsSetFor, HasTwo};
 ghost use Rattle.local_types.specs.States.{AreKin, labelled, IsStateOf, AreStatesOf};
 ghost use Rattle.local_types.specs.declared.table.Row.{Row};
-ghost use Rattle.local_types.specs.Table.{IsLeft, IsTorn, HasAscendingArms, IsWhole, Circles};
+ghost use Rattle.local_types.specs.Table.{IsLeft, IsTorn, HasTorn, HasAscendingArms, IsWhole, Circles};
 ghost use Rattle.chor_tree.specs.Protocols.{Protocol};
 ghost use Rattle.global_types.specs.Moves.{IsIn};
 ghost use Rattle.local_types.specs.Reading.{IsTypeOf, IsBreadthFirst, HasAscendingLabels, HasDistinctLabels, role_place, IsRefusal, IsRefusalBy, HasFineRoles, IsFirstRole, IsFirstRefusal};
@@ -14,11 +14,11 @@ use crate::act::Act;
 use crate::apart::{apart, has_clash, named};
 use crate::graph::{circling, groups, reach};
 use crate::local_type::{LocalState, LocalType};
-use crate::marks::meets;
+use crate::marks::{has_two, meets};
 use crate::moves::moves;
 use crate::table::{Arm, Row, rows};
 use chor_base::{Denied, List, Memory, NameId, Names, Place, Refusal, Rule};
-use chor_tree::{File, Named, Protocol};
+use chor_tree::{File, Named, Protocol, State};
 use std::alloc::Global;
 
 /// The type of a role: what it does and sees in a protocol.
@@ -70,8 +70,8 @@ fn judged(
     if leaves_behind(rows, sight.circling.as_slice(), named.as_slice()) {
         return Err(refused(protocol, role, Rule::V2));
     }
-    let apart = apart(alloc, states, role)?;
-    if clashes(rows, apart.as_slice()) {
+    let torn = has_torn(alloc, states, role, rows)?;
+    if torn {
         return Err(refused(protocol, role, Rule::V1));
     }
     Ok(LocalType {
@@ -150,7 +150,31 @@ fn is_left(row: &Row, circling: &[u8], named: &[u8]) -> bool
     meets(row.still.as_slice(), circling) && meets(row.still.as_slice(), named)
 }
 
-// Whether in some set of states two are apart.
+// Whether in some set of states two are apart. No state is apart from itself, so that none is where
+// no set has two states.
+fn has_torn(alloc: Global, states: &[State], role: NameId, rows: &[Row]) -> Result<bool, Memory>
+    ensures { IfOk result (λ torn. MatchBool torn (HasTorn states.now role rows.now) (HasTorn states.now role rows.now → ⊥)) }
+{
+    if !are_crowded(rows) {
+        return Ok(false);
+    }
+    let apart = apart(alloc, states, role)?;
+    Ok(clashes(rows, apart.as_slice()))
+}
+
+// Whether some set has two states.
+fn are_crowded(rows: &[Row]) -> bool
+    ensures { MatchBool result ((row : Row) × IsIn row rows.now × HasTwo row.still.items) ((row : Row) → IsIn row rows.now → HasTwo row.still.items → ⊥) }
+{
+    for row in rows {
+        if has_two(row.still.as_slice()) {
+            return true;
+        }
+    }
+    false
+}
+
+// Whether in some set of states two are apart by a table.
 fn clashes(rows: &[Row], apart: &[Vec<u8>]) -> bool
     ensures { MatchBool result ((row : Row) × IsIn row rows.now × IsTorn apart.now row.still.items) ((row : Row) → IsIn row rows.now → IsTorn apart.now row.still.items → ⊥) }
 {

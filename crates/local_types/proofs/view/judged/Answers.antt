@@ -1,6 +1,5 @@
-use Rattle.std.proofs.Common.{ℕ, List, ◌≡◌, ◌∙◌, ap, sym, refl, subst, length}
-use Rattle.std.specs.Prelude.{Vec}
-use Rattle.std.specs.declared.alloc.Global.{Global}
+use Rattle.std.proofs.Common.{Bool, ℕ, List, ◌≡◌, ◌∙◌, ap, sym, refl, subst, length}
+use Rattle.std.specs.Prelude.{MatchBool}
 use Rattle.chor_base.specs.declared.names.NameId.{NameId}
 use Rattle.chor_base.specs.declared.rule.Rule.{Rule}
 use Rattle.chor_base.specs.declared.rule.Rule.TheVariants.{V1, V2}
@@ -11,8 +10,9 @@ use Rattle.chor_tree.specs.declared.protocol.State.{State}
 use Rattle.global_types.specs.Views.{NamesAt, IsViewFault}
 use Rattle.local_types.specs.Reading.{IsRefusal, IsRefusalBy}
 use Rattle.local_types.specs.Sets.{IsSetFor}
-use Rattle.local_types.specs.Graph.{AreRowsFor}
-use Rattle.local_types.specs.Table.{HasAscendingArms, IsWhole, Circles, ApartAt}
+use Rattle.local_types.specs.Table.{HasAscendingArms, HasTorn, IsWhole, Circles}
+use Rattle.local_types.specs.declared.table.Row.{Row}
+use Rattle.local_types.proofs.Tables.{is_true, is_false}
 use Rattle.local_types.proofs.Verdicts.{few_sets, left_behind, not_left, torn, not_torn}
 use Rattle.local_types.proofs.Kin.{rows_kin}
 use Rattle.local_types.proofs.Counts.{breadth_first}
@@ -26,8 +26,8 @@ refusal_by rule p r Memory h fault = absurd h
 named_handed : (ss seen : List State) (r : NameId) (marks handed : List ℕ) → seen ≡ ss → handed ≡ marks → IsSetFor (length seen) (NamesAt seen r) marks → IsSetFor (length ss) (NamesAt ss r) handed
 named_handed ss seen r marks handed e f was = subst (λ l. IsSetFor (length l) (NamesAt l r) handed) e (subst (λ m. IsSetFor (length seen) (NamesAt seen r) m) (sym f) was)
 
-apart_handed : (ss seen : List State) (r : NameId) (rows handed : List (Vec ℕ Global)) → seen ≡ ss → handed ≡ rows → AreRowsFor (length seen) (ApartAt seen r) rows → AreRowsFor (length ss) (ApartAt ss r) handed
-apart_handed ss seen r rows handed e f was = subst (λ l. AreRowsFor (length l) (ApartAt l r) handed) e (subst (λ m. AreRowsFor (length seen) (ApartAt seen r) m) (sym f) was)
+torn_handed : (ss seen : List State) (r : NameId) (rows : List Row) (b : Bool) → seen ≡ ss → MatchBool b (HasTorn seen r rows) (HasTorn seen r rows → ⊥) → MatchBool b (HasTorn ss r rows) (HasTorn ss r rows → ⊥)
+torn_handed ss seen r rows b e was = subst (λ l. MatchBool b (HasTorn l r rows) (HasTorn l r rows → ⊥)) e was
 
 pub returns-then-leaves_behind-clause-refused : goal.returns-then-leaves_behind-clause-refused
 returns-then-leaves_behind-clause-refused c =
@@ -40,8 +40,8 @@ returns-then-leaves_behind-clause-refused c =
     let names = named_handed ss c.as_slice-states.result.now r c.in_ok-named.named.items c.as_slice-2.result.now (c.as_slice-states.ensures ∙ ap (λ p. p.states) c.protocol.view_is) c.as_slice-2.ensures.value c.in_ok-named.ensures in
     refusal_by V2 c.args.protocol.now r c.refused.result c.refused.ensures (few_sets ss r n rows whole, left_behind ss r n rows c.as_slice.result.now c.as_slice-2.result.now whole circling names c.if-leaves_behind.ensures)
 
-pub returns-then-clashes-clause-refused : goal.returns-then-clashes-clause-refused
-returns-then-clashes-clause-refused c =
+pub returns-then-torn-clause-refused : goal.returns-then-torn-clause-refused
+returns-then-torn-clause-refused c =
     let ss = c.args.protocol.now.states in
     let r = c.args.role in
     let n = length ss in
@@ -49,9 +49,8 @@ returns-then-clashes-clause-refused c =
     let whole = subst (λ l. IsWhole ss r n l) (sym c.as_slice-rows.ensures.value) c.requires.whole in
     let circling = subst (λ m. IsSetFor n (Circles ss r) m) (sym c.as_slice.ensures.value) c.requires.circling in
     let names = named_handed ss c.as_slice-states.result.now r c.in_ok-named.named.items c.as_slice-2.result.now (c.as_slice-states.ensures ∙ ap (λ p. p.states) c.protocol.view_is) c.as_slice-2.ensures.value c.in_ok-named.ensures in
-    let apart = apart_handed ss c.as_slice-states.result.now r c.in_ok-apart.apart.items c.as_slice-3.result.now (c.as_slice-states.ensures ∙ ap (λ p. p.states) c.protocol.view_is) c.as_slice-3.ensures.value c.in_ok-apart.ensures in
-    refusal_by V1 c.args.protocol.now r c.refused-then-clashes.result c.refused-then-clashes.ensures
-    (few_sets ss r n rows whole, not_left ss r n rows c.as_slice.result.now c.as_slice-2.result.now whole circling names c.if-leaves_behind.ensures, torn ss r n rows c.as_slice-3.result.now whole apart c.if-clashes.ensures)
+    refusal_by V1 c.args.protocol.now r c.refused-then-torn.result c.refused-then-torn.ensures
+    (few_sets ss r n rows whole, not_left ss r n rows c.as_slice.result.now c.as_slice-2.result.now whole circling names c.if-leaves_behind.ensures, torn ss r n rows whole (is_true c.in_ok-torn.torn (HasTorn ss r rows) (HasTorn ss r rows → ⊥) (torn_handed ss c.as_slice-states.result.now r rows c.in_ok-torn.torn (c.as_slice-states.ensures ∙ ap (λ p. p.states) c.protocol.view_is) c.in_ok-torn.ensures) c.if-torn.true))
 
 pub returns-clause-fine : goal.returns-clause-fine
 returns-clause-fine c =
@@ -62,11 +61,10 @@ returns-clause-fine c =
     let whole = subst (λ l. IsWhole ss r n l) (sym c.as_slice-rows.ensures.value) c.requires.whole in
     let circling = subst (λ m. IsSetFor n (Circles ss r) m) (sym c.as_slice.ensures.value) c.requires.circling in
     let names = named_handed ss c.as_slice-states.result.now r c.in_ok-named.named.items c.as_slice-2.result.now (c.as_slice-states.ensures ∙ ap (λ p. p.states) c.protocol.view_is) c.as_slice-2.ensures.value c.in_ok-named.ensures in
-    let apart = apart_handed ss c.as_slice-states.result.now r c.in_ok-apart.apart.items c.as_slice-3.result.now (c.as_slice-states.ensures ∙ ap (λ p. p.states) c.protocol.view_is) c.as_slice-3.ensures.value c.in_ok-apart.ensures in
     record {
       few = few_sets ss r n rows whole;
       kept = not_left ss r n rows c.as_slice.result.now c.as_slice-2.result.now whole circling names c.if-leaves_behind.ensures;
-      clear = not_torn ss r n rows c.as_slice-3.result.now whole apart refl c.if-clashes.ensures;
+      clear = not_torn ss r n rows whole (is_false c.in_ok-torn.torn (HasTorn ss r rows) (HasTorn ss r rows → ⊥) (torn_handed ss c.as_slice-states.result.now r rows c.in_ok-torn.torn (c.as_slice-states.ensures ∙ ap (λ p. p.states) c.protocol.view_is) c.in_ok-torn.ensures) c.if-torn.false);
     }
 
 pub states_of-requires : goal.states_of-requires
@@ -76,8 +74,7 @@ states_of-requires c =
     let n = length ss in
     let rows = c.as_slice-rows.result.now in
     let whole = subst (λ l. IsWhole ss r n l) (sym c.as_slice-rows.ensures.value) c.requires.whole in
-    let apart = apart_handed ss c.as_slice-states.result.now r c.in_ok-apart.apart.items c.as_slice-3.result.now (c.as_slice-states.ensures ∙ ap (λ p. p.states) c.protocol.view_is) c.as_slice-3.ensures.value c.in_ok-apart.ensures in
-    rows_kin ss r n rows whole (not_torn ss r n rows c.as_slice-3.result.now whole apart refl c.if-clashes.ensures)
+    rows_kin ss r n rows whole (not_torn ss r n rows whole (is_false c.in_ok-torn.torn (HasTorn ss r rows) (HasTorn ss r rows → ⊥) (torn_handed ss c.as_slice-states.result.now r rows c.in_ok-torn.torn (c.as_slice-states.ensures ∙ ap (λ p. p.states) c.protocol.view_is) c.in_ok-torn.ensures) c.if-torn.false))
 
 pub returns-clause-stands : goal.returns-clause-stands
 returns-clause-stands c =
