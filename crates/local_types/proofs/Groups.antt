@@ -135,34 +135,23 @@ direct_out n ms i d s old h not was = set_same n _ _ old was more less
 
 -- ---- groups
 
-pub groups_more : (ms : List Move) (acts : List Act) (i : ℕ) (d : Act) (old new : List Group) (g : Group) → i < length acts
-    → ((k : Group) → IsIn k old → AreEdges ms (action_of k.act) k.edges.items)
+pub groups_more : (P : Group → Type 0) (acts : List Act) (i : ℕ) (d : Act) (old new : List Group) (g : Group) → i < length acts
+    → ((k : Group) → IsIn k old → P k)
     → group_acts old ≡ take i acts
-    → g.act ≡ slice_index_or acts i d → AreEdges ms (action_of g.act) g.edges.items
+    → g.act ≡ slice_index_or acts i d → P g
     → new ≡ old ++ g ∷ []
-    → record { edges : (k : Group) → IsIn k new → AreEdges ms (action_of k.act) k.edges.items; acts : group_acts new ≡ take (i + 1) acts }
-groups_more ms acts i d old new g h edges first act own is = rw is (record {
+    → record { edges : (k : Group) → IsIn k new → P k; acts : group_acts new ≡ take (i + 1) acts }
+groups_more P acts i d old new g h edges first act own is = rw is (record {
   edges = λ k o. edges_at k (in_push k g old o);
   acts = map-append (λ (k : Group). k.act) old (g ∷ []) ∙ ap (λ l. l ++ g.act ∷ []) first ∙ ap (λ b. take i acts ++ b ∷ []) act ∙ sym (take_more acts i d h);
 })
   where
-    edges_at : (k : Group) → IsIn k old ⊎ (g ≡ k) → AreEdges ms (action_of k.act) k.edges.items
+    edges_at : (k : Group) → IsIn k old ⊎ (g ≡ k) → P k
     edges_at k (inl o) = edges k o
-    edges_at k (inr e) = subst (λ (v : Group). AreEdges ms (action_of v.act) v.edges.items) e own
+    edges_at k (inr e) = subst P e own
 
-pub groups_whole : (ms : List Move) (acts : List Act) (i : ℕ) (gs : List Group) → length acts ≤ i → AreActsOf ms acts
-    → ((k : Group) → IsIn k gs → AreEdges ms (action_of k.act) k.edges.items)
-    → group_acts gs ≡ take i acts
-    → AreGroups ms gs
-groups_whole ms acts i gs h of edges are = record {
-  own = λ g o. of.own g.act (subst (λ l. IsIn g.act l) all (in_map (λ (k : Group). k.act) g gs o));
-  edges = edges;
-  covers = λ m a o is. let p = of.covers m a o is in let q = in_map_back (λ (k : Group). k.act) p.0 gs (subst (λ l. IsIn p.0 l) (sym all) p.1) in (q.0, q.1, ap action_of q.2 ∙ p.2);
-  apart = subst AreApart (sym all) of.apart;
-}
-  where
-    all : group_acts gs ≡ acts
-    all = are ∙ take_all i acts h
+pub groups_whole : (acts : List Act) (i : ℕ) (gs : List Group) → length acts ≤ i → group_acts gs ≡ take i acts → group_acts gs ≡ acts
+groups_whole acts i gs h are = are ∙ take_all i acts h
 
 -- ---- tests
 

@@ -23,3 +23,5 @@ pub mod RoleTexts
 pub mod Places
 pub mod Singles
 pub mod Torn
+pub mod Gathered
+pub mod Keys

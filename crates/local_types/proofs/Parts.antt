@@ -22,34 +22,7 @@ use Rattle.local_types.specs.Graph.{HasMove, AreEdges, IsActOf, AreApart, group_
 use Rattle.local_types.proofs.Lists.{in_more, in_kept, in_new, in_push, in_left, in_right, in_either, in_last, in_map_back, in_permuted}
 use Rattle.local_types.proofs.Pairs.{pairs_append, pairs_permuted}
 
--- ---- the moves of a part
-
-part_in : (ms : List Move) (n i : ℕ) (d : Move) (old new : List Move) → i < length ms → IsPart (take i ms) n old → falls n (slice_index_or ms i d).act ≡ true
-    → new ≡ old ++ slice_index_or ms i d ∷ [] → IsPart (take (i + 1) ms) n new
-part_in ms n i d old new h was test is = rw is (record {
-  sound = λ m o. sound_at m (in_push m (slice_index_or ms i d) old o);
-  complete = λ m o f. complete_at m f (in_more m ms i d h o);
-})
-  where
-    sound_at : (m : Move) → IsIn m old ⊎ (slice_index_or ms i d ≡ m) → IsIn m (take (i + 1) ms) × (falls n m.act ≡ true)
-    sound_at m (inl o) = let p = was.sound m o in (in_kept m ms i d h p.0, p.1)
-    sound_at m (inr e) = (subst (λ (v : Move). IsIn v (take (i + 1) ms)) e (in_new ms i d h), subst (λ (v : Move). falls n v.act ≡ true) e test)
-
-    complete_at : (m : Move) → falls n m.act ≡ true → IsIn m (take i ms) ⊎ (slice_index_or ms i d ≡ m) → IsIn m (old ++ slice_index_or ms i d ∷ [])
-    complete_at m f (inl o) = in_left m old (slice_index_or ms i d ∷ []) (was.complete m o f)
-    complete_at m f (inr e) = subst (λ (v : Move). IsIn v (old ++ slice_index_or ms i d ∷ [])) e (in_last (slice_index_or ms i d) old)
-
-part_out : (ms : List Move) (n i : ℕ) (d : Move) (old : List Move) → i < length ms → IsPart (take i ms) n old → falls n (slice_index_or ms i d).act ≡ false → IsPart (take (i + 1) ms) n old
-part_out ms n i d old h was test = record {
-  sound = λ m o. let p = was.sound m o in (in_kept m ms i d h p.0, p.1);
-  complete = λ m o f. complete_at m f (in_more m ms i d h o);
-}
-  where
-    complete_at : (m : Move) → falls n m.act ≡ true → IsIn m (take i ms) ⊎ (slice_index_or ms i d ≡ m) → IsIn m old
-    complete_at m f (inl o) = was.complete m o f
-    complete_at m f (inr e) = absurd (let g : false ≡ true = sym test ∙ ap (λ (v : Move). falls n v.act) e ∙ f in cc)
-
--- ---- all parts
+-- ---- lists in a list
 
 pub get_set : {A : Type 0} (xs : List A) (k : ℕ) (v : A) (n : ℕ) (u : A) → slice_get (slice_set xs k v) n ≡ Some u → ((n ≡ k) × (v ≡ u)) ⊎ ((n ≢ k) × (slice_get xs n ≡ Some u))
 get_set [] k v n u h = absurd (cc)
@@ -77,12 +50,6 @@ empty_more old new v e is was n u h = go (get_push old v n u (subst (λ (l : Lis
   go (inl o) = was n u o
   go (inr s) = subst (λ (x : Vec Move Global). x.items ≡ []) s e
 
-pub parts_begin : (ms : List Move) (parts : List (Vec Move Global)) → AreEmptyParts parts → AreParts (take 0 ms) parts
-parts_begin ms parts none = record {
-  size = none.size;
-  part = λ n v h. record { sound = λ m o. absurd (subst (λ (l : List Move). IsIn m l) (none.empty n v h) o); complete = λ m o f. absurd o };
-}
-
 pub part_written : (k : ℕ) (m : Move) (old new : List (Vec Move Global)) (was part : Vec Move Global) → k < length old → was ≡ slice_index_or old k was → part.items ≡ was.items ++ m ∷ [] → new ≡ slice_set old k part → HasMoreIn k m old new
 part_written k m old new was part h at grows is = rw is (record {
   size = length-set old k part;
@@ -101,144 +68,106 @@ part_written k m old new was part h at grows is = rw is (record {
     rest_at n v d (inl p) = absurd (d p.0)
     rest_at n v d (inr p) = p.1
 
-falls_here : (n : ℕ) (a : Act) (o : Option Act) → o ≡ Some a → n ≡ part_number a → falls n o ≡ true
-falls_here n a o e f = rw e (grind (arith, nat_tests))
-
-falls_not : (n : ℕ) (a : Act) (o : Option Act) → o ≡ Some a → n ≢ part_number a → falls n o ≡ false
-falls_not n a o e f = rw e (other (part_number a == n) refl) where
-  other : (b : Bool) → (part_number a == n) ≡ b → (part_number a == n) ≡ false
-  other true g = absurd (f (grind (arith, nat_tests)))
-  other false g = g
-
-pub parts_in : (ms : List Move) (i : ℕ) (d : Move) (a : Act) (old new : List (Vec Move Global)) → i < length ms → AreParts (take i ms) old → (slice_index_or ms i d).act ≡ Some a
-    → HasMoreIn (part_number a) (slice_index_or ms i d) old new → AreParts (take (i + 1) ms) new
-parts_in ms i d a old new h was is more = record {
-  size = more.size ∙ was.size;
-  part = λ n v g. part_at n v g (same_or_not n (part_number a));
-}
-  where
-    part_at : (n : ℕ) (v : Vec Move Global) → slice_get new n ≡ Some v → (n ≡ part_number a) ⊎ (n ≢ part_number a) → IsPart (take (i + 1) ms) n v.items
-    part_at n v g (inl e) =
-        let o = more.own v (subst (λ k. slice_get new k ≡ Some v) e g) in
-        let p = was.part n o.0 (subst (λ k. slice_get old k ≡ Some o.0) (sym e) o.1) in
-        part_in ms n i d o.0.items v.items h p (falls_here n a (slice_index_or ms i d).act is e) o.2
-    part_at n v g (inr e) = part_out ms n i d v.items h (was.part n v (more.rest n v e g)) (falls_not n a (slice_index_or ms i d).act is e)
-
-pub parts_out : (ms : List Move) (i : ℕ) (d : Move) (parts : List (Vec Move Global)) → i < length ms → AreParts (take i ms) parts → (slice_index_or ms i d).act ≡ None → AreParts (take (i + 1) ms) parts
-parts_out ms i d parts h was is = record {
-  size = was.size;
-  part = λ n v g. part_out ms n i d v.items h (was.part n v g) (ap (falls n) is);
-}
-
-pub parts_whole : (ms : List Move) (i : ℕ) (parts : List (Vec Move Global)) → length ms ≤ i → AreParts (take i ms) parts → AreParts ms parts
-parts_whole ms i parts h was = subst (λ l. AreParts l parts) (take_all i ms h) was
-
-pub part_of : (ms : List Move) (parts : List (Vec Move Global)) (n : ℕ) (part : Vec Move Global) → AreParts ms parts → n < length parts → part ≡ slice_index_or parts n part → IsPart ms n part.items
-part_of ms parts n part are h at = are.part n part (slice_get-get_or parts n part h ∙ ap (λ (v : Vec Move Global). Some v) (sym at))
-
--- ---- part by part
-
--- the same action falls into one part
-same_part : (a b : Act) → action_of a ≡ action_of b → part_number a ≡ part_number b
-same_part (Send b c) (Send b' c') e = refl
-same_part (Send b c) (Recv a' c') e = refl
-same_part (Send b c) (Pick b' l') e = absurd (cc)
-same_part (Send b c) (Branch a' l') e = absurd (cc)
-same_part (Recv a c) (Send b' c') e = refl
-same_part (Recv a c) (Recv a' c') e = refl
-same_part (Recv a c) (Pick b' l') e = absurd (cc)
-same_part (Recv a c) (Branch a' l') e = absurd (cc)
-same_part (Pick b l) (Send b' c') e = absurd (cc)
-same_part (Pick b l) (Recv a' c') e = absurd (cc)
-same_part (Pick b l) (Pick b' l') e = let f : l ≡ l' = cc in ap (λ v. part_number (Pick b v)) f
-same_part (Pick b l) (Branch a' l') e = absurd (cc)
-same_part (Branch a l) (Send b' c') e = absurd (cc)
-same_part (Branch a l) (Recv a' c') e = absurd (cc)
-same_part (Branch a l) (Pick b' l') e = absurd (cc)
-same_part (Branch a l) (Branch a' l') e = let f : l ≡ l' = cc in ap (λ v. part_number (Branch a v)) f
-
-falls_into : (n : ℕ) (a : Act) (o : Option Act) → o ≡ Some a → part_number a ≡ n → falls n o ≡ true
-falls_into n a o e f = rw e (grind (arith, nat_tests))
-
-fell_into : (n : ℕ) (a : Act) (o : Option Act) → o ≡ Some a → falls n o ≡ true → part_number a ≡ n
-fell_into n a o e f = let g : (part_number a == n) ≡ true = ap (falls n) (sym e) ∙ f in grind (arith, nat_tests)
-
-act_at : (o : Option Act) (a : Action) → actions_in o ≡ a ∷ [] → (b : Act) × (o ≡ Some b) × (action_of b ≡ a)
+pub act_at : (o : Option Act) (a : Action) → actions_in o ≡ a ∷ [] → (b : Act) × (o ≡ Some b) × (action_of b ≡ a)
 act_at None a e = absurd (cc)
 act_at (Some b) a e = (b, refl, cc)
 
--- the groups of the first n parts
-pub record GroupsSoFar (ms : List Move) (n : ℕ) (gs : List Group) : Type 0 where
-  pub own : (g : Group) → IsIn g gs → IsActOf ms g.act
-  pub edges : (g : Group) → IsIn g gs → AreEdges ms (action_of g.act) g.edges.items
-  pub covers : (m : Move) (a : Act) → IsIn m ms → m.act ≡ Some a → part_number a < n → (g : Group) × IsIn g gs × (action_of g.act ≡ action_of a)
-  pub below : (a : Act) → IsIn a (group_acts gs) → part_number a < n
-  pub apart : AreApart (group_acts gs)
+-- ---- the moves of so many parts
 
-pub groups_begin : (ms : List Move) (gs : List Group) → gs ≡ [] → GroupsSoFar ms 0 gs
-groups_begin ms gs e = rw e (record { own = λ g o. absurd o; edges = λ g o. absurd o; covers = λ m a o is h. absurd (omega (arith, h)); below = λ a o. absurd o; apart = λ i j d less within. absurd (omega (arith, less, within)) })
+module _ (count : ℕ) where
+  part_in : (ms : List Move) (n i : ℕ) (d : Move) (old new : List Move) → i < length ms → IsPart count (take i ms) n old → falls count n (slice_index_or ms i d).act ≡ true
+      → new ≡ old ++ slice_index_or ms i d ∷ [] → IsPart count (take (i + 1) ms) n new
+  part_in ms n i d old new h was test is = rw is (record {
+    sound = λ m o. sound_at m (in_push m (slice_index_or ms i d) old o);
+    complete = λ m o f. complete_at m f (in_more m ms i d h o);
+  })
+    where
+      sound_at : (m : Move) → IsIn m old ⊎ (slice_index_or ms i d ≡ m) → IsIn m (take (i + 1) ms) × (falls count n m.act ≡ true)
+      sound_at m (inl o) = let p = was.sound m o in (in_kept m ms i d h p.0, p.1)
+      sound_at m (inr e) = (subst (λ (v : Move). IsIn v (take (i + 1) ms)) e (in_new ms i d h), subst (λ (v : Move). falls count n v.act ≡ true) e test)
 
-pub groups_add : (ms : List Move) (n : ℕ) (part seen : List Move) (old more new : List Group) → GroupsSoFar ms n old → IsPart ms n part → seen ≡ part → AreGroups seen more → new ≡ old ++ more → GroupsSoFar ms (n + 1) new
-groups_add ms n part seen old more new was cut same found is = rw is (record {
-  own = λ g o. own_at g (in_either g old more o);
-  edges = λ g o. edges_at g (in_either g old more o);
-  covers = λ m a o e h. covers_at m a o e h (cases_lt (part_number a) n);
-  below = λ a o. below_at a (in_either a (group_acts old) (group_acts more) (subst (λ l. IsIn a l) acts o));
-  apart = subst AreApart (sym acts) (pairs_append (λ a b. action_of a ≢ action_of b) (group_acts old) (group_acts more) was.apart are.apart (λ a b o m e. let p = was.below a o in let q = number_of b m in let s = same_part a b e in omega (arith, p, q, s)));
-})
-  where
-    are : AreGroups part more
-    are = subst (λ l. AreGroups l more) same found
+      complete_at : (m : Move) → falls count n m.act ≡ true → IsIn m (take i ms) ⊎ (slice_index_or ms i d ≡ m) → IsIn m (old ++ slice_index_or ms i d ∷ [])
+      complete_at m f (inl o) = in_left m old (slice_index_or ms i d ∷ []) (was.complete m o f)
+      complete_at m f (inr e) = subst (λ (v : Move). IsIn v (old ++ slice_index_or ms i d ∷ [])) e (in_last (slice_index_or ms i d) old)
 
-    acts : group_acts (old ++ more) ≡ group_acts old ++ group_acts more
-    acts = map-append (λ (g : Group). g.act) old more
+  part_out : (ms : List Move) (n i : ℕ) (d : Move) (old : List Move) → i < length ms → IsPart count (take i ms) n old → falls count n (slice_index_or ms i d).act ≡ false → IsPart count (take (i + 1) ms) n old
+  part_out ms n i d old h was test = record {
+    sound = λ m o. let p = was.sound m o in (in_kept m ms i d h p.0, p.1);
+    complete = λ m o f. complete_at m f (in_more m ms i d h o);
+  }
+    where
+      complete_at : (m : Move) → falls count n m.act ≡ true → IsIn m (take i ms) ⊎ (slice_index_or ms i d ≡ m) → IsIn m old
+      complete_at m f (inl o) = was.complete m o f
+      complete_at m f (inr e) = absurd (let g : false ≡ true = sym test ∙ ap (λ (v : Move). falls count n v.act) e ∙ f in cc)
 
-    number_of : (a : Act) → IsIn a (group_acts more) → part_number a ≡ n
-    number_of a m = let g = in_map_back (λ (k : Group). k.act) a more m in let p = are.own g.0 g.1 in fell_into n a p.0.act (p.2 ∙ ap (λ (v : Act). Some v) g.2) (cut.sound p.0 p.1).1
+  pub parts_begin : (ms : List Move) (parts : List (Vec Move Global)) → AreEmptyParts count parts → AreParts count (take 0 ms) parts
+  parts_begin ms parts none = record {
+    size = none.size;
+    part = λ n v h. record { sound = λ m o. absurd (subst (λ (l : List Move). IsIn m l) (none.empty n v h) o); complete = λ m o f. absurd o };
+  }
 
-    below_at : (a : Act) → IsIn a (group_acts old) ⊎ IsIn a (group_acts more) → part_number a < n + 1
-    below_at a (inl o) = let p = was.below a o in omega (arith, p)
-    below_at a (inr o) = let p = number_of a o in omega (arith, p)
+  falls_here : (n : ℕ) (a : Act) (o : Option Act) → o ≡ Some a → n ≡ part_number count a → falls count n o ≡ true
+  falls_here n a o e f = rw e (grind (arith, nat_tests))
 
-    own_at : (g : Group) → IsIn g old ⊎ IsIn g more → IsActOf ms g.act
-    own_at g (inl o) = was.own g o
-    own_at g (inr o) = let p = are.own g o in (p.0, (cut.sound p.0 p.1).0, p.2)
+  falls_not : (n : ℕ) (a : Act) (o : Option Act) → o ≡ Some a → n ≢ part_number count a → falls count n o ≡ false
+  falls_not n a o e f = rw e (other (part_number count a == n) refl) where
+    other : (b : Bool) → (part_number count a == n) ≡ b → (part_number count a == n) ≡ false
+    other true g = absurd (f (grind (arith, nat_tests)))
+    other false g = g
 
-    edges_at : (g : Group) → IsIn g old ⊎ IsIn g more → AreEdges ms (action_of g.act) g.edges.items
-    edges_at g (inl o) = was.edges g o
-    edges_at g (inr o) = record { sound = λ e k. widen e ((are.edges g o).sound e k); complete = λ e h. (are.edges g o).complete e (narrow e h) } where
-      widen : (e : Edge) → HasMove part e.from (action_of g.act ∷ []) e.to → HasMove ms e.from (action_of g.act ∷ []) e.to
-      widen e h = record { move = h.move; among = (cut.sound h.move h.among).0; from = h.from; to = h.to; does = h.does }
+  pub parts_in : (ms : List Move) (i : ℕ) (d : Move) (a : Act) (old new : List (Vec Move Global)) → i < length ms → AreParts count (take i ms) old → (slice_index_or ms i d).act ≡ Some a
+      → HasMoreIn (part_number count a) (slice_index_or ms i d) old new → AreParts count (take (i + 1) ms) new
+  parts_in ms i d a old new h was is more = record {
+    size = more.size ∙ was.size;
+    part = λ n v g. part_at n v g (same_or_not n (part_number count a));
+  }
+    where
+      part_at : (n : ℕ) (v : Vec Move Global) → slice_get new n ≡ Some v → (n ≡ part_number count a) ⊎ (n ≢ part_number count a) → IsPart count (take (i + 1) ms) n v.items
+      part_at n v g (inl e) =
+          let o = more.own v (subst (λ k. slice_get new k ≡ Some v) e g) in
+          let p = was.part n o.0 (subst (λ k. slice_get old k ≡ Some o.0) (sym e) o.1) in
+          part_in ms n i d o.0.items v.items h p (falls_here n a (slice_index_or ms i d).act is e) o.2
+      part_at n v g (inr e) = part_out ms n i d v.items h (was.part n v (more.rest n v e g)) (falls_not n a (slice_index_or ms i d).act is e)
 
-      number : part_number g.act ≡ n
-      number = let p = are.own g o in fell_into n g.act p.0.act p.2 (cut.sound p.0 p.1).1
+  pub parts_out : (ms : List Move) (i : ℕ) (d : Move) (parts : List (Vec Move Global)) → i < length ms → AreParts count (take i ms) parts → (slice_index_or ms i d).act ≡ None → AreParts count (take (i + 1) ms) parts
+  parts_out ms i d parts h was is = record {
+    size = was.size;
+    part = λ n v g. part_out ms n i d v.items h (was.part n v g) (ap (falls count n) is);
+  }
 
-      narrow : (e : Edge) → HasMove ms e.from (action_of g.act ∷ []) e.to → HasMove part e.from (action_of g.act ∷ []) e.to
-      narrow e h =
-          let b = act_at h.move.act (action_of g.act) h.does in
-          let test = falls_into n b.0 h.move.act b.1 (same_part b.0 g.act b.2 ∙ number) in
-          record { move = h.move; among = cut.complete h.move h.among test; from = h.from; to = h.to; does = h.does }
+  pub parts_whole : (ms : List Move) (i : ℕ) (parts : List (Vec Move Global)) → length ms ≤ i → AreParts count (take i ms) parts → AreParts count ms parts
+  parts_whole ms i parts h was = subst (λ l. AreParts count l parts) (take_all i ms h) was
 
-    covers_at : (m : Move) (a : Act) → IsIn m ms → m.act ≡ Some a → part_number a < n + 1 → (part_number a < n) ⊎ (n ≤ part_number a) → (g : Group) × IsIn g (old ++ more) × (action_of g.act ≡ action_of a)
-    covers_at m a o e h (inl l) = let p = was.covers m a o e l in (p.0, in_left p.0 old more p.1, p.2)
-    covers_at m a o e h (inr l) =
-        let here : part_number a ≡ n = omega (arith, h, l) in
-        let p = are.covers m a (cut.complete m o (falls_into n a m.act e here)) e in
-        (p.0, in_right p.0 old more p.1, p.2)
+  pub part_of : (ms : List Move) (parts : List (Vec Move Global)) (n : ℕ) (part : Vec Move Global) → AreParts count ms parts → n < length parts → part ≡ slice_index_or parts n part → IsPart count ms n part.items
+  part_of ms parts n part are h at = are.part n part (slice_get-get_or parts n part h ∙ ap (λ (v : Vec Move Global). Some v) (sym at))
 
-pub number_below : (a : Act) → part_number a < 1024
-number_below (Send b c) = omega arith
-number_below (Recv a c) = omega arith
-number_below (Pick b l) = mod_below l.0 1024 (omega arith)
-number_below (Branch a l) = mod_below l.0 1024 (omega arith)
+  -- the same action falls into one part
+  pub same_part : (a b : Act) → action_of a ≡ action_of b → part_number count a ≡ part_number count b
+  same_part (Send b c) (Send b' c') e = refl
+  same_part (Send b c) (Recv a' c') e = refl
+  same_part (Send b c) (Pick b' l') e = absurd (cc)
+  same_part (Send b c) (Branch a' l') e = absurd (cc)
+  same_part (Recv a c) (Send b' c') e = refl
+  same_part (Recv a c) (Recv a' c') e = refl
+  same_part (Recv a c) (Pick b' l') e = absurd (cc)
+  same_part (Recv a c) (Branch a' l') e = absurd (cc)
+  same_part (Pick b l) (Send b' c') e = absurd (cc)
+  same_part (Pick b l) (Recv a' c') e = absurd (cc)
+  same_part (Pick b l) (Pick b' l') e = let f : l ≡ l' = cc in ap (λ v. part_number count (Pick b v)) f
+  same_part (Pick b l) (Branch a' l') e = absurd (cc)
+  same_part (Branch a l) (Send b' c') e = absurd (cc)
+  same_part (Branch a l) (Recv a' c') e = absurd (cc)
+  same_part (Branch a l) (Pick b' l') e = absurd (cc)
+  same_part (Branch a l) (Branch a' l') e = let f : l ≡ l' = cc in ap (λ v. part_number count (Branch a v)) f
 
-pub groups_all : (ms : List Move) (n : ℕ) (gs sorted : List Group) → 1024 ≤ n → GroupsSoFar ms n gs → IsPermutation gs sorted → AreGroups ms sorted
-groups_all ms n gs sorted h was order = record {
-  own = λ g o. was.own g (back g o);
-  edges = λ g o. was.edges g (back g o);
-  covers = λ m a o e. let p = was.covers m a o e (let b = number_below a in omega (arith, b, h)) in (p.0, in_permuted p.0 gs sorted order p.1, p.2);
-  apart = pairs_permuted (λ a b. action_of a ≢ action_of b) (λ a b h e. h (sym e)) (group_acts gs) (group_acts sorted) (IsPermutation-map (λ (g : Group). g.act) gs sorted order) was.apart;
-}
-  where
-    back : (g : Group) → IsIn g sorted → IsIn g gs
-    back g o = in_permuted g sorted gs (IsPermutation-sym gs sorted order) o
+  pub falls_into : (n : ℕ) (a : Act) (o : Option Act) → o ≡ Some a → part_number count a ≡ n → falls count n o ≡ true
+  falls_into n a o e f = rw e (grind (arith, nat_tests))
+
+  pub fell_into : (n : ℕ) (a : Act) (o : Option Act) → o ≡ Some a → falls count n o ≡ true → part_number count a ≡ n
+  fell_into n a o e f = let g : (part_number count a == n) ≡ true = ap (falls count n) (sym e) ∙ f in grind (arith, nat_tests)
+
+  pub number_below : (a : Act) → 0 < count → part_number count a < count
+  number_below (Send b c) h = h
+  number_below (Recv a c) h = h
+  number_below (Pick b l) h = mod_below l.0 count h
+  number_below (Branch a l) h = mod_below l.0 count h

@@ -65,26 +65,26 @@ pub record AreGroups (ms : List Move) (gs : List Group) : Type 0 where
   pub covers : (m : Move) (a : Act) → IsIn m ms → m.act ≡ Some a → (g : Group) × IsIn g gs × (action_of g.act ≡ action_of a)
   pub apart : AreApart (group_acts gs)
 
--- the part into which an act falls, by the number of its label
-abbrev pub part_number : Act → ℕ
-part_number (Send b c) = 0
-part_number (Recv a c) = 0
-part_number (Pick b l) = l.0 % 1024
-part_number (Branch a l) = l.0 % 1024
+-- the part into which an act falls, of so many, by the number of its label
+abbrev pub part_number : ℕ → Act → ℕ
+part_number count (Send b c) = 0
+part_number count (Recv a c) = 0
+part_number count (Pick b l) = l.0 % count
+part_number count (Branch a l) = l.0 % count
 
-abbrev pub falls : ℕ → Option Act → Bool
-falls n None = false
-falls n (Some a) = part_number a == n
+abbrev pub falls : ℕ → ℕ → Option Act → Bool
+falls count n None = false
+falls count n (Some a) = part_number count a == n
 
 -- the moves whose acts fall into a part
-pub record IsPart (ms : List Move) (n : ℕ) (part : List Move) : Type 0 where
-  pub sound : (m : Move) → IsIn m part → IsIn m ms × (falls n m.act ≡ true)
-  pub complete : (m : Move) → IsIn m ms → falls n m.act ≡ true → IsIn m part
+pub record IsPart (count : ℕ) (ms : List Move) (n : ℕ) (part : List Move) : Type 0 where
+  pub sound : (m : Move) → IsIn m part → IsIn m ms × (falls count n m.act ≡ true)
+  pub complete : (m : Move) → IsIn m ms → falls count n m.act ≡ true → IsIn m part
 
 -- there are as many lists as parts, each with the moves of its part
-pub record AreParts (ms : List Move) (parts : List (Vec Move Global)) : Type 0 where
-  pub size : length parts ≡ 1024
-  pub part : (n : ℕ) (part : Vec Move Global) → slice_get parts n ≡ Some part → IsPart ms n part.items
+pub record AreParts (count : ℕ) (ms : List Move) (parts : List (Vec Move Global)) : Type 0 where
+  pub size : length parts ≡ count
+  pub part : (n : ℕ) (part : Vec Move Global) → slice_get parts n ≡ Some part → IsPart count ms n part.items
 
 -- the move comes last in list k, and the other lists stay
 pub record HasMoreIn (k : ℕ) (m : Move) (old new : List (Vec Move Global)) : Type 0 where
@@ -92,10 +92,21 @@ pub record HasMoreIn (k : ℕ) (m : Move) (old new : List (Vec Move Global)) : T
   pub own : (v : Vec Move Global) → slice_get new k ≡ Some v → (u : Vec Move Global) × (slice_get old k ≡ Some u) × (v.items ≡ u.items ++ m ∷ [])
   pub rest : (n : ℕ) (v : Vec Move Global) → n ≢ k → slice_get new n ≡ Some v → slice_get old n ≡ Some v
 
--- as many lists as parts, with nothing in them
-pub record AreEmptyParts (parts : List (Vec Move Global)) : Type 0 where
-  pub size : length parts ≡ 1024
+-- so many lists with nothing in them
+pub record AreEmptyParts (count : ℕ) (parts : List (Vec Move Global)) : Type 0 where
+  pub size : length parts ≡ count
   pub empty : (n : ℕ) (v : Vec Move Global) → slice_get parts n ≡ Some v → v.items ≡ []
+
+-- the edges of a group are those of the moves of its act's part
+pub record HasOwnEdges (parts : List (Vec Move Global)) (g : Group) : Type 0 where
+  pub part : Vec Move Global
+  pub at : slice_get parts (part_number (length parts) g.act) ≡ Some part
+  pub edges : AreEdges part.items (action_of g.act) g.edges.items
+
+-- a group for each of these acts, with the edges that its part has
+pub record AreGroupsOf (parts : List (Vec Move Global)) (all : List Act) (gs : List Group) : Type 0 where
+  pub acts : group_acts gs ≡ all
+  pub edges : (g : Group) → IsIn g gs → HasOwnEdges parts g
 
 -- both states of each edge are among the first n
 abbrev pub AreInside : ℕ → List Group → Type 0

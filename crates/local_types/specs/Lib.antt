@@ -10,3 +10,4 @@ pub mod Starts
 pub mod Texts
 pub mod Places
 pub mod Numbering
+pub mod Order

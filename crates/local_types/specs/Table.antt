@@ -111,6 +111,9 @@ act_word names (Recv a c) = []
 act_word names (Pick b l) = name_in names l
 act_word names (Branch a l) = name_in names l
 
+abbrev pub act_words : List (List ℕ) → List Act → List (List ℕ)
+act_words names acts = map (act_word names) acts
+
 abbrev pub group_words : List (List ℕ) → List Group → List (List ℕ)
 group_words names gs = map (λ g. act_word names g.act) gs
 

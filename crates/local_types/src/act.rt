@@ -63,7 +63,7 @@ pub fn same_act(one: &Act, other: &Act) -> bool
 }
 
 // The bytes of an act's label. An act without a label has none.
-fn label_bytes<'a>(names: &'a Names, act: &Act) -> &'a [u8]
+pub fn label_bytes<'a>(names: &'a Names, act: &Act) -> &'a [u8]
     ensures { result.now ≡ act_word names.now act.now }
 {
     match act {

@@ -6,11 +6,12 @@ ghost use Rattle.local_types.specs.Moves.{action_of, actions_in};
 ghost use Rattle.local_types.specs.Reading.{Ascend};
 ghost use Rattle.local_types.specs.Table.{group_words};
 ghost use Rattle.local_types.specs.Sets.{Has, row_at, IsSetFor};
-ghost use Rattle.local_types.specs.Graph.{HasMove, IsSilentPath, GoesSilently, Knows, AreApart, AreEdges, AreActsOf, AreGroups, part_number, AreParts, AreEmptyParts, HasMoreIn, AreWithin, AreRowsFor, IsPutIn, IsThrough};
+ghost use Rattle.local_types.specs.Graph.{HasMove, IsSilentPath, GoesSilently, Knows, AreApart, AreEdges, AreActsOf, AreGroups, AreGroupsOf, part_number, AreParts, AreEmptyParts, HasMoreIn, AreWithin, AreRowsFor, IsPutIn, IsThrough};
 
-use crate::act::{Act, by_label, same_act};
+use crate::act::{Act, same_act};
 use crate::marks::{has, no_marks, put, put_all};
 use crate::moves::Move;
+use crate::order::by_labels;
 use chor_base::{Memory, Names};
 use std::alloc::Global;
 
@@ -28,45 +29,48 @@ pub struct Group {
     pub edges: Vec<Edge>,
 }
 
-// Into how many parts moves are cut, by the numbers of their labels. An act is compared with those of
-// its part alone, which are few also where no two exchanges have the same label.
-const PARTS: u32 = 1024;
-
 // The acts of a role, by ascending labels.
 pub fn groups(alloc: Global, moves: &[Move], names: &Names) -> Result<Vec<Group>, Memory>
     ensures are { IfOk result (λ v. AreGroups moves.now v.items) }
     ensures ascend { IfOk result (λ v. Ascend (group_words names.now v.items)) }
 {
     let parts = parts(alloc, moves)?;
-    let mut groups = Vec::new(alloc);
+    let mut all = Vec::new(alloc);
     for part in parts.as_slice() {
-        let mut more = groups_in(alloc, part.as_slice())?;
-        groups.append(&mut more)?;
+        let mut more = acts(alloc, part.as_slice())?;
+        all.append(&mut more)?;
     }
-    groups.sort_by(|one, other| by_label(names, &one.act, &other.act))?;
+    let sorted = by_labels(alloc, all.as_slice(), names)?;
+    let groups = groups_of(alloc, parts.as_slice(), sorted.as_slice())?;
     Ok(groups)
 }
 
-// The moves in which the role acts, cut into parts.
+// The moves in which the role acts, cut into parts by the numbers of their labels. An act is compared
+// with those of its part alone, which are few also where no two exchanges have the same label.
 fn parts(alloc: Global, moves: &[Move]) -> Result<Vec<Vec<Move>>, Memory>
-    ensures { IfOk result (λ v. AreParts moves.now v.items) }
+    ensures some { IfOk result (λ v. 0 < length v.items) }
+    ensures parts { IfOk result (λ v. AreParts (length v.items) moves.now v.items) }
 {
-    let mut parts = no_parts(alloc)?;
+    let count = moves.len() / SHARE + 1;
+    let mut parts = no_parts(alloc, count)?;
     for item in moves {
         match &item.act {
-            Some(act) => add_to_part(&mut parts, part_number(act) as usize, *item)?,
+            Some(act) => add_to_part(&mut parts, part_number(act, count), *item)?,
             None => {}
         }
     }
     Ok(parts)
 }
 
-// As many lists as there are parts, with nothing in them.
-fn no_parts(alloc: Global) -> Result<Vec<Vec<Move>>, Memory>
-    ensures { IfOk result (λ v. AreEmptyParts v.items) }
+// For how many moves there is a part.
+const SHARE: usize = 4;
+
+// So many lists with nothing in them.
+fn no_parts(alloc: Global, count: usize) -> Result<Vec<Vec<Move>>, Memory>
+    ensures { IfOk result (λ v. AreEmptyParts count v.items) }
 {
     let mut parts = Vec::new(alloc);
-    for _ in 0..PARTS {
+    for _ in 0..count {
         let part = Vec::new(alloc);
         parts.push(part)?;
     }
@@ -83,32 +87,26 @@ fn add_to_part(parts: &mut Vec<Vec<Move>>, number: usize, item: Move) -> Result<
     Ok(())
 }
 
-// The part into which an act falls.
-fn part_number(act: &Act) -> u32
-    ensures { result ≡ part_number act.now }
+// The part into which an act falls, of so many.
+fn part_number(act: &Act, count: usize) -> usize
+    requires { 0 < count }
+    ensures { result ≡ part_number count act.now }
 {
     match act {
-        Act::Pick(_, label) | Act::Branch(_, label) => label.0 % PARTS,
+        Act::Pick(_, label) | Act::Branch(_, label) => label.0 as usize % count,
         _ => 0,
     }
 }
 
-// The acts of some moves.
-fn groups_in(alloc: Global, moves: &[Move]) -> Result<Vec<Group>, Memory>
-    ensures { IfOk result (λ v. AreGroups moves.now v.items) }
-{
-    let acts = acts(alloc, moves)?;
-    groups_of(alloc, moves, acts.as_slice())
-}
-
-// These acts, each with all exchanges in which the role does so.
-fn groups_of(alloc: Global, moves: &[Move], acts: &[Act]) -> Result<Vec<Group>, Memory>
-    requires { AreActsOf moves.now acts.now }
-    ensures { IfOk result (λ v. AreGroups moves.now v.items) }
+// These acts, each with the exchanges of its part in which the role does so.
+fn groups_of(alloc: Global, parts: &[Vec<Move>], acts: &[Act]) -> Result<Vec<Group>, Memory>
+    requires { 0 < length parts.now }
+    ensures { IfOk result (λ v. AreGroupsOf parts.now acts.now v.items) }
 {
     let mut groups = Vec::new(alloc);
     for act in acts {
-        let edges = edges_of(alloc, moves, act)?;
+        let number = part_number(act, parts.len());
+        let edges = edges_of(alloc, parts[number].as_slice(), act)?;
         groups.push(Group { act: *act, edges })?;
     }
     Ok(groups)

@@ -9,6 +9,7 @@ mod local_type;
 mod marks;
 mod moves;
 mod numbering;
+mod order;
 mod print;
 mod starts;
 mod table;

@@ -1,12 +1,11 @@
 use Rattle.std.proofs.Common.{◌≡◌, take}
 use Rattle.global_types.specs.Moves.{IsIn}
 use Rattle.local_types.specs.declared.graph.Group.{Group}
-use Rattle.local_types.specs.Moves.{action_of}
-use Rattle.local_types.specs.Graph.{AreEdges, group_acts}
+use Rattle.local_types.specs.Graph.{HasOwnEdges, group_acts}
 use Rattle.local_types.proofs.graph.groups_of.Given as goal
 
 abbrev pub invariant-loop-act : goal.invariant-loop-act
 invariant-loop-act l = record {
-  edges : (g : Group) → IsIn g l.groups.items → AreEdges l.moves (action_of g.act) g.edges.items;
+  edges : (g : Group) → IsIn g l.groups.items → HasOwnEdges l.parts g;
   acts : group_acts l.groups.items ≡ take l.act-index l.acts;
 }
