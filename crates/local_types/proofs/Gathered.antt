@@ -1,6 +1,6 @@
 -- The acts and the groups of moves, gathered part by part.
 use Rattle.std.specs.declared.alloc.Global.{Global}
-use Rattle.std.proofs.Common.{ℕ, ◌≡◌, ◌≢◌, ◌+◌, ◌<◌, ◌≤◌, List, [], ◌∷◌, ◌++◌, true, refl, ap, sym, subst, ◌∙◌, arith, inl, inr, length, map}
+use Rattle.std.proofs.Common.{ℕ, ◌≡◌, ◌≢◌, ◌+◌, ◌<◌, ◌≤◌, List, [], ◌∷◌, ◌++◌, refl, ap, sym, subst, ◌∙◌, arith, inl, inr, length}
 use Rattle.std.specs.Prelude.{◌⊎◌, Some, Vec, slice_get, slice_index_or}
 use Rattle.std.proofs.lemmas.Option.{slice_get-get_or}
 use Rattle.std.specs.List.Sorted.{IsPermutation}
@@ -13,7 +13,7 @@ use Rattle.local_types.specs.declared.graph.Edge.{Edge}
 use Rattle.local_types.specs.declared.graph.Group.{Group}
 use Rattle.local_types.specs.declared.moves.Move.{Move}
 use Rattle.local_types.specs.Moves.{action_of}
-use Rattle.local_types.specs.Graph.{HasMove, AreEdges, Knows, IsActOf, AreApart, AreActsOf, group_acts, AreGroups, part_number, falls, IsPart, AreParts, HasOwnEdges, AreGroupsOf}
+use Rattle.local_types.specs.Graph.{HasMove, AreEdges, Knows, IsActOf, AreApart, AreActsOf, group_acts, AreGroups, part_number, IsPart, AreParts, HasOwnEdges, AreGroupsOf}
 use Rattle.local_types.specs.Reading.{Ascend}
 use Rattle.local_types.specs.Table.{act_word, act_words, group_words}
 use Rattle.local_types.proofs.Lists.{in_left, in_right, in_either, in_map, in_map_back, in_permuted}

@@ -8,11 +8,11 @@ use Rattle.local_types.specs.declared.act.Act.{Act}
 use Rattle.local_types.specs.declared.graph.Edge.{Edge}
 use Rattle.local_types.specs.declared.graph.Group.{Group}
 use Rattle.local_types.specs.declared.moves.Move.{Move}
-use Rattle.local_types.specs.Moves.{action_of, actions_in}
+use Rattle.local_types.specs.Moves.{actions_in}
 use Rattle.local_types.specs.Sets.{IsSetFor}
-use Rattle.local_types.specs.Graph.{HasMove, AreEdges, Knows, AreApart, Covers, IsActOf, AreActsOf, group_acts, AreGroups, AreWithin}
+use Rattle.local_types.specs.Graph.{HasMove, AreEdges, Knows, Covers, IsActOf, group_acts, AreWithin}
 use Rattle.std.proofs.lemmas.Option.{slice_get-get_or}
-use Rattle.local_types.proofs.Lists.{in_of_at, in_more, in_kept, in_new, in_push, in_left, in_last, in_map, in_map_back}
+use Rattle.local_types.proofs.Lists.{in_of_at, in_more, in_kept, in_new, in_push, in_left, in_last}
 use Rattle.local_types.proofs.Sets.{set_put, set_same}
 
 -- ---- acts

@@ -4,23 +4,17 @@ use Rattle.std.proofs.lemmas.Option.{slice_get-get_or}
 use Rattle.local_types.proofs.Sets.{same_or_not}
 use Rattle.std.proofs.Common.{zero, suc, length-set, length-append, Bool, ℕ, ◌≡◌, ◌≢◌, ◌+◌, ◌<◌, ◌≤◌, List, [], ◌∷◌, ◌++◌, true, false, refl, ap, sym, subst, ◌∙◌, arith, inl, inr, length, take}
 use Rattle.std.specs.Prelude.{◌⊎◌, ◌==◌, Option, Some, None, Vec, slice_get, slice_set, slice_index_or}
-use Rattle.std.specs.List.Sorted.{IsPermutation}
-use Rattle.std.proofs.lemmas.Bool.{cases_lt}
 use Rattle.std.proofs.lemmas.Bool.Decides.{nat_tests}
 use Rattle.std.proofs.lemmas.Nat.{mod_below}
-use Rattle.std.proofs.lemmas.List.{take_all, map-append}
-use Rattle.std.proofs.lemmas.List.Sorted.{IsPermutation-sym, IsPermutation-map}
+use Rattle.std.proofs.lemmas.List.{take_all}
 use Rattle.global_types.specs.Moves.{IsIn}
 use Rattle.global_types.specs.Paths.{Action}
 use Rattle.local_types.specs.declared.act.Act.{Act}
 use Rattle.local_types.specs.declared.act.Act.TheVariants.{Send, Recv, Pick, Branch}
-use Rattle.local_types.specs.declared.graph.Edge.{Edge}
-use Rattle.local_types.specs.declared.graph.Group.{Group}
 use Rattle.local_types.specs.declared.moves.Move.{Move}
 use Rattle.local_types.specs.Moves.{action_of, actions_in}
-use Rattle.local_types.specs.Graph.{HasMove, AreEdges, IsActOf, AreApart, group_acts, AreGroups, part_number, falls, IsPart, AreParts, AreEmptyParts, HasMoreIn}
-use Rattle.local_types.proofs.Lists.{in_more, in_kept, in_new, in_push, in_left, in_right, in_either, in_last, in_map_back, in_permuted}
-use Rattle.local_types.proofs.Pairs.{pairs_append, pairs_permuted}
+use Rattle.local_types.specs.Graph.{part_number, falls, IsPart, AreParts, AreEmptyParts, HasMoreIn}
+use Rattle.local_types.proofs.Lists.{in_more, in_kept, in_new, in_push, in_left, in_last}
 
 -- ---- lists in a list
 

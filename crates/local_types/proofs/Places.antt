@@ -1,5 +1,5 @@
 -- Tables of the numbers of states, filled from the first state to the last.
-use Rattle.std.proofs.Common.{◌≡◌, ℕ, ◌+◌, ◌<◌, ◌≤◌, ◌==◌, Bool, true, false, cond, List, [], ◌∷◌, length, drop, refl, ap, sym, ◌∙◌, arith}
+use Rattle.std.proofs.Common.{◌≡◌, ℕ, ◌+◌, ◌<◌, ◌≤◌, ◌==◌, Bool, true, false, cond, List, ◌∷◌, length, drop, refl, ap, sym, ◌∙◌, arith}
 use Rattle.std.specs.declared.alloc.Global.{Global}
 use Rattle.std.specs.Prelude.{slice_index_or, Option, Some, None, is_some, if◌then◌else◌, Result, Ok, Err, IfOk, Vec}
 use Rattle.std.specs.Ordering.{nat_cmp, eq_by_cmp}

@@ -1,6 +1,6 @@
 -- All types of one role are printed alike.
 use Rattle.std.proofs.Common.{ℕ, ◌≡◌, ◌+◌, ◌<◌, ◌≤◌, List, [], ◌∷◌, ◌++◌, map, Bool, true, false, refl, ap, sym, subst, ◌∙◌, arith, inl, inr, zero, suc, length, take, append_assoc, length-append}
-use Rattle.std.specs.Prelude.{◌⊎◌, ◌↔◌, ◌≢◌, ◌==◌, Option, Some, None, slice_get, slice_index_or, AllPairs, if◌then◌else◌}
+use Rattle.std.specs.Prelude.{◌⊎◌, ◌↔◌, ◌≢◌, ◌==◌, Option, Some, None, slice_get, AllPairs, if◌then◌else◌}
 use Rattle.std.specs.List.{flat_map}
 use Rattle.std.specs.declared.cmp.Ordering.{Ordering}
 use Rattle.std.specs.declared.cmp.Ordering.TheVariants.{Less, Equal, Greater}
@@ -9,7 +9,7 @@ use Rattle.std.specs.Cmp.Lexicographic.{slice_cmp, nat_list_cmp_total}
 use Rattle.std.proofs.lemmas.Map.Lookups.{exact_bytes}
 use Rattle.std.proofs.lemmas.Bool.{cases_lt}
 use Rattle.std.proofs.lemmas.Grind.{flat_map-append}
-use Rattle.std.proofs.lemmas.Option.{slice_get-get_or, get_or_from_slice_get, slice_get_within}
+use Rattle.std.proofs.lemmas.Option.{slice_get-get_or, slice_get_within}
 use Rattle.std.specs.Fmt.{decimal}
 use Rattle.chor_base.specs.declared.names.NameId.{NameId}
 use Rattle.chor_base.specs.Words.{AllDistinct}
@@ -17,16 +17,16 @@ use Rattle.chor_base.specs.Writing.{name_in}
 use Rattle.chor_tree.specs.declared.protocol.Payload.{Payload}
 use Rattle.chor_tree.specs.declared.protocol.Payload.TheVariants.{Plain, Endpoint}
 use Rattle.chor_tree.specs.declared.protocol.State.{State}
-use Rattle.global_types.specs.Moves.{IsIn, Content, plain, endpoint, content_of, Exchange, passes, chooses, Leads}
+use Rattle.global_types.specs.Moves.{IsIn, Content, content_of, Exchange, passes, chooses, Leads}
 use Rattle.global_types.specs.Paths.{IsPath, Action, sends, receives, selects, offers, action_in, actions_of, IsView}
 use Rattle.local_types.specs.declared.local_type.LocalState.{LocalState}
 use Rattle.local_types.specs.declared.local_type.LocalState.TheVariants.{End, Send, Recv, Pick, Branch}
 use Rattle.local_types.specs.Reading.{acts_of, nexts_of, LeadsTo, AreInOrder, Ascend, labels_in, label_words, IsRoleType}
 use Rattle.local_types.specs.Numbers.{AreMatched, IsCarriedOver}
 use Rattle.local_types.specs.Table.{Counts}
-use Rattle.local_types.specs.Text.{payload_text, message_text, labels_text, state_text, states_text, local_text, HasNamedLabels, HasOneText}
+use Rattle.local_types.specs.Text.{payload_text, message_text, state_text, states_text, HasNamedLabels, HasOneText}
 use Rattle.local_types.proofs.Counts.{counts_append, counts_split}
-use Rattle.local_types.proofs.Lists.{in_left, in_right, in_either, in_map, in_map_back, at_of_in, in_of_at}
+use Rattle.local_types.proofs.Lists.{in_left, in_right, in_either, in_map, in_map_back, in_of_at}
 use Rattle.local_types.proofs.Pairs.{pairs_first, pairs_rest}
 use Rattle.local_types.proofs.Numbers.{leads_append, carried_over}
 

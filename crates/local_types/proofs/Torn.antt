@@ -1,6 +1,6 @@
 -- States that are apart, in a set with two states.
 use Rattle.std.proofs.Common.{ℕ, ◌≡◌, ◌<◌, ◌≤◌, ◌∙◌, List, Bool, true, false, refl, sym, ap, subst, arith, inl, inr, length}
-use Rattle.std.specs.Prelude.{◌⊎◌, Vec, Some, slice_get, MatchBool}
+use Rattle.std.specs.Prelude.{◌⊎◌, Vec, slice_get, MatchBool}
 use Rattle.std.specs.declared.alloc.Global.{Global}
 use Rattle.std.proofs.lemmas.Bool.{cases_lt}
 use Rattle.std.proofs.lemmas.Option.{same_Some, slice_get_within}

@@ -1,6 +1,6 @@
 -- What the table tells of a role's view.
 use Rattle.std.proofs.Common.{ℕ, ◌≡◌, ◌<◌, ◌≤◌, List, [], ◌∷◌, ◌++◌, Bool, true, false, refl, ap, sym, subst, ◌∙◌, arith, inl, inr, length, zero, suc, append_assoc}
-use Rattle.std.specs.Prelude.{◌||◌, Vec, ◌⊎◌, Some, slice_get, slice_index_or}
+use Rattle.std.specs.Prelude.{◌||◌, ◌⊎◌, Some, slice_get, slice_index_or}
 use Rattle.std.proofs.lemmas.Bool.{cases_lt}
 use Rattle.std.proofs.lemmas.List.{append-nil}
 use Rattle.std.proofs.lemmas.Option.{same_Some, slice_get-get_or, slice_get_within}
@@ -13,15 +13,13 @@ use Rattle.local_types.specs.declared.table.Arm.{Arm}
 use Rattle.local_types.specs.declared.table.Row.{Row}
 use Rattle.local_types.specs.Moves.{action_of}
 use Rattle.local_types.specs.Sets.{Has, IsSetFor}
-use Rattle.std.specs.declared.alloc.Global.{Global}
 use Rattle.std.specs.List.{IsDistinct, AllByRecursion, list_any}
 use Rattle.std.proofs.Math.Dec.{eqb}
 use Rattle.std.proofs.lemmas.Bool.Decides.{nat_tests}
 use Rattle.std.proofs.lemmas.Map.Steps.{length-le_from_distinct_below}
-use Rattle.local_types.specs.Graph.{AreRowsFor}
 use Rattle.local_types.specs.Table.{Circles, IsLeft, HasTorn, Target, AreArms, IsFound, IsTable, AreTooMany, IsWhole}
 use Rattle.local_types.proofs.Lists.{at_of_in, in_of_at}
-use Rattle.local_types.proofs.Sets.{row_within, sets_differ}
+use Rattle.local_types.proofs.Sets.{sets_differ}
 use Rattle.local_types.proofs.Tables.{still_set, next_set}
 use Rattle.local_types.proofs.Walks.{Reached, reached_front, still_is_reached, at_before}
 

@@ -1,5 +1,5 @@
 -- What a role's type says: the lists of actions that can be read from it.
-use Rattle.std.specs.Prelude.{false, take, Option, None, ◌==◌, if◌then◌else◌, ℕ, ◌<◌, ◌≤◌, ◌^◌, length, ◌≡◌, ◌≢◌, ◌↔◌, List, [], ◌∷◌, map, Some, slice_get, AllPairs}
+use Rattle.std.specs.Prelude.{false, take, Option, None, ◌==◌, if◌then◌else◌, ℕ, ◌<◌, ◌≡◌, ◌≢◌, ◌↔◌, List, [], ◌∷◌, map, Some, slice_get, AllPairs}
 use Rattle.std.specs.List.{flat_map}
 use Rattle.std.specs.Ordering.{is_lt, nat_cmp}
 use Rattle.std.specs.Cmp.Lexicographic.{slice_cmp}

@@ -1,4 +1,4 @@
-use Rattle.std.proofs.Common.{ℕ, ◌<◌, ◌≤◌}
+use Rattle.std.proofs.Common.{ℕ, ◌<◌}
 use Rattle.local_types.specs.Sets.{Has}
 use Rattle.local_types.proofs.marks.has_two.Given as goal
 

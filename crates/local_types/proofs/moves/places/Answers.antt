@@ -1,5 +1,4 @@
-use Rattle.std.proofs.Common.{◌≡◌, ◌<◌, ◌≤◌, ◌∙◌, ap, length, List, arith}
-use Rattle.chor_tree.specs.declared.protocol.State.{State}
+use Rattle.std.proofs.Common.{◌≡◌, ◌<◌, ◌∙◌, ap, length, arith}
 use Rattle.local_types.proofs.Places.{places_begin, places_more, places_end}
 use Rattle.local_types.proofs.moves.places.Goals as goal
 

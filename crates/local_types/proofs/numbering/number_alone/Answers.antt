@@ -1,5 +1,5 @@
 use Rattle.std.proofs.Common.{ℕ, List, ◌≡◌, ◌<◌, ◌∙◌, ap, sym, refl, subst, length, arith}
-use Rattle.std.specs.Prelude.{Option, Some, slice_get}
+use Rattle.std.specs.Prelude.{Option, Some}
 use Rattle.std.proofs.lemmas.Option.{slice_get-get_or}
 use Rattle.local_types.specs.Sets.{IsSetFor}
 use Rattle.local_types.proofs.Singles.{singles_kept, single_put, number_kept}

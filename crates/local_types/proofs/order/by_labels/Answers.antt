@@ -1,7 +1,5 @@
-use Rattle.std.proofs.Common.{◌≡◌, ◌∙◌, List, ap, rules}
-use Rattle.std.specs.List.Sorted.{IsPermutation}
+use Rattle.std.proofs.Common.{◌∙◌, ap, rules}
 use Rattle.std.proofs.lemmas.List.Sorted.{IsPermutation-sym}
-use Rattle.local_types.specs.declared.act.Act.{Act}
 use Rattle.local_types.specs.declared.order.Keyed.{Keyed}
 use Rattle.local_types.specs.Order.{keyed_acts, keyed_word}
 use Rattle.local_types.proofs.Lists.{in_permuted}

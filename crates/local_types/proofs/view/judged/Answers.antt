@@ -1,4 +1,4 @@
-use Rattle.std.proofs.Common.{Bool, ℕ, List, ◌≡◌, ◌∙◌, ap, sym, refl, subst, length}
+use Rattle.std.proofs.Common.{Bool, ℕ, List, ◌≡◌, ◌∙◌, ap, sym, subst, length}
 use Rattle.std.specs.Prelude.{MatchBool}
 use Rattle.chor_base.specs.declared.names.NameId.{NameId}
 use Rattle.chor_base.specs.declared.rule.Rule.{Rule}
