@@ -13,10 +13,11 @@ use crate::marks::{has, no_marks, put, put_all};
 use crate::moves::Move;
 use crate::order::by_labels;
 use chor_base::{Memory, Names};
+use smallvec::SmallVec;
 use std::alloc::Global;
 
 /// An exchange as the states that it leads from and to.
-#[derive(Clone, Copy)]
+#[derive(Clone, Copy, Default)]
 pub struct Edge {
     pub from: u32,
     pub to: u32,
@@ -26,7 +27,7 @@ pub struct Edge {
 #[derive(Drop)]
 pub struct Group {
     pub act: Act,
-    pub edges: Vec<Edge>,
+    pub edges: SmallVec<Edge, 1>,
 }
 
 // The acts of a role, by ascending labels.
@@ -151,10 +152,10 @@ fn knows(acts: &[Act], act: &Act) -> bool
 }
 
 // The exchanges in which the role does this.
-fn edges_of(alloc: Global, moves: &[Move], act: &Act) -> Result<Vec<Edge>, Memory>
+fn edges_of(alloc: Global, moves: &[Move], act: &Act) -> Result<SmallVec<Edge, 1>, Memory>
     ensures { IfOk result (λ v. AreEdges moves.now (action_of act.now) v.items) }
 {
-    let mut edges = Vec::new(alloc);
+    let mut edges = SmallVec::new(alloc);
     for item in moves {
         if does(item, act) {
             edges.push(Edge {

@@ -20,10 +20,10 @@ number_of still seen es old new number e was = subst (λ (l : List Edge). IsNumb
 pub number_after-requires-clause-inside : goal.number_after-requires-clause-inside
 number_after-requires-clause-inside c = λ e m.
     (c.requires.inside c.index-groups-number.result (group_among c.args.groups.now _ c.index-groups-number.result c.if-number-groups.true c.index-groups-number.is) e
-    (subst (λ l. IsIn e l) c.as_slice-then-is_allowed.ensures.value m)).1
+    (subst (λ l. IsIn e l) c.as_slice-then-is_allowed.ensures m)).1
 
 pub number_after-requires-clause-allowed : goal.number_after-requires-clause-allowed
-number_after-requires-clause-allowed c = subst (λ (l : List Edge). Allowed c.args.still.now l) (c.as_slice.ensures.value ∙ sym c.as_slice-then-is_allowed.ensures.value) c.if-is_allowed.ensures
+number_after-requires-clause-allowed c = subst (λ (l : List Edge). Allowed c.args.still.now l) (c.as_slice.ensures ∙ sym c.as_slice-then-is_allowed.ensures) c.if-is_allowed.ensures
 
 pub number_after-requires-clause-distinct : goal.number_after-requires-clause-distinct
 number_after-requires-clause-distinct c = c.loop-number.invariant.found.so_far.distinct
@@ -34,7 +34,7 @@ returns-then-len-gt-MOST-clause-sizes c =
     let first = c.args.numbering.now.sets in
     let old = c.loop-number.numbering.sets in
     let new = c.number_after.new.numbering.sets in
-    let n = number_of still c.as_slice-then-is_allowed.result.now c.index-groups-number.result.edges.items old new c.in_ok-next.next c.as_slice-then-is_allowed.ensures.value c.in_ok-next.ensures.number in
+    let n = number_of still c.as_slice-then-is_allowed.result.now c.index-groups-number.result.edges.items old new c.in_ok-next.next c.as_slice-then-is_allowed.ensures c.in_ok-next.ensures.number in
     sizes_more still first old new n.word n.added n.set.size c.loop-number.invariant.found.so_far.sizes
 
 pub returns-then-len-gt-MOST-clause-grown : goal.returns-then-len-gt-MOST-clause-grown
@@ -43,10 +43,10 @@ returns-then-len-gt-MOST-clause-grown c =
     let first = c.args.numbering.now.sets in
     let old = c.loop-number.numbering.sets in
     let new = c.number_after.new.numbering.sets in
-    let n = number_of still c.as_slice-then-is_allowed.result.now c.index-groups-number.result.edges.items old new c.in_ok-next.next c.as_slice-then-is_allowed.ensures.value c.in_ok-next.ensures.number in
+    let n = number_of still c.as_slice-then-is_allowed.result.now c.index-groups-number.result.edges.items old new c.in_ok-next.next c.as_slice-then-is_allowed.ensures c.in_ok-next.ensures.number in
     found_grown c.args.groups.now c.args.numbers.now still first c.loop-number.number-index c.loop-number.place _ old c.loop-number.arms.items c.index-groups-number.result n.word new
     (record { was = c.loop-number.invariant.found; rising = c.requires.rising; allowed = c.requires.allowed; short = c.loop-number-test.true; from = c.if-place-number.true; within = c.if-number-groups.true; is = c.index-groups-number.is })
-    (subst (λ l. Allowed still l) c.as_slice.ensures.value c.if-is_allowed.ensures) n.set n.added
+    (subst (λ l. Allowed still l) c.as_slice.ensures c.if-is_allowed.ensures) n.set n.added
 
 pub loop-number-init : goal.loop-number-init
 loop-number-init c = rw c.new-arms.ensures.items (record {
@@ -68,19 +68,19 @@ loop-number-preserved c =
       | then-place-number+then-number-groups+then-is_allowed+in_ok-next+else-len-gt-MOST+in_ok-push w ↦
           let g = w.index-groups-number.result in
           let new = w.number_after.new.numbering.sets in
-          let n = number_of still w.as_slice-then-is_allowed.result.now g.edges.items sets new w.in_ok-next.next w.as_slice-then-is_allowed.ensures.value w.in_ok-next.ensures.number in
+          let n = number_of still w.as_slice-then-is_allowed.result.now g.edges.items sets new w.in_ok-next.next w.as_slice-then-is_allowed.ensures w.in_ok-next.ensures.number in
           let few : length new ≤ 1024 = (let a = w.if-len-gt-MOST.false in let b = w.len.ensures.len in omega (arith, a, b)) in
           let turn : IsTurn gs numbers still first k place 0 sets arms g = record { was = c.loop-number.invariant.found; rising = c.requires.rising; allowed = c.requires.allowed; short = c.loop-number-test.true; from = w.if-place-number.true; within = w.if-number-groups.true; is = w.index-groups-number.is } in
           rw (w.place-is, w.numbering-is, w.arms-is) (record {
             found = found_in gs numbers still first k place 0 sets arms g n.word new _ w.push.new.self.items
-                turn (subst (λ l. Allowed still l) w.as_slice.ensures.value w.if-is_allowed.ensures) n.set n.added w.in_ok-next.ensures.distinct few refl n.at w.in_ok-push.ensures.items;
+                turn (subst (λ l. Allowed still l) w.as_slice.ensures w.if-is_allowed.ensures) n.set n.added w.in_ok-next.ensures.distinct few refl n.at w.in_ok-push.ensures.items;
             singles = w.in_ok-next.ensures.singles;
           })
       | then-place-number+then-number-groups+else-is_allowed w ↦
           let g = w.index-groups-number.result in
           let turn : IsTurn gs numbers still first k place 0 sets arms g = record { was = c.loop-number.invariant.found; rising = c.requires.rising; allowed = c.requires.allowed; short = c.loop-number-test.true; from = w.if-place-number.true; within = w.if-number-groups.true; is = w.index-groups-number.is } in
           rw (w.place-is, w.numbering-is, w.arms-is) (record {
-            found = found_out gs numbers still first k place 0 sets arms g turn (subst (λ l. (e : Edge) → IsIn e l → Has still e.from → ⊥) w.as_slice.ensures.value w.if-is_allowed.ensures);
+            found = found_out gs numbers still first k place 0 sets arms g turn (subst (λ l. (e : Edge) → IsIn e l → Has still e.from → ⊥) w.as_slice.ensures w.if-is_allowed.ensures);
             singles = c.loop-number.invariant.singles;
           })
       | else-place-number w ↦ rw (w.place-is, w.numbering-is, w.arms-is) (record {
