@@ -4,7 +4,6 @@ pub mod Fetched
 pub mod Answered
 pub mod Asked
 pub mod RunTexts
-pub mod Typed
 pub mod SameTexts
 pub mod Replayed
 pub mod Became

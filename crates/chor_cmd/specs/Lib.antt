@@ -1,4 +1,3 @@
-pub mod Types
 pub mod Readings
 pub mod Status
 pub mod Outputs

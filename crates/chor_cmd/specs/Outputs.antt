@@ -30,7 +30,7 @@ use Rattle.accepted_replays.specs.Sources.{ReplaysSource}
 use Rattle.generated_runs.specs.Texts.{IsGeneratedText, IsSummary}
 use Rattle.endpoint_check.specs.Programs.{AreProgramsOf, ViolatesPrograms}
 use Rattle.program_runs.specs.Transcripts.{IsTranscriptOf}
-use Rattle.chor_cmd.specs.Types.{IsTypesText}
+use Rattle.local_types.specs.Texts.{IsTypesText}
 
 -- ---- the texts
 

@@ -13,7 +13,6 @@ mod replays;
 mod run;
 mod status;
 mod texts;
-mod types;
 
 pub use command::chor;
 pub use command_words::{Command, Options, Words, read_words};

@@ -6,20 +6,19 @@ ghost use Rattle.source_check.specs.Classes.{IsFaultless, classes_of};
 ghost use Rattle.source_check.specs.Source.{IsBroken};
 ghost use Rattle.source_check.specs.declared.rules.Rules.TheVariants as rules;
 ghost use Rattle.chor_cmd.specs.Readings.{reading_of, IsOnSource};
-ghost use Rattle.chor_cmd.specs.Types.{IsTypesText};
+ghost use Rattle.local_types.specs.Texts.{IsTypesText};
 ghost use Rattle.chor_cmd.specs.Outputs.{IsProjectionText, IsAnswer, IsFlawed, IsDenied, Answers};
 ghost use Rattle.chor_cmd.specs.Endings.{host_names};
 
 use crate::canonical::canonical_of;
 use crate::endpoints::text_of_endpoints;
 use crate::run::run_text;
-use crate::types::types_of;
 use chor_base::{Denied, Memory};
 use chor_host::HostTable;
 use chor_tree::File;
 use command_words::Command;
 use simulation::{Accepted, accept};
-use source_check::{check, read};
+use source_check::{read, types_text as text_of_types};
 use std::alloc::Global;
 
 /// What the command writes for a source with these bytes.
@@ -86,8 +85,7 @@ fn types_text(alloc: Global, file: File, hosts: &HostTable) -> Result<Vec<u8>, D
     ensures faultless { OnOk result (IsFaultless (host_names hosts.now) file (classes_of rules.Views)) }
     ensures broken { IfErr result (IsBroken (classes_of rules.Views) (host_names hosts.now) file) }
 {
-    check(alloc, &file, hosts)?;
-    let text = types_of(alloc, &file)?;
+    let text = text_of_types(alloc, &file, hosts)?;
     Ok(text)
 }
 
