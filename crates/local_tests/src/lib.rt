@@ -1,0 +1,20 @@
+//! Tests of local types: what [`local_types::local`] answers is held against a plain body, which goes
+//! through everything at every step, on the protocols of worked sources and on generated ones.
+#![tactic(auto)]
+
+#[cfg(test)]
+mod agreement;
+#[cfg(test)]
+mod chance;
+#[cfg(test)]
+mod files;
+#[cfg(test)]
+mod judged;
+#[cfg(test)]
+mod making;
+#[cfg(test)]
+mod moves;
+#[cfg(test)]
+mod plain;
+#[cfg(test)]
+mod sets;
