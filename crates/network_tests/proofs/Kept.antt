@@ -37,16 +37,21 @@ begins e v faultless programs state history served processes =
       fits = subst (FitsMore v) left (fits_first v e 1000000 programs state history enough served processes);
     }
 
--- one event fewer fits where more fit
-fits_fewer : (v : NetworkView) (k : ℕ) → FitsMore v (suc k) → FitsMore v k
-fits_fewer v k f =
+-- fewer events fit where more fit
+fits_fewer : (v : NetworkView) (k n : ℕ) → k ≤ n → FitsMore v n → FitsMore v k
+fits_fewer v k n fewer f =
     let most : ℕ = most_served v.endpoints.channels in
-    let fewer : k ≤ suc k = omega arith in
     let self : most ≤ most = omega arith in
-    let product : k * most ≤ suc k * most = mul-le-mul fewer self in
-    let sid : v.state.sid + suc k < 2 ^ 32 = f.sid in
-    let machines : length v.state.machines + suc k * most < 2 ^ 32 = f.machines in
+    let product : k * most ≤ n * most = mul-le-mul fewer self in
+    let sid : v.state.sid + n < 2 ^ 32 = f.sid in
+    let machines : length v.state.machines + n * most < 2 ^ 32 = f.machines in
     record { sid = omega arith; machines = omega arith }
+
+-- a run to so many events in all fits, where it makes no more than fit
+pub run_fits : (e : Endpoints) (left more before : ℕ) (v : NetworkView) → IsOnItsWay e left v → more ≤ left → length v.history ≡ before → FitsMore v ((before + more) - length v.history)
+run_fits e left more before v w few history =
+    let exact : (before + more) - length v.history ≡ more = omega arith in
+    subst (λ (k : ℕ). FitsMore v k) (sym exact) (fits_fewer v more left few w.fits)
 
 fits_same : (old new : NetworkView) (k : ℕ) → IsSame old new → FitsMore old k → FitsMore new k
 fits_same old new k s f = record {
@@ -61,7 +66,7 @@ stays e left old new s w = record {
   faultless = w.faultless;
   same = s.endpoints ∙ w.same;
   there = subst (λ (n : NetworkState). length e.processes ≤ length n.machines) (sym s.state) w.there;
-  fits = fits_same old new left s (fits_fewer old left w.fits);
+  fits = fits_same old new left s (fits_fewer old left (suc left) (omega arith) w.fits);
 }
 
 after : (hosts : Hosts) (e : Endpoints) (left p : ℕ) (r : Step) (old new : NetworkView) → Answers hosts old p r new → IsOnItsWay e (suc left) old → IsOnItsWay e left new

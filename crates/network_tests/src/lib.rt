@@ -7,10 +7,30 @@ mod actor;
 #[cfg(test)]
 mod actors;
 #[cfg(test)]
+mod chance;
+#[cfg(test)]
+mod channels;
+#[cfg(test)]
 mod deeds;
+#[cfg(test)]
+mod generated;
+#[cfg(test)]
+mod making;
+#[cfg(test)]
+mod orders;
+#[cfg(test)]
+mod pen;
 #[cfg(test)]
 mod programs;
 #[cfg(test)]
 mod scheduled;
 #[cfg(test)]
+mod script;
+#[cfg(test)]
+mod script_text;
+#[cfg(test)]
+mod seats;
+#[cfg(test)]
 mod steps;
+#[cfg(test)]
+mod tally;

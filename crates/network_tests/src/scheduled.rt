@@ -7,6 +7,7 @@ ghost use Rattle.network_tests.specs.Known.{known};
 
 use crate::programs::{functions, lines, read};
 use crate::steps::Steps;
+use chor_base::Entry;
 use endpoint_code::Endpoints;
 use endpoint_runs::{Closed, Ran, run_endpoints};
 use std::alloc::Global;
@@ -17,25 +18,46 @@ use worked::endpoints::{ALONE, EXAMPLES, LABELS, NOTHING, WRONG_LABEL};
 // How many events a run has at most.
 const STEPS: u32 = 120;
 
-// Whether a run by counts is the one that is made step by step.
-fn is_same(
+/// Whether a run by counts is the one that is made step by step, with this seed and at most so many events.
+pub fn is_same(
     rt: &impl Abort,
     alloc: Global,
     endpoints: &Endpoints,
     ran: &Ran,
-    seed: u32,
+    asked: (u32, u32),
 ) -> Result<bool, Fail>
     requires { IsFaultlessWith (names_of known) endpoints.now }
 {
     let mut plain = Steps::new(rt, alloc, endpoints)?;
-    let closed = plain.run(rt, seed, STEPS)?;
+    let is_run = goes_on(rt, &mut plain, asked, ran.closed)?;
+    Ok(is_run && are_told(alloc, endpoints, &plain, ran.history.as_slice())?)
+}
+
+/// Lets a network go on step by step, with this seed and for at most so many events, and says whether that is
+/// closed so.
+pub fn goes_on(
+    rt: &impl Abort,
+    plain: &mut Steps<'_>,
+    asked: (u32, u32),
+    closed: Closed,
+) -> Result<bool, Fail> {
+    let found = plain.run(rt, asked.0, asked.1)?;
+    match closed {
+        Closed::Stuck(pid, why) => Ok(found.is_none() && plain.waits(rt, pid, why)?),
+        other => Ok(found == Some(other)),
+    }
+}
+
+/// Whether these are the events of a network that was made step by step.
+pub fn are_told(
+    alloc: Global,
+    endpoints: &Endpoints,
+    plain: &Steps<'_>,
+    history: &[Entry],
+) -> Result<bool, Fail> {
     let want = lines(alloc, endpoints, plain.history())?;
-    let told = lines(alloc, endpoints, ran.history.as_slice())?;
-    let is_closed = match ran.closed {
-        Closed::Stuck(pid, why) => closed.is_none() && plain.waits(rt, pid, why)?,
-        other => closed == Some(other),
-    };
-    Ok(is_closed && told.as_slice() == want.as_slice())
+    let told = lines(alloc, endpoints, history)?;
+    Ok(told.as_slice() == want.as_slice())
 }
 
 fn runs_alike(
@@ -48,7 +70,7 @@ fn runs_alike(
 {
     let hosts = functions(alloc)?;
     let ran = run_endpoints(alloc, endpoints, &hosts, u64::from(seed), u64::from(STEPS))?;
-    is_same(rt, alloc, endpoints, &ran, seed)
+    is_same(rt, alloc, endpoints, &ran, (seed, STEPS))
 }
 
 fn agree_on(rt: &impl Abort, alloc: Global, endpoints: &Endpoints) -> Result<(), Fail>

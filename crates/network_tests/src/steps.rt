@@ -6,10 +6,10 @@ ghost use Rattle.endpoint_code.specs.Faults.{IsFaultlessWith};
 ghost use Rattle.network_tests.specs.Known.{known};
 
 use crate::programs::functions;
-use chor_base::{Entry, Why};
+use chor_base::{Entry, Event, NameId, Why};
 use endpoint_code::{Channel, Endpoints};
 use endpoint_runs::Closed;
-use net_core::{Network, Step};
+use net_core::{Network, Picked, Step};
 use std::alloc::Global;
 use std::marker::Model;
 use std::process::Abort;
@@ -51,6 +51,24 @@ fn serve_few(channels: &[Channel]) -> bool
         }
     }
     true
+}
+
+// Whether a process has the first of these parts.
+fn leads_among(parts: &[(NameId, u32)], pid: u32) -> bool {
+    match parts.first() {
+        Some(part) => part.1 == pid,
+        None => false,
+    }
+}
+
+// How a run is closed that ended so.
+fn closed_by(rt: &impl Abort, picked: Picked) -> Closed {
+    match picked {
+        Picked::Ended => Closed::Ended,
+        Picked::Limit => Closed::Limit,
+        Picked::Stuck(pid, why) => Closed::Stuck(pid, why),
+        Picked::Memory => panic!(rt; "no memory"),
+    }
 }
 
 impl<'a> Steps<'a> {
@@ -108,6 +126,61 @@ impl<'a> Steps<'a> {
             }
         }
         Ok(self.step(rt, pid)? == Step::Waits(why))
+    }
+
+    /// The process that the pick rule takes.
+    pub fn pick(&self, seed: u32) -> Option<u32> {
+        self.network.pick(u64::from(seed))
+    }
+
+    /// One event of each of these processes of the beginning.
+    pub fn follow(&mut self, rt: &impl Abort, pids: &[u32]) -> Result<(), Fail> {
+        for pid in pids {
+            let step = self.step(rt, *pid)?;
+            assert!(rt; step == Step::Did);
+        }
+        Ok(())
+    }
+
+    /// Whether a process of the beginning can step and counts for the pick rule: where it joins, it does so
+    /// in its channel's first active role. To find that out it makes its step.
+    pub fn counts(&mut self, rt: &impl Abort, pid: u32) -> Result<bool, Fail> {
+        Ok(self.step(rt, pid)? == Step::Did && self.leads(pid))
+    }
+
+    // Whether the last event isn't the start of a session which another process leads.
+    fn leads(&self, pid: u32) -> bool {
+        let Some(entry) = self.history().last() else {
+            return false;
+        };
+        match &entry.event {
+            Event::Start { parts, .. } => leads_among(parts.as_slice(), pid),
+            _ => true,
+        }
+    }
+
+    /// Goes on by the pick rule as `run_picked` does, to at most so many events more. Answers how that is closed,
+    /// and all events.
+    pub fn finish(
+        self,
+        rt: &impl Abort,
+        seed: u32,
+        more: u32,
+    ) -> Result<(Closed, Vec<Entry>), Fail> {
+        let Steps {
+            alloc,
+            endpoints: _,
+            mut network,
+            left,
+        } = self;
+        let before = network.history().len() as u64;
+        if more > left || before > 1_000 || more > 1_000 {
+            panic!(rt; "too many steps");
+        }
+        let hosts = functions(alloc)?;
+        let picked = network.run_picked(&hosts, u64::from(seed), before + u64::from(more));
+        let closed = closed_by(rt, picked);
+        Ok((closed, network.into_history()))
     }
 
     // One event by the pick rule, unless no process can step.
