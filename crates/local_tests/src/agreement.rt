@@ -5,7 +5,7 @@ ghost use Rattle.local_types.specs.Reading.{role_place};
 
 use crate::files::read;
 use crate::judged::is_judged;
-use crate::making::{Promise, labels_source, promise_of, source_of};
+use crate::making::{Promise, few_source, labels_source, promise_of, source_of};
 use crate::plain::{Plain, judge};
 use chor_base::{Names, Rule};
 use chor_tree::{Named, Protocol};
@@ -53,6 +53,26 @@ const MORE_SETS: &[u8] = b"protocol V (A, B, C) {
   q8 = A -> C { a then q9, b then q9 };
   q9 = A -> C { a then q10, b then q10 };
   q10 = A -> C { z then e };
+  e = end;
+}
+main () { end }
+";
+
+// C may select the same labels in t and in u, whose order doesn't count.
+const SAME_LABELS: &[u8] = b"protocol V (A, B, C) {
+  s = A -> B { l then t, r then u };
+  t = C -> A { yes then e, no then e, so then e };
+  u = C -> A { so then e, yes then e, no then e };
+  e = end;
+}
+main () { end }
+";
+
+// In u it may select one more.
+const MORE_LABELS: &[u8] = b"protocol V (A, B, C) {
+  s = A -> B { l then t, r then u };
+  t = C -> A { yes then e, no then e };
+  u = C -> A { no then e, so then e, yes then e };
   e = end;
 }
 main () { end }
@@ -179,8 +199,20 @@ fn many_labels(rt: HostRuntime) -> Result<(), Fail> {
     let source = labels_source(rt.alloc(), false)?;
     let said = said_of(&rt, rt.alloc(), source.as_slice())?;
     assert!(rt; are_fine(said.as_slice()));
+    let few = few_source(rt.alloc())?;
+    let said = said_of(&rt, rt.alloc(), few.as_slice())?;
+    assert!(rt; are_fine(said.as_slice()));
     let turns = labels_source(rt.alloc(), true)?;
     agree(&rt, rt.alloc(), turns.as_slice())
+}
+
+#[test]
+fn labels_that_a_role_selects(rt: HostRuntime) -> Result<(), Fail> {
+    let same = said_of(&rt, rt.alloc(), SAME_LABELS)?;
+    assert!(rt; are_fine(same.as_slice()));
+    let more = said_of(&rt, rt.alloc(), MORE_LABELS)?;
+    assert!(rt; third_is_against(more.as_slice(), Rule::V1));
+    Ok(())
 }
 
 #[test]

@@ -276,3 +276,37 @@ impl Maker {
         Ok(())
     }
 }
+
+/// The source of a protocol in which C has 184 labels to learn, and at first four of them, from two states
+/// that it can't tell apart, whose labels stand among each other as bytes are compared.
+pub fn few_source(alloc: Global) -> Result<Vec<u8>, Fail> {
+    let mut maker = Maker {
+        alloc,
+        chance: Chance::new(0),
+        out: Vec::new(alloc),
+    };
+    maker.head(3)?;
+    maker.put(
+        b"  s = A -> B { x then p, y then q };\n  p = A -> C { m then t0, b then t0 };\n  q = A -> C { z then t0, a then t0 };\n",
+    )?;
+    for state in 0..3 {
+        maker.put_state(b"  t", state)?;
+        maker.put(b" = A -> C {")?;
+        maker.sixty_arms(state)?;
+        maker.put(b" };\n")?;
+    }
+    maker.put(b"  t3 = end;\n}\nmain () { end }\n")?;
+    Ok(maker.out)
+}
+
+impl Maker {
+    // Sixty labels, of which no other state has one, and after each the next state.
+    fn sixty_arms(&mut self, state: usize) -> Result<(), Fail> {
+        for place in 0..60_usize {
+            self.put(if place == 0 { b" l" } else { b", l" })?;
+            self.put_state(b"", state.wrapping_mul(60).wrapping_add(place))?;
+            self.put_state(b" then t", state.wrapping_add(1))?;
+        }
+        Ok(())
+    }
+}
