@@ -4,4 +4,4 @@ mod PassedOn
 mod WalksOn
 mod Faults
 mod Settled
-mod Channels
+mod Groups

@@ -1,5 +1,5 @@
 -- A start and a message, for those who have heard and for the members of the definition.
-use Rattle.std.proofs.Common.{◌≡◌, ℕ, ◌<◌, ◌==◌, ◌||◌, ◌&&◌, Bool, true, false, List, [], ◌∷◌, length, refl, ap, sym, ◌∙◌, subst, arith}
+use Rattle.std.proofs.Common.{◌≡◌, ℕ, ◌==◌, ◌||◌, ◌&&◌, Bool, true, false, List, [], ◌∷◌, refl, ap, sym, ◌∙◌, subst, arith}
 use Rattle.std.specs.Prelude.{not, IsTrue, ◌↔◌, if◌then◌else◌}
 use Rattle.std.specs.List.{list_any, list_all}
 use Rattle.std.proofs.lemmas.Bool.Decides.{nat_tests}
@@ -17,6 +17,7 @@ use Rattle.well_formed.specs.WellFormed.{firsts, service_refs}
 use Rattle.linear_check.specs.declared.heard.Heard.{Heard}
 use Rattle.linear_check.specs.Heard.{hears}
 use Rattle.linear_check.specs.Tracks.{channel_at, Tracks, all_members_by, Misses}
+use Rattle.linear_check.specs.Starts.{IsMissed}
 
 turned : (a b : ℕ) → ((a == b) && true) ≡ (b == a)
 turned a b = grind (arith, nat_tests)
@@ -95,10 +96,6 @@ module _ (m : Members) (heard : ℕ → Bool) (same : (x : ℕ) → m (Named x 0
       ∙ other (heard x) (list_any (λ q. q.process.name.0 == x) active) (list_any (λ q. q.process.name.0 == x) serve) (list_any (λ q. heard q.process.name.0) active) ∙ sym e
 
 -- ---- a start of one of several channels that isn't by members alone
-
--- what was found out of it
-abbrev pub IsMissed : List NameId → Heard → NameId → List Part → Type 0
-IsMissed cs h k active = (c : ℕ) × (c < length cs) × ((k.0 == (channel_at cs c).0) ≡ true) × (list_all (λ q. hears h c q.process.name.0) active ≡ false)
 
 module _ (cs : List NameId) (h : Heard) (m : ℕ → Members) (tracks : Tracks cs h m) where
   start_there : (k s : Written) (active serve : List Part) (next : NodeId) → IsMissed cs h k.name active → Misses cs m (head_of (Start k s active serve next))

@@ -6,6 +6,7 @@ ghost use Rattle.linearity.specs.OrderFaults.{IsOrderFault, IsLinearFile};
 ghost use Rattle.linear_check.specs.Greatest.{IsOrderFaultOf, HaveGreatest};
 ghost use Rattle.linear_check.specs.Several.{several};
 
+use crate::channels::Channels;
 use crate::group::Group;
 use chor_base::{Denied, Fault, List, Memory, NameId, earlier};
 use chor_tree::{File, Service};
@@ -70,7 +71,10 @@ fn first_in_group(alloc: Global, file: &File, channels: &[NameId]) -> Result<Opt
     ensures first { IfOk result (IsFirst (IsOrderFaultOf file.now channels.now)) }
     ensures greatest { OnOk result (HaveGreatest file.now channels.now) }
 {
-    let group = Group { file, channels };
+    let group = Group {
+        file,
+        channels: Channels::new(channels),
+    };
     let sets = group.greatest_sets(alloc)?;
     let first = group.first_under(alloc, &sets)?;
     Ok(first)

@@ -16,7 +16,7 @@ impl<'a> Group<'a> {
     // of all takes none. Every other walk goes backwards, so that it doesn't matter whether
     // procedures call earlier or later ones.
     pub fn greatest_sets(&self, alloc: Global) -> Result<Sets, Memory>
-        ensures { IfOk result (AreAllGreatest self.now.file.now self.now.channels.now) }
+        ensures { IfOk result (AreAllGreatest self.now.file.now self.now.channels.names.now) }
     {
         let mut sets = Sets::full(alloc);
         for _ in 0..u64::MAX {
@@ -31,8 +31,8 @@ impl<'a> Group<'a> {
 
     // One walk of all bodies, and whether it took a parameter away.
     fn take_in_all(&self, alloc: Global, sets: &mut Sets) -> Result<bool, Memory>
-        ensures upper { OnOk result (AreAllUpper self.now.file.now self.now.channels.now sets.old → AreAllUpper self.now.file.now self.now.channels.now sets.new) }
-        ensures settled { IfOk result (λ changed. changed ≡ false → AreAllUpper self.now.file.now self.now.channels.now sets.old → AreAllGreatest self.now.file.now self.now.channels.now sets.new) }
+        ensures upper { let channels = self.now.channels.names.now in OnOk result (AreAllUpper self.now.file.now channels sets.old → AreAllUpper self.now.file.now channels sets.new) }
+        ensures settled { let channels = self.now.channels.names.now in IfOk result (λ changed. changed ≡ false → AreAllUpper self.now.file.now channels sets.old → AreAllGreatest self.now.file.now channels sets.new) }
     {
         let mut changed = false;
         for procedure in self.file.procs.as_slice() {
@@ -46,7 +46,7 @@ impl<'a> Group<'a> {
 
     // One walk of all procedures, the last one first.
     fn take_backwards(&self, alloc: Global, sets: &mut Sets) -> Result<(), Memory>
-        ensures { OnOk result (AreAllUpper self.now.file.now self.now.channels.now sets.old → AreAllUpper self.now.file.now self.now.channels.now sets.new) }
+        ensures { let channels = self.now.channels.names.now in OnOk result (AreAllUpper self.now.file.now channels sets.old → AreAllUpper self.now.file.now channels sets.new) }
     {
         let mut left = self.file.procs.len();
         while left > 0 {
@@ -62,7 +62,7 @@ impl<'a> Group<'a> {
         procedure: &Proc,
         sets: &mut Sets,
     ) -> Result<bool, Memory>
-        ensures taken { OnOk result (TakesIn self.now.file.now self.now.channels.now procedure.now sets.old sets.new) }
+        ensures taken { OnOk result (TakesIn self.now.file.now self.now.channels.names.now procedure.now sets.old sets.new) }
         ensures same { IfOk result (λ changed. changed ≡ false → sets.new ≡ sets.old) }
     {
         let heard = heard_in(alloc, procedure, sets)?;
@@ -72,7 +72,7 @@ impl<'a> Group<'a> {
 
     // The first start that isn't ordered under these sets.
     pub fn first_under(&self, alloc: Global, sets: &Sets) -> Result<Option<Fault>, Memory>
-        ensures { IfOk result (IsFirst (IsUnorderedUnder self.now.file.now self.now.channels.now sets.now)) }
+        ensures { IfOk result (IsFirst (IsUnorderedUnder self.now.file.now self.now.channels.names.now sets.now)) }
     {
         let everyone = Heard::everyone(alloc);
         let mut first = self.first_from(alloc, everyone, self.file.body)?;

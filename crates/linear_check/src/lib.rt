@@ -2,6 +2,7 @@
 #![tactic(auto)]
 
 mod calls;
+mod channels;
 mod checking;
 mod class;
 mod greatest;

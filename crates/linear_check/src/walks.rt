@@ -1,7 +1,7 @@
 //! Walks of bodies.
 
 ghost use Rattle.std.specs.Prelude.{ℕ, ◌≡◌, false, IfOk, OnOk, option_copied, slice_get};
-ghost use Rattle.chor_base.specs.Faults.{IsFirst};
+ghost use Rattle.chor_base.specs.Faults.{IsFirst, earlier, fault_if, first_of_all};
 ghost use Rattle.chor_tree.specs.Source.{body_of};
 ghost use Rattle.well_formed.specs.Linear.{Members};
 ghost use Rattle.linear_check.specs.Takes.{TakesAway};
@@ -10,7 +10,7 @@ ghost use Rattle.linear_check.specs.Tracks.{Tracks, IsUnorderedOfAny};
 use crate::group::Group;
 use crate::heard::Heard;
 use crate::sets::Sets;
-use chor_base::{Fault, Memory, Rule, earlier, fault_if};
+use chor_base::{Fault, Memory, Place, Rule, earlier};
 use chor_tree::{Node, NodeId};
 use std::alloc::Global;
 use tree_walks::{Following, what_follows};
@@ -31,7 +31,7 @@ impl<'a> Group<'a> {
         id: NodeId,
         sets: &mut Sets,
     ) -> Result<bool, Memory>
-        ensures taken { let channels = self.now.channels.now in OnOk result ((m : ℕ → Members) → Tracks channels heard m → TakesAway channels m (body_of self.now.file.now id) sets.old sets.new) }
+        ensures taken { let channels = self.now.channels.names.now in OnOk result ((m : ℕ → Members) → Tracks channels heard m → TakesAway channels m (body_of self.now.file.now id) sets.old sets.new) }
         ensures same { IfOk result (λ changed. changed ≡ false → sets.new ≡ sets.old) }
     {
         let mut heard = heard;
@@ -43,7 +43,7 @@ impl<'a> Group<'a> {
                     return Ok(changed);
                 }
                 Following::One(next) => {
-                    heard.after(alloc, self.channels, &node.form)?;
+                    heard.after(alloc, &self.channels, &node.form)?;
                     at = next;
                 }
                 Following::Either(one, other) => {
@@ -64,18 +64,18 @@ impl<'a> Group<'a> {
         heard: Heard,
         id: NodeId,
     ) -> Result<Option<Fault>, Memory>
-        ensures { let channels = self.now.channels.now in IfOk result (λ first. (m : ℕ → Members) → Tracks channels heard m → IsFirst (IsUnorderedOfAny channels m (body_of self.now.file.now id)) first) }
+        ensures { let channels = self.now.channels.names.now in IfOk result (λ first. (m : ℕ → Members) → Tracks channels heard m → IsFirst (IsUnorderedOfAny channels m (body_of self.now.file.now id)) first) }
     {
         let mut heard = heard;
         let mut first = None;
         let mut at = id;
         while let Some(node) = self.node_at(at) {
-            let misses = heard.misses(self.channels, &node.form);
-            first = earlier(first, fault_if(misses, Rule::U2, node.place));
+            let misses = heard.misses(&self.channels, &node.form);
+            first = first_with(first, misses, node.place);
             match what_follows(&node.form) {
                 Following::Nothing => return Ok(first),
                 Following::One(next) => {
-                    heard.after(alloc, self.channels, &node.form)?;
+                    heard.after(alloc, &self.channels, &node.form)?;
                     at = next;
                 }
                 Following::Either(one, other) => {
@@ -89,4 +89,18 @@ impl<'a> Group<'a> {
         }
         Ok(first)
     }
+}
+
+// The first of what was found before and of the fault at a node, if the node misses.
+fn first_with(first: Option<Fault>, misses: bool, place: Place) -> Option<Fault>
+    ensures { result ≡ earlier first (first_of_all (fault_if misses Rule.U2 place)) }
+{
+    if misses {
+        let fault = Fault {
+            rule: Rule::U2,
+            place,
+        };
+        return earlier(first, Some(fault));
+    }
+    first
 }

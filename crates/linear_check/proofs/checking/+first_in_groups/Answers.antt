@@ -1,7 +1,7 @@
 use Rattle.std.proofs.Common.{sym, subst}
 use Rattle.chor_base.specs.Faults.{IsFirst}
 use Rattle.linear_check.specs.Greatest.{IsOrderFaultOf}
-use Rattle.linear_check.proofs.Channels.{groups_first, groups_greatest}
+use Rattle.linear_check.proofs.Groups.{groups_first, groups_greatest}
 use Rattle.linear_check.proofs.checking.+first_in_groups.Goals as goal
 
 pub returns-clause-first : goal.returns-clause-first

@@ -2,7 +2,7 @@ use Rattle.std.proofs.Common.{ap, ◌∙◌, subst}
 use Rattle.chor_base.specs.Faults.{IsFirst}
 use Rattle.linearity.specs.OrderFaults.{IsOrderFault}
 use Rattle.linear_check.specs.Several.{several}
-use Rattle.linear_check.proofs.Channels.{file_first, file_linear}
+use Rattle.linear_check.proofs.Groups.{file_first, file_linear}
 use Rattle.linear_check.proofs.checking.first_unordered.Goals as goal
 
 pub returns-clause-first : goal.returns-clause-first

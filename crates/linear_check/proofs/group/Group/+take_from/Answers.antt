@@ -12,12 +12,12 @@ use Rattle.linear_check.proofs.group.Group.+take_from.Goals as goal
 pub returns-in-Nothing-clause-taken : goal.returns-in-Nothing-clause-taken
 returns-in-Nothing-clause-taken t c = λ m tracks.
     let f = c.args.self.now.file.now in
-    let cs = c.args.self.now.channels.now in
+    let cs = c.args.self.now.channels.names.now in
     let n = c.in-Some.node.now in
     let g = c.loop-node.invariant.on m tracks in
     let new = c.take_at.new.sets in
     subst (λ s. TakesAway cs m (body_of f c.args.id) s new) c.loop-node.invariant.same
-    (g.rest c.loop-node.sets new (tail_away f cs c.loop-node.heard g.members c.loop-node.sets new c.loop-node.at n c.args.self.now.few (sym c.in-Some.ensures) g.tracks c.in-Nothing.ensures c.in_ok-changed-in-Nothing.ensures.taken))
+    (g.rest c.loop-node.sets new (tail_away f cs c.loop-node.heard g.members c.loop-node.sets new c.loop-node.at n c.args.self.now.channels.few (sym c.in-Some.ensures) g.tracks c.in-Nothing.ensures c.in_ok-changed-in-Nothing.ensures.taken))
 
 pub loop-node-smaller : goal.loop-node-smaller
 loop-node-smaller t c =
@@ -28,7 +28,7 @@ loop-node-smaller t c =
 pub loop-node-preserved : goal.loop-node-preserved
 loop-node-preserved t c =
     let f = c.args.self.now.file.now in
-    let cs = c.args.self.now.channels.now in
+    let cs = c.args.self.now.channels.names.now in
     let n = c.in-Some.node.now in
     let next = c.in-One.next in
     let lt : next.0 < c.loop-node.at.0 = child_below f.tree.nodes c.loop-node.at.0 n next f.tree.closed (sym c.in-Some.ensures) (subst (λ l. Contains l next) c.in-One.ensures (at_head next [] next refl)) in
@@ -58,7 +58,7 @@ take_from-requires-in-Either t c =
 pub returns-in-Either-clause-taken : goal.returns-in-Either-clause-taken
 returns-in-Either-clause-taken t c = λ m tracks.
     let f = c.args.self.now.file.now in
-    let cs = c.args.self.now.channels.now in
+    let cs = c.args.self.now.channels.names.now in
     let n = c.in-Some.node.now in
     let g = c.loop-node.invariant.on m tracks in
     let middle = c.take_from.new.sets in
@@ -76,7 +76,7 @@ returns-in-Either-clause-same t c = λ e.
 
 pub loop-node-init : goal.loop-node-init
 loop-node-init t c = record {
-  on = λ m tracks. begins c.args.self.now.file.now c.args.self.now.channels.now c.args.heard m c.args.id tracks;
+  on = λ m tracks. begins c.args.self.now.file.now c.args.self.now.channels.names.now c.args.heard m c.args.id tracks;
   same = refl;
   below = omega arith;
 }
@@ -84,7 +84,7 @@ loop-node-init t c = record {
 pub returns-clause-taken : goal.returns-clause-taken
 returns-clause-taken t c = λ m tracks.
     let f = c.args.self.now.file.now in
-    let cs = c.args.self.now.channels.now in
+    let cs = c.args.self.now.channels.names.now in
     let g = c.loop-node.invariant.on m tracks in
     subst (λ s. TakesAway cs m (body_of f c.args.id) s c.loop-node.sets) c.loop-node.invariant.same
     (g.rest c.loop-node.sets c.loop-node.sets (past_away f cs g.members c.loop-node.sets c.loop-node.at (sym (ap option_copied c.in_default.is) ∙ c.node_at.ensures)))

@@ -9,7 +9,7 @@ decreases-take_from l = l.id.0
 
 abbrev pub invariant-loop-node : goal.invariant-loop-node
 invariant-loop-node l = record {
-  on : (m : ℕ → Members) → Tracks l.self.channels.now l.fn.heard m → GoesOn l.self.file.now l.self.channels.now l.fn.heard l.heard m l.fn.id l.at;
+  on : (m : ℕ → Members) → Tracks l.self.channels.names.now l.fn.heard m → GoesOn l.self.file.now l.self.channels.names.now l.fn.heard l.heard m l.fn.id l.at;
   same : l.sets ≡ l.fn.sets;
   below : l.at.0 ≤ l.fn.id.0;
 }

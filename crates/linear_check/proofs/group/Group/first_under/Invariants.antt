@@ -7,5 +7,5 @@ use Rattle.linear_check.proofs.group.Group.first_under.Given as goal
 
 abbrev pub invariant-loop-procedure : goal.invariant-loop-procedure
 invariant-loop-procedure l =
-    (o : Option Fault) → IsFirst (IsUnorderedInProcedures l.self.file.now l.self.channels.now l.sets (drop l.procedure-index l.self.file.now.procs)) o
-    → IsFirst (IsUnorderedUnder l.self.file.now l.self.channels.now l.sets) (earlier l.first o)
+    (o : Option Fault) → IsFirst (IsUnorderedInProcedures l.self.file.now l.self.channels.names.now l.sets (drop l.procedure-index l.self.file.now.procs)) o
+    → IsFirst (IsUnorderedUnder l.self.file.now l.self.channels.names.now l.sets) (earlier l.first o)

@@ -8,7 +8,7 @@ loop-left-preserved c =
     let within = c.loop-left.invariant.within in
     record {
       upper = λ u.
-          upper_turn f c.args.self.now.channels.now c.at.result.now c.loop-left.sets c.take_in_procedure.new.sets (found_among f.procs _ c.at.result.now c.at.ensures)
+          upper_turn f c.args.self.now.channels.names.now c.at.result.now c.loop-left.sets c.take_in_procedure.new.sets (found_among f.procs _ c.at.result.now c.at.ensures)
           c.in_ok-take_in_procedure.ensures.taken (c.loop-left.invariant.upper u);
       within = omega arith;
     }

@@ -4,7 +4,7 @@ use Rattle.linear_check.proofs.group.Group.take_backwards.Given as goal
 
 abbrev pub invariant-loop-left : goal.invariant-loop-left
 invariant-loop-left l = record {
-  upper : AreAllUpper l.self.file.now l.self.channels.now l.fn.sets → AreAllUpper l.self.file.now l.self.channels.now l.sets;
+  upper : AreAllUpper l.self.file.now l.self.channels.names.now l.fn.sets → AreAllUpper l.self.file.now l.self.channels.names.now l.sets;
   within : l.left ≤ length l.self.file.now.procs;
 }
 

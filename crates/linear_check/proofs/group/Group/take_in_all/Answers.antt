@@ -10,7 +10,7 @@ use Rattle.linear_check.proofs.group.Group.take_in_all.Goals as goal
 pub loop-procedure-preserved : goal.loop-procedure-preserved
 loop-procedure-preserved c =
     let f = c.args.self.now.file.now in
-    let cs = c.args.self.now.channels.now in
+    let cs = c.args.self.now.channels.names.now in
     let h = c.procedure-item.result in
     let old = c.loop-procedure.sets in
     let new = c.take_in_procedure.new.sets in
@@ -31,14 +31,14 @@ loop-procedure-preserved c =
 pub returns-clause-upper : goal.returns-clause-upper
 returns-clause-upper c = λ u.
     let f = c.args.self.now.file.now in
-    let cs = c.args.self.now.channels.now in
+    let cs = c.args.self.now.channels.names.now in
     upper_end f cs c.loop-procedure.sets c.take_from.new.sets
-    (c.in_ok-last.ensures.taken (λ n. everyone) (λ n lt x. sym (c.everyone-everyone.ensures n x (let few = c.args.self.now.few in omega arith)))) (c.loop-procedure.invariant.upper u)
+    (c.in_ok-last.ensures.taken (λ n. everyone) (λ n lt x. sym (c.everyone-everyone.ensures n x (let few = c.args.self.now.channels.few in omega arith)))) (c.loop-procedure.invariant.upper u)
 
 pub returns-clause-settled : goal.returns-clause-settled
 returns-clause-settled c = λ e u.
     let f = c.args.self.now.file.now in
-    let cs = c.args.self.now.channels.now in
+    let cs = c.args.self.now.channels.names.now in
     let old = c.loop-procedure.sets in
     let new = c.take_from.new.sets in
     let whole = c.args.sets.now in
@@ -46,7 +46,7 @@ returns-clause-settled c = λ e u.
     let first : old ≡ whole = c.loop-procedure.invariant.same both.0 in
     let last : new ≡ whole = c.in_ok-last.ensures.same both.1 ∙ first in
     let walk : TakesAway cs (λ n. everyone) (body_of f f.body) old new =
-    c.in_ok-last.ensures.taken (λ n. everyone) (λ n lt x. sym (c.everyone-everyone.ensures n x (let few = c.args.self.now.few in omega arith))) in
+    c.in_ok-last.ensures.taken (λ n. everyone) (λ n lt x. sym (c.everyone-everyone.ensures n x (let few = c.args.self.now.channels.few in omega arith))) in
     let le : length f.procs ≤ c.loop-procedure.procedure-index = subst (λ l. length l ≤ c.loop-procedure.procedure-index) c.as_slice-procedure-items.ensures c.loop-procedure-test.false in
     let settled = all_settled f cs whole c.loop-procedure.procedure-index le (c.loop-procedure.invariant.settled both.0)
     (subst (λ s. TakesAway cs (λ n. everyone) (body_of f f.body) whole s) last (subst (λ s. TakesAway cs (λ n. everyone) (body_of f f.body) s new) first walk)) u in

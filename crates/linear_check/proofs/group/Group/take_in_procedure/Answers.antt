@@ -4,4 +4,4 @@ use Rattle.linear_check.proofs.group.Group.take_in_procedure.Goals as goal
 
 pub returns-clause-taken : goal.returns-clause-taken
 returns-clause-taken c =
-    c.in_ok-changed.ensures.taken (members_in c.args.sets.now c.args.procedure.now) (λ n lt x. c.in_ok-heard.ensures n (let few = c.args.self.now.few in omega arith) x)
+    c.in_ok-changed.ensures.taken (members_in c.args.sets.now c.args.procedure.now) (λ n lt x. c.in_ok-heard.ensures n (let few = c.args.self.now.channels.few in omega arith) x)

@@ -14,4 +14,4 @@ returns c = λ m tracks n lt x.
     let kept = c.in_ok-forget.ensures n x lt in
     let first = c.in_ok-add_all.ensures n x ∙ (λ i. kept i || (list_any (λ q. q.process.name.0 == x) active && brought i)) in
     let second = c.in_ok-add_all-2.ensures n x ∙ (λ i. first i || (list_any (λ q. q.process.name.0 == x) serve && brought i)) in
-    start_tracked (m n) old (tracks n lt) active serve (c.args.channel.0 == (channel_at c.args.channels.now n).0) (hears c.add_all-2.new.self n x) x second
+    start_tracked (m n) old (tracks n lt) active serve (c.args.channel.0 == (channel_at c.args.channels.now.names.now n).0) (hears c.add_all-2.new.self n x) x second

@@ -1,10 +1,10 @@
 use Rattle.std.proofs.Common.{◌≡◌, ℕ, ◌<◌, ◌≤◌, ◌==◌, false}
 use Rattle.linearity.specs.Marks.{is_marked}
 use Rattle.linear_check.specs.Tracks.{channel_at}
-use Rattle.linear_check.proofs.steps.named.Given as goal
+use Rattle.linear_check.proofs.channels.Channels.named.Given as goal
 
 abbrev pub invariant-loop-number : goal.invariant-loop-number
 invariant-loop-number l = record {
-  below : (c : ℕ) → c < l.number → is_marked l.marks c ≡ (l.name.0 == (channel_at l.channels c).0);
+  below : (c : ℕ) → c < l.number → is_marked l.marks c ≡ (l.name.0 == (channel_at l.self.names.now c).0);
   above : (c : ℕ) → l.number ≤ c → is_marked l.marks c ≡ false;
 }
