@@ -22,20 +22,55 @@ pub fn answer_made(rt: &impl Print, alloc: Global, hosts: &HostTable) -> anyhow:
     answer_many_messages(rt, alloc, hosts)
 }
 
-// Bytes that are no UTF-8.
+// Bytes that are no UTF-8, carriage returns, and a file whose last line has no line feed.
 fn answer_bytes(rt: &impl Print, alloc: Global, hosts: &HostTable) -> anyhow::Result<()> {
-    let call = Call {
-        title: "check FILE: the second byte begins no character",
-        source: b"m\xff".as_slice(),
-        hosts,
-    };
-    answer(rt, alloc, call)?;
-    let call = Call {
-        title: "fmt FILE: a character is cut by the end",
-        source: b"main\n() { end } // \xe2\x82".as_slice(),
-        hosts,
-    };
-    answer(rt, alloc, call)
+    let cases = [
+        (
+            "check FILE: the second byte begins no character",
+            b"m\xff".as_slice(),
+        ),
+        (
+            "fmt FILE: a character is cut by the end",
+            b"main\n() { end } // \xe2\x82".as_slice(),
+        ),
+        (
+            "check FILE: a character is cut by the end of a text that is not closed",
+            b"\"p\xe2\x82".as_slice(),
+        ),
+        (
+            "check FILE: half of a pair of UTF-16",
+            b"\xed\xa0\x80".as_slice(),
+        ),
+        (
+            "check FILE: a carriage return is white space, and ends no line",
+            b"p\r$".as_slice(),
+        ),
+        (
+            "check FILE: a carriage return before a line feed",
+            b"p\r\n 0018446744073709551616".as_slice(),
+        ),
+        (
+            "check FILE: a text that is not closed before a carriage return",
+            b"\"a\r\n\"".as_slice(),
+        ),
+        (
+            "check FILE: a comment that ends with a carriage return and a line feed",
+            b"p // \"$\r\n$".as_slice(),
+        ),
+        (
+            "check FILE: a comment up to the end of the file",
+            b"// x".as_slice(),
+        ),
+    ];
+    for (title, source) in cases {
+        let call = Call {
+            title,
+            source,
+            hosts,
+        };
+        answer(rt, alloc, call)?;
+    }
+    Ok(())
 }
 
 // Sinks with less room than the answer takes.

@@ -1,16 +1,11 @@
-//! Tests of what lies below the commands and speaks of text: values and tables, tokens, expressions,
-//! sources and their canonical text, endpoint files, by public calls alone. They say what no clause
-//! says: that the calls succeed where there is memory, and what comes of sources, worked out by hand.
+//! Tests of what lies below the commands and speaks of text, by public calls alone: tables and values,
+//! tokens and their numbers, sources that are cut, sources that say the same, and nodes of endpoint
+//! files. They say what no clause says: that the calls succeed where there is memory, and what comes of
+//! sources, worked out by hand. What a command shows is among the cases of `command_tests`.
 #![tactic(auto)]
 
 #[cfg(test)]
-mod canonical;
-#[cfg(test)]
 mod endpoint_files;
-#[cfg(test)]
-mod expressions;
-#[cfg(test)]
-mod limits;
 #[cfg(test)]
 mod sameness;
 #[cfg(test)]
@@ -18,8 +13,4 @@ mod sources;
 #[cfg(test)]
 mod tables;
 #[cfg(test)]
-mod terminals;
-#[cfg(test)]
 mod tokens;
-#[cfg(test)]
-mod values;

@@ -1,4 +1,4 @@
-//! Sources that are taken, and where others are refused.
+//! Sources that are cut, and sources in which another token stands in the place of one.
 
 use chor_base::{Denied, Names, Rule, Texts};
 use chor_lexer::tokens;
@@ -6,7 +6,6 @@ use chor_parser::parse;
 use chor_tree::File;
 use std::alloc::Global;
 use std::test::Fail;
-use worked::layouts;
 
 // The file that a source is, with tables of its own. Other sources are much shorter than these tests
 // take them.
@@ -19,15 +18,15 @@ pub fn read(alloc: Global, source: &[u8]) -> Result<File, Denied> {
 }
 
 // Whether a source is taken.
-pub fn is_taken(alloc: Global, source: &[u8]) -> bool {
+fn is_taken(alloc: Global, source: &[u8]) -> bool {
     read(alloc, source).is_ok()
 }
 
-// Whether a source of one line is refused by a rule at a column.
-pub fn is_refused(alloc: Global, source: &[u8], rule: Rule, col: u32) -> bool {
+// Whether a source of one line is refused for the token at a column, which can't be there.
+fn is_refused(alloc: Global, source: &[u8], col: u32) -> bool {
     match read(alloc, source) {
         Err(Denied::Refused(refusal)) => {
-            refusal.rule == rule && refusal.place.line == 1 && refusal.place.col == col
+            refusal.rule == Rule::P1 && refusal.place.line == 1 && refusal.place.col == col
         }
         _ => false,
     }
@@ -41,43 +40,87 @@ fn is_cut(alloc: Global, source: &[u8]) -> bool {
     }
 }
 
-#[test]
-fn worked_sources_are_taken(rt: HostRuntime) {
-    let alloc = rt.alloc();
-    assert!(rt; is_taken(alloc, layouts::HELLO));
-    assert!(rt; is_taken(alloc, layouts::TWO_MESSAGES));
-    assert!(rt; is_taken(alloc, layouts::BEFORE_A_DECISION));
-    assert!(rt; is_taken(alloc, layouts::LABELS));
-    assert!(rt; is_taken(alloc, layouts::SERVICE));
-    assert!(rt; is_taken(alloc, layouts::ORDERED_STARTS));
-    assert!(rt; is_taken(alloc, layouts::DELEGATION));
-    assert!(rt; is_taken(alloc, layouts::ENDLESS));
-    assert!(rt; is_taken(alloc, layouts::PURCHASE));
-}
-
-// Names, protocols, types and calls are judged by later rules.
-#[test]
-fn what_other_rules_refuse_is_taken(rt: HostRuntime) {
-    let alloc = rt.alloc();
-    assert!(rt; is_taken(alloc, b"main (p, p) { q show x; end }"));
-    assert!(rt; is_taken(alloc, b"main (p) { p.x := host far(3, true); call F() }"));
-    assert!(rt;
-        is_taken(
-            alloc,
-            b"protocol V (A, B) { s = A -> B : int then w; } main () { end }"
-        )
-    );
+fn purchase() -> &'static [u8] {
+    b"protocol Buy (Buyer, Seller) { ask = Buyer -> Seller : text then quote; quote = Seller -> Buyer : int then answer; answer = Buyer -> Seller { accept then pay, reject then done }; pay = Buyer -> Seller : int then receipt; receipt = Seller -> Buyer : text then done; done = end; } protocol Settle (Shop, Bank) { hand = Shop -> Bank : Buy.pay@Seller then paid; paid = Bank -> Shop : int then done; done = end; } protocol Ship (Shop, Depot) { order = Shop -> Depot : text then done; done = end; } service buy : Buy (Buyer, Seller); service settle : Settle (Shop | Bank); service ship : Ship (Shop | Depot); main (b, s) { start buy(k): b[Buyer], s[Seller]; b[Buyer].\"book\" -> s[Seller].item : k; s[Seller].20 -> b[Buyer].price : k; if b.price <= 25 { b[Buyer] -> s[Seller] : k.accept; start settle(m): s[Shop] new n[Bank]; s[Shop] -> n[Bank] : m(k[Seller]); b[Buyer].price -> n[Seller].sum : k; n[Seller].\"paid\" -> b[Buyer].note : k; n[Bank].sum -> s[Shop].got : m; start ship(h): s[Shop] new d[Depot]; s[Shop].item -> d[Depot].parcel : h; end } else { b[Buyer] -> s[Seller] : k.reject; end } }"
 }
 
 #[test]
 fn a_source_that_is_cut_is_refused(rt: HostRuntime) {
     let alloc = rt.alloc();
-    assert!(rt; is_refused(alloc, b"main () { }", Rule::P1, 11));
-    assert!(rt; is_refused(alloc, b"", Rule::P1, 1));
-    assert!(rt; is_refused(alloc, b"main () { end } main () { end }", Rule::P1, 17));
-    assert!(rt; is_refused(alloc, b"main (p) { p show 1 < 2 < 3; end }", Rule::P1, 25));
-    let source = layouts::PURCHASE;
+    let source = purchase();
+    assert!(rt; is_taken(alloc, source));
     for end in 0..source.len() {
         assert!(rt; is_cut(alloc, &source[..end]), "cut before byte {end}");
     }
+}
+
+// The tokens of these sources stand with one space between them.
+
+fn declarations() -> &'static [u8] {
+    b"protocol P ( A , B ) { s = A -> B : int then t ; t = A -> B : bool then u ; u = B -> A : text then v ; v = A -> B : Q . s @ R then w ; w = A -> B { x then s , y then z } ; z = end ; } service a : P ( A , B | C , D ) ; service b : P ( A ) ; main ( ) { end }"
+}
+
+fn procedures() -> &'static [u8] {
+    b"proc F ( p ( x : int , y : bool ) , q ; k : P . s { A = p , B = q } , h : P . t { A = p } ) { call G ( p , q ; k , h ) } proc G ( ) { call H ( ) } main ( p , q ) { call F ( p ) }"
+}
+
+fn statements() -> &'static [u8] {
+    b"main ( p , q ) { start a ( k ) : p [ A ] , q [ B ] new r [ C ] , s [ D ] ; p [ A ] . 1 + x * ( 2 - y ) -> q [ B ] . x : k ; p [ A ] -> q [ B ] : k . ok ; p [ A ] -> q [ B ] : k ( h [ R ] ) ; p . x := - x / 2 ; p . x := host f ( 1 , x ) ; p show ! true || false && x == \"t\" ; if p . x < 3 { end } else { call F ( p , q ; k ) } }"
+}
+
+// How many bytes stand before the next space, or before the end.
+fn token_length(source: &[u8]) -> usize {
+    source.iter().take_while(|byte| **byte != b' ').count()
+}
+
+// Whether a source is refused at its end where it is cut after so many bytes, and at this token,
+// which can't stand there, where it goes on with it.
+fn is_needed(alloc: Global, source: &[u8], at: usize, other: &[u8]) -> Result<bool, Fail> {
+    let (front, rest) = source.split_at(at.min(source.len()));
+    let (_, back) = rest.split_at(token_length(rest).min(rest.len()));
+    let mut replaced = Vec::new(alloc);
+    replaced.extend_from_slice(front)?;
+    replaced.extend_from_slice(other)?;
+    replaced.extend_from_slice(back)?;
+    let col = u32::try_from(front.len()).unwrap_or(0).saturating_add(1);
+    Ok(is_refused(alloc, front, col) && is_refused(alloc, replaced.as_slice(), col))
+}
+
+// Whether that is so for each token of the source, of which there are so many.
+fn all_are_needed(alloc: Global, source: &[u8], other: &[u8], count: usize) -> Result<bool, Fail> {
+    let mut found = 0_usize;
+    let mut spaced = true;
+    let mut needed = true;
+    for at in 0..source.len() {
+        if spaced {
+            found = found.saturating_add(1);
+            needed = needed && is_needed(alloc, source, at, other)?;
+        }
+        spaced = source[at] == b' ';
+    }
+    Ok(needed && found == count)
+}
+
+#[test]
+fn terminals_of_declarations(rt: HostRuntime) -> Result<(), Fail> {
+    let alloc = rt.alloc();
+    assert!(rt; is_taken(alloc, declarations()));
+    assert!(rt; all_are_needed(alloc, declarations(), b":=", 100)?);
+    Ok(())
+}
+
+#[test]
+fn terminals_of_procedures(rt: HostRuntime) -> Result<(), Fail> {
+    let alloc = rt.alloc();
+    assert!(rt; is_taken(alloc, procedures()));
+    assert!(rt; all_are_needed(alloc, procedures(), b":=", 78)?);
+    Ok(())
+}
+
+#[test]
+fn terminals_of_statements(rt: HostRuntime) -> Result<(), Fail> {
+    let alloc = rt.alloc();
+    assert!(rt; is_taken(alloc, statements()));
+    assert!(rt; all_are_needed(alloc, statements(), b"@", 143)?);
+    Ok(())
 }

@@ -1,9 +1,10 @@
-//! Tables of words and texts, lists and events, and how they are written.
+//! Tables of words and texts, lists and events, variables and expressions, and how they are written.
 
 use chor_base::{
-    Entry, Event, List, Memory, NameId, Names, Rule, Texts, put_bytes, put_int, put_literal,
-    put_name, put_number, put_truth,
+    BinOp, Entry, Event, Expr, List, Memory, NameId, Names, Rule, Texts, UnOp, Value, Vars, eval,
+    put_bytes, put_int, put_literal, put_name, put_number, put_truth,
 };
+use std::alloc::Global;
 use std::test::Fail;
 
 const LEAST: i64 = -9_223_372_036_854_775_808;
@@ -122,5 +123,50 @@ fn pieces_of_text(rt: HostRuntime) -> Result<(), Fail> {
     put_bytes(&mut out, Rule::E4.name())?;
     let want = b"Seller 18446744073709551615-9223372036854775808\"a \\\"b\\\" \\\\ c\\nd\"falseE4";
     assert!(rt; out.as_slice() == want.as_slice());
+    Ok(())
+}
+
+#[test]
+fn variables(rt: HostRuntime) -> Result<(), Fail> {
+    let alloc = rt.alloc();
+    let mut vars = Vars::new(alloc);
+    vars.reserve()?;
+    vars.set(NameId(7), Value::Int(5));
+    vars.reserve()?;
+    vars.set(NameId(7), Value::Int(LEAST));
+    assert!(rt; vars.get(NameId(7)) == Some(Value::Int(LEAST)));
+    assert!(rt; vars.get(NameId(8)) == None);
+    Ok(())
+}
+
+// Whether two literals are the same, as the operator says.
+fn are_same(alloc: Global, left: Value, right: Value) -> Result<bool, Fail> {
+    let left = Box::new(alloc, Expr::Lit(left))?;
+    let right = Box::new(alloc, Expr::Lit(right))?;
+    let value = eval(&Expr::Bin(BinOp::Eq, left, right), &Vars::new(alloc));
+    Ok(value == Value::Bool(true))
+}
+
+// No expression of a source has one of these as its value.
+#[test]
+fn roles_of_sessions_are_compared(rt: HostRuntime) -> Result<(), Fail> {
+    let alloc = rt.alloc();
+    let part = Value::Part(1, NameId(2));
+    assert!(rt; are_same(alloc, part, part)?);
+    assert!(rt; !are_same(alloc, part, Value::Part(1, NameId(3)))?);
+    Ok(())
+}
+
+#[test]
+fn expressions_are_copied(rt: HostRuntime) -> Result<(), Fail> {
+    let alloc = rt.alloc();
+    let five = Box::new(alloc, Expr::Lit(Value::Int(5)))?;
+    let unset = Box::new(alloc, Expr::Var(NameId(0)))?;
+    let less = Box::new(alloc, Expr::Bin(BinOp::Lt, unset, five))?;
+    let mut list = List::new(alloc);
+    list.push(Expr::Un(UnOp::Not, less))?;
+    let list = list.copy(alloc)?;
+    assert_eq!(rt; list.len(), 1);
+    assert!(rt; eval(&list.at(0).copy(alloc)?, &Vars::new(alloc)) == Value::Bool(false));
     Ok(())
 }

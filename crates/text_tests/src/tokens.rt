@@ -1,6 +1,6 @@
-//! The tokens of bytes.
+//! The kinds and numbers of tokens.
 
-use chor_base::{Denied, NameId, Names, Place, Rule, Texts};
+use chor_base::{Denied, NameId, Names, Place, Texts};
 use chor_lexer::{Kind, Mark, Token, Tokens, tokens};
 use std::alloc::Global;
 use std::test::Fail;
@@ -13,16 +13,6 @@ fn alone(alloc: Global, bytes: &[u8]) -> Result<Tokens, Denied> {
     let mut names = Names::new(alloc);
     let mut texts = Texts::new(alloc);
     tokens(alloc, bytes, &mut names, &mut texts)
-}
-
-// The rule and the place for which a few bytes are refused.
-fn refusal(alloc: Global, bytes: &[u8]) -> Option<(Rule, u32, u32)> {
-    match alone(alloc, bytes) {
-        Err(Denied::Refused(refusal)) => {
-            Some((refusal.rule, refusal.place.line, refusal.place.col))
-        }
-        _ => None,
-    }
 }
 
 // Whether a few bytes have just these tokens on one line, of these kinds and at these columns.
@@ -108,106 +98,4 @@ fn each_mark_is_taken(rt: HostRuntime) {
         (Kind::Last, 15),
     ];
     assert!(rt; reads(alloc, b":=->==!=<=&&||", &double));
-}
-
-#[test]
-fn places_count_bytes(rt: HostRuntime) {
-    let alloc = rt.alloc();
-    assert!(rt; reads(alloc, b"", &[(Kind::Last, 1)]));
-    assert!(rt; reads(alloc, b"// x", &[(Kind::Last, 5)]));
-    let accented = "\"\u{e9}\" x".as_bytes();
-    let wanted = [
-        (Kind::Text(0), 1),
-        (Kind::Word(NameId(0)), 6),
-        (Kind::Last, 7),
-    ];
-    assert!(rt; reads(alloc, accented, &wanted));
-}
-
-// What a few bytes are refused for, if they are.
-type Row<'a> = (&'a [u8], Option<(Rule, u32, u32)>);
-
-// The first of these rows that isn't so.
-fn first_other<'a>(alloc: Global, rows: &[Row<'a>]) -> Option<&'a [u8]> {
-    for (bytes, wanted) in rows {
-        if refusal(alloc, bytes) != *wanted {
-            return Some(bytes);
-        }
-    }
-    None
-}
-
-#[test]
-fn faults_are_refused_at_their_places(rt: HostRuntime) {
-    let word = b"\n abcdefghijklmnopqrstuvwxyzABCDEFGHIJKLMNOPQRSTUVWXYZ0123456789_a";
-    let longer = b"\n abcdefghijklmnopqrstuvwxyzABCDEFGHIJKLMNOPQRSTUVWXYZ0123456789_ab";
-    let rows: [Row; 8] = [
-        (b"main () { $ }", Some((Rule::L1, 1, 11))),
-        (b"\x6d\xff", Some((Rule::L4, 1, 2))),
-        (b"main (p) { p show \"ab", Some((Rule::L2, 1, 19))),
-        (
-            b"main (p) { p show 9223372036854775808; end }",
-            Some((Rule::L3, 1, 19)),
-        ),
-        (b"main (p) { p show 9223372036854775807; end }", None),
-        (b"p\r\n 0018446744073709551616", Some((Rule::L3, 2, 2))),
-        (word, None),
-        (longer, Some((Rule::L5, 2, 2))),
-    ];
-    assert_eq!(rt; first_other(rt.alloc(), &rows), None);
-}
-
-#[test]
-fn faults_of_marks_and_escapes(rt: HostRuntime) {
-    let rows: [Row; 11] = [
-        (b"&", Some((Rule::L1, 1, 1))),
-        (b"&&&", Some((Rule::L1, 1, 3))),
-        (b"- >", Some((Rule::L1, 1, 3))),
-        (b"\xc3\xa9", Some((Rule::L1, 1, 1))),
-        // escapes
-        (b"\\n", Some((Rule::L1, 1, 1))),
-        (b"p \"a\\n\\t\"", Some((Rule::L1, 1, 7))),
-        (b"\"\\\xc3\xa9\"", Some((Rule::L1, 1, 2))),
-        (b"\"\\q", Some((Rule::L2, 1, 1))),
-        (b"\"a\\\"", Some((Rule::L2, 1, 1))),
-        (b"\"a\\\n\"", Some((Rule::L2, 1, 1))),
-        (b"\"\\\\\"", None),
-    ];
-    assert_eq!(rt; first_other(rt.alloc(), &rows), None);
-}
-
-#[test]
-fn faults_across_lines_and_the_first_of_two(rt: HostRuntime) {
-    let rows: [Row; 9] = [
-        (b"\"a\r\n\"", Some((Rule::L2, 1, 1))),
-        (b"p // \"$\r\n$", Some((Rule::L1, 2, 1))),
-        (b"p\r$", Some((Rule::L1, 1, 3))),
-        // the first fault counts, but for bytes that aren't UTF-8
-        (b"$ \"", Some((Rule::L1, 1, 1))),
-        (b"\" $", Some((Rule::L2, 1, 1))),
-        (b"$ \n // \xff", Some((Rule::L4, 2, 5))),
-        (b"\"p\xe2\x82", Some((Rule::L4, 1, 3))),
-        (b"\xed\xa0\x80", Some((Rule::L4, 1, 1))),
-        (b"p", None),
-    ];
-    assert_eq!(rt; first_other(rt.alloc(), &rows), None);
-}
-
-#[test]
-fn texts_are_measured_as_written(rt: HostRuntime) -> Result<(), Fail> {
-    let mut longest = vec![in rt.alloc(); b'x'; 258]?;
-    longest[0] = b'"';
-    longest[1] = b'\\';
-    longest[257] = b'"';
-    assert_eq!(rt; refusal(rt.alloc(), &longest), Some((Rule::L1, 1, 2)));
-    longest[2] = b'n';
-    assert_eq!(rt; refusal(rt.alloc(), &longest), None);
-    let mut longer = vec![in rt.alloc(); b'x'; 259]?;
-    longer[0] = b'"';
-    longer[1] = b'\\';
-    longer[258] = b'"';
-    assert_eq!(rt; refusal(rt.alloc(), &longer), Some((Rule::L5, 1, 1)));
-    longer[258] = b'x';
-    assert_eq!(rt; refusal(rt.alloc(), &longer), Some((Rule::L2, 1, 1)));
-    Ok(())
 }
