@@ -1,33 +1,29 @@
--- What is printed of a run is its transcript.
-use Rattle.std.proofs.Common.{◌≡◌, ◌∙◌, ℕ, suc, List, [], ◌∷◌, length, refl, ap, Bool}
-use Rattle.chor_base.specs.declared.event.Event.{Event}
-use Rattle.chor_base.specs.declared.event.Entry.{Entry}
+-- What is told of an accepted file's run is its transcript.
+use Rattle.std.proofs.Common.{◌≡◌, ◌∙◌, ℕ, Bool, true, false, List, length, refl, ap}
 use Rattle.chor_host.specs.Functions.{Function, hosts_in}
 use Rattle.chor_tree.specs.declared.file.File.{File}
-use Rattle.endpoint_code.specs.declared.endpoints.Endpoints.{Endpoints}
-use Rattle.transcript.specs.Text.{transcript}
-use Rattle.net_core.specs.Picks.{entries_of}
-use Rattle.simulation.specs.Runs.{IsOutcome, close_of}
+use Rattle.endpoint_runs.specs.declared.parts.Schedule.{Schedule}
+use Rattle.transcript.specs.Text.{Words, transcript}
+use Rattle.program_runs.specs.Transcripts.{closing_text}
+use Rattle.simulation.specs.Accepted.{AcceptedView}
+use Rattle.simulation.specs.Runs.{close_of}
+use Rattle.simulation.specs.Told.{IsToldOf}
 use Rattle.command_words.specs.declared.options.Options.{Options}
 use Rattle.source_runs.specs.Books.{book_of}
-use Rattle.chor_cmd.specs.Outputs.{events_of, last_line, IsRunText}
+use Rattle.chor_cmd.specs.Outputs.{last_line, IsRunText}
 
-events_back : (h : List Event) → events_of (entries_of h) ≡ h
-events_back [] = refl
-events_back (x ∷ xs) = ap (λ ys. x ∷ ys) (events_back xs)
+same_line : (w : Words) (ended : Bool) (n : ℕ) → closing_text w n (close_of ended) ≡ last_line ended n
+same_line w true n = refl
+same_line w false n = refl
 
-as_long : (h : List Event) → length (entries_of h) ≡ length h
-as_long [] = refl
-as_long (x ∷ xs) = ap suc (as_long xs)
-
-pub run_text : (functions : List Function) (f : File) (e : Endpoints) (options : Options) (entries : List Entry) (ended : Bool) (text : List ℕ) → IsOutcome f e (hosts_in f.names functions) options.seed options.steps entries (close_of ended)
-    → text ≡ transcript (book_of f) (events_of entries) (last_line ended (length entries)) → IsRunText functions f options text
-run_text functions f e options entries ended text o is = record {
-  endpoints = e;
-  history = o.history;
-  ended = ended;
-  run = o.run;
-  text_is = is
-      ∙ ap (λ (es : List Entry). transcript (book_of f) (events_of es) (last_line ended (length es))) o.entries_are
-      ∙ (λ i. transcript (book_of f) (events_back o.history i) (last_line ended (as_long o.history i)));
+pub run_text : (functions : List Function) (a : AcceptedView) (options : Options) (w : Words) (text : List ℕ) → w ≡ book_of a.typed.file
+    → IsToldOf w a functions (record { seed = options.seed; steps = options.steps }) text → IsRunText functions a.typed.file options text
+run_text functions a options w text same told = record {
+  endpoints = a.endpoints;
+  history = told.history;
+  ended = told.ended;
+  run = told.run;
+  text_is = told.text_is
+      ∙ ap (λ (last : List ℕ). transcript w told.history last) (same_line w told.ended (length told.history))
+      ∙ ap (λ (b : Words). transcript b told.history (last_line told.ended (length told.history))) same;
 }

@@ -1,12 +1,11 @@
 -- What the commands write for a file, and the lines that say what is wrong (this project's own).
-use Rattle.std.specs.Prelude.{ℕ, ◌≡◌, Bool, true, false, List, [], ◌∷◌, ◌++◌, length, map, Option, Some, None, Result, Ok, Err, codes}
+use Rattle.std.specs.Prelude.{ℕ, ◌≡◌, Bool, true, false, List, [], ◌∷◌, ◌++◌, length, Option, Some, None, Result, Ok, Err, codes}
 use Rattle.std.specs.Fmt.{decimal}
 use Rattle.chor_base.specs.declared.rule.Refusal.{Refusal}
 use Rattle.chor_base.specs.declared.rule.Denied.{Denied}
 use Rattle.chor_base.specs.declared.rule.Denied.TheVariants.{Refused, Memory}
 use Rattle.chor_base.specs.Writing.{rule_name}
 use Rattle.chor_base.specs.declared.event.Event.{Event}
-use Rattle.chor_base.specs.declared.event.Entry.{Entry}
 use Rattle.chor_tree.specs.Names.{names_in}
 use Rattle.chor_tree.specs.declared.file.File.{File}
 use Rattle.endpoint_code.specs.declared.endpoints.Endpoints.{Endpoints}
@@ -33,9 +32,6 @@ use Rattle.program_runs.specs.Transcripts.{IsTranscriptOf}
 use Rattle.local_types.specs.Texts.{IsTypesText}
 
 -- ---- the texts
-
-abbrev pub events_of : List Entry → List Event
-events_of entries = map (λ entry. entry.event) entries
 
 -- the last line of the transcript of a run of n events that has ended
 abbrev pub end_line : ℕ → List ℕ

@@ -2,6 +2,9 @@
 #![tactic(auto)]
 
 mod few;
+mod going;
+mod parts;
 mod run;
 
+pub use parts::{Run, Schedule};
 pub use run::{Closed, Ran, run_endpoints};

@@ -15,6 +15,7 @@ pub mod Castings
 pub mod Casts
 pub mod Begins
 pub mod Leaders
+pub mod Numbers
 pub mod Runs
 pub mod Listed
 pub mod Anew

@@ -22,6 +22,7 @@ use Rattle.net_core.specs.Steps.{FitsMore, HasGrown, most_served}
 use Rattle.net_core.specs.Picks.{Underway, GoesOn, stays, goes, entries_of, HasRun, HasGone, Runs, HasTurned, HasClosed, Turns, IsStuck}
 use Rattle.session_starts.proofs.Places.{both_true}
 use Rattle.net_core.proofs.Leaders.{some_there}
+use Rattle.net_core.proofs.Numbers.{grown_by_none, grown_by_more, grown_by_same, grown_by_both}
 
 -- ---- the first process that hasn't ended
 
@@ -161,7 +162,7 @@ goes_more {e} {seed} {steps} {n} {m} {k} stays last j p x h a b c d =
     goes a (subst (λ (i : ℕ). i ≢ steps) same b) (subst (λ (i : ℕ). picked e None seed i m ≡ Some p) same c) d stays
 goes_more {k = k} (goes {events} {x = y} {xs} s t u w rest) last j p x h a b c d = goes s t u w (goes_more rest last j p x (omega arith) a b c d)
 
-closed_by : {e : Endpoints} {hosts : Hosts} {seed steps : ℕ} {n m : NetworkState} {k : ℕ} {xs : List Event} → GoesOn e hosts seed steps n k xs m → (j : ℕ) (c : Close) → j ≡ k + length xs → Closes e None steps m j c → IsScheduled e hosts None seed steps n k xs m c
+pub closed_by : {e : Endpoints} {hosts : Hosts} {seed steps : ℕ} {n m : NetworkState} {k : ℕ} {xs : List Event} → GoesOn e hosts seed steps n k xs m → (j : ℕ) (c : Close) → j ≡ k + length xs → Closes e None steps m j c → IsScheduled e hosts None seed steps n k xs m c
 closed_by {e} {steps = steps} {m = m} {k = k} stays j c h closes =
     let same : j ≡ k = omega arith in
     closed (subst (λ (i : ℕ). Closes e None steps m i c) same closes)
@@ -169,11 +170,11 @@ closed_by (goes s t u w rest) j c h closes = close.goes s t u w (closed_by rest 
 
 -- ---- a run under way
 
-length-entries_of : (xs : List Event) → length (entries_of xs) ≡ length xs
+pub length-entries_of : (xs : List Event) → length (entries_of xs) ≡ length xs
 length-entries_of xs = length-map xs _
 
 pub begun_run : (hosts : Hosts) (seed steps : ℕ) (v : NetworkView) → length v.history ≤ steps → FitsMore v (steps - length v.history) → Underway hosts seed steps v v
-begun_run hosts seed steps v le fits = record { gone = record { events = []; endpoints = refl; history = sym (append-nil v.history); run = stays }; before = le; fits = fits }
+begun_run hosts seed steps v le fits = record { gone = record { events = []; endpoints = refl; history = sym (append-nil v.history); run = stays; grown = grown_by_none v }; before = le; fits = fits }
 
 events_so_far : (hosts : Hosts) (seed steps : ℕ) (first now : NetworkView) (g : HasGone hosts seed steps first now) → length now.history ≡ length first.history + length g.events
 events_so_far hosts seed steps first now g = ap length g.history ∙ length-append first.history (entries_of g.events) ∙ ap (λ (k : ℕ). length first.history + k) (length-entries_of g.events)
@@ -225,6 +226,7 @@ underway_more hosts seed steps first old new u t =
             other
             (subst (λ (p : Endpoints). picked p None seed (length old.history) old.state ≡ Some t.process) e t.pick)
             (subst (λ (p : Endpoints). Chooses p hosts None old.state t.process x t.step.state) e t.step.chooses));
+        grown = grown_by_more first old new g.events x g.grown e t.grown;
       };
       before = omega arith;
       fits = fits_after old new (steps - length new.history) t.step.becomes.endpoints t.grown (subst (FitsMore old) left u.fits);
@@ -240,6 +242,7 @@ closed_run hosts seed steps first old new c u h =
       run =
           subst (λ (n : NetworkState). IsScheduled first.endpoints hosts None seed steps first.state (length first.history) g.events n c) (sym h.same.state)
           (closed_by g.run (length old.history) c (events_so_far hosts seed steps first old g) (subst (λ (e : Endpoints). Closes e None steps old.state (length old.history) c) g.endpoints h.closes));
+      grown = grown_by_same (length g.events) first old new g.grown h.same.state;
     }
 
 pub closes_run : (hosts : Hosts) (seed steps : ℕ) (first old new : NetworkView) (r : Picked) → Underway hosts seed steps first old → Turns hosts seed steps old (Some r) new → Runs hosts seed steps first r new
@@ -253,18 +256,19 @@ closes_run hosts seed steps first old new Memory u (inl h) =
       endpoints = h.endpoints ∙ g.endpoints;
       history = h.history ∙ g.history;
       run = subst (λ (n : NetworkState). GoesOn first.endpoints hosts seed steps first.state (length first.history) g.events n) (sym h.state) g.run;
+      grown = grown_by_same (length g.events) first old new g.grown h.state;
     }
 closes_run hosts seed steps first old new Memory u (inr t) = (underway_more hosts seed steps first old new u t).gone
 
 -- ---- a run in two parts
 
-goes_then : {e : Endpoints} {hosts : Hosts} {seed steps : ℕ} {n m : NetworkState} {k : ℕ} {xs : List Event} → GoesOn e hosts seed steps n k xs m → (last : NetworkState) (j : ℕ) (ys : List Event) → j ≡ k + length xs → GoesOn e hosts seed steps m j ys last → GoesOn e hosts seed steps n k (xs ++ ys) last
+pub goes_then : {e : Endpoints} {hosts : Hosts} {seed steps : ℕ} {n m : NetworkState} {k : ℕ} {xs : List Event} → GoesOn e hosts seed steps n k xs m → (last : NetworkState) (j : ℕ) (ys : List Event) → j ≡ k + length xs → GoesOn e hosts seed steps m j ys last → GoesOn e hosts seed steps n k (xs ++ ys) last
 goes_then {e} {hosts} {seed} {steps} {n} {k = k} stays last j ys h rest =
     let same : j ≡ k = omega arith in
     subst (λ (i : ℕ). GoesOn e hosts seed steps n i ys last) same rest
 goes_then (goes s t u w first) last j ys h rest = goes s t u w (goes_then first last j ys (omega arith) rest)
 
-scheduled_then : {e : Endpoints} {hosts : Hosts} {seed steps : ℕ} {n m : NetworkState} {k : ℕ} {xs : List Event} → GoesOn e hosts seed steps n k xs m → (last : NetworkState) (j : ℕ) (ys : List Event) (c : Close) → j ≡ k + length xs → IsScheduled e hosts None seed steps m j ys last c → IsScheduled e hosts None seed steps n k (xs ++ ys) last c
+pub scheduled_then : {e : Endpoints} {hosts : Hosts} {seed steps : ℕ} {n m : NetworkState} {k : ℕ} {xs : List Event} → GoesOn e hosts seed steps n k xs m → (last : NetworkState) (j : ℕ) (ys : List Event) (c : Close) → j ≡ k + length xs → IsScheduled e hosts None seed steps m j ys last c → IsScheduled e hosts None seed steps n k (xs ++ ys) last c
 scheduled_then {e} {hosts} {seed} {steps} {n} {k = k} stays last j ys c h rest =
     let same : j ≡ k = omega arith in
     subst (λ (i : ℕ). IsScheduled e hosts None seed steps n i ys last c) same rest
@@ -280,6 +284,7 @@ closed_then hosts seed steps first mid new c g r = record {
   endpoints = r.endpoints ∙ g.endpoints;
   history = history_then first.history mid.history new.history g.events r.events g.history r.history;
   run = scheduled_then g.run new.state (length mid.history) r.events c (events_so_far hosts seed steps first mid g) (subst (λ (e : Endpoints). IsScheduled e hosts None seed steps mid.state (length mid.history) r.events new.state c) g.endpoints r.run);
+  grown = grown_by_both g.events r.events first mid new g.grown g.endpoints r.grown;
 }
 
 -- a run goes on from where its first part has led
@@ -292,4 +297,5 @@ runs_then hosts seed steps first mid new Memory g h = record {
   endpoints = h.endpoints ∙ g.endpoints;
   history = history_then first.history mid.history new.history g.events h.events g.history h.history;
   run = goes_then g.run new.state (length mid.history) h.events (events_so_far hosts seed steps first mid g) (subst (λ (e : Endpoints). GoesOn e hosts seed steps mid.state (length mid.history) h.events new.state) g.endpoints h.run);
+  grown = grown_by_both g.events h.events first mid new g.grown g.endpoints h.grown;
 }

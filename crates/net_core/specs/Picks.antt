@@ -13,7 +13,7 @@ use Rattle.net_core.specs.declared.answer.Picked.{Picked}
 use Rattle.net_core.specs.declared.answer.Picked.TheVariants.{Ended, Limit, Stuck, Memory}
 use Rattle.net_core.specs.Heads.{why_at}
 use Rattle.net_core.specs.Views.{NetworkView, IsSame}
-use Rattle.net_core.specs.Steps.{HasStepped, HasGrown, FitsMore}
+use Rattle.net_core.specs.Steps.{HasStepped, HasGrown, HasGrownBy, FitsMore}
 
 -- a process with the cause by which it waits
 abbrev pub waiting_at : Endpoints → NetworkState → Option ℕ → Option (ℕ × Option Why)
@@ -41,6 +41,7 @@ pub record HasRun (hosts : Hosts) (seed steps : ℕ) (old new : NetworkView) (c 
   pub endpoints : new.endpoints ≡ old.endpoints
   pub history : new.history ≡ old.history ++ entries_of events
   pub run : IsScheduled old.endpoints hosts None seed steps old.state (length old.history) events new.state c
+  pub grown : HasGrownBy (length events) old new
 
 -- the history has grown by events of the scheduled run
 pub record HasGone (hosts : Hosts) (seed steps : ℕ) (old new : NetworkView) : Type 0 where
@@ -48,6 +49,7 @@ pub record HasGone (hosts : Hosts) (seed steps : ℕ) (old new : NetworkView) : 
   pub endpoints : new.endpoints ≡ old.endpoints
   pub history : new.history ≡ old.history ++ entries_of events
   pub run : GoesOn old.endpoints hosts seed steps old.state (length old.history) events new.state
+  pub grown : HasGrownBy (length events) old new
 
 -- What a scheduled run answers. Where there was no memory the events made so far stand
 abbrev pub Runs : Hosts → ℕ → ℕ → NetworkView → Picked → NetworkView → Type 0

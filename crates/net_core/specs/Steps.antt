@@ -38,6 +38,11 @@ pub record HasGrown (old new : NetworkView) : Type 0 where
   pub kept : length old.state.machines ≤ length new.state.machines
   pub machines : length new.state.machines ≤ length old.state.machines + most_served old.endpoints.channels
 
+-- so it is with so many events
+pub record HasGrownBy (events : ℕ) (old new : NetworkView) : Type 0 where
+  pub sid : new.state.sid ≤ old.state.sid + events
+  pub machines : length new.state.machines ≤ length old.state.machines + events * most_served old.endpoints.channels
+
 -- so many events more leave the numbers of sessions and processes below 2^32
 pub record FitsMore (v : NetworkView) (events : ℕ) : Type 0 where
   pub sid : v.state.sid + events < 2 ^ 32

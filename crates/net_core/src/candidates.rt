@@ -68,7 +68,7 @@ impl Candidates {
 
     /// The process that the pick rule takes after so many events.
     pub fn pick(&self, seed: u64, events: u64) -> Option<u32>
-        requires small { seed < 2 ^ 32 }
+        requires small { seed < 2 ^ 33 }
         requires few { events < 2 ^ 63 }
         ensures { (e : AnyEndpoints) (n : NetworkState) → IsUpToDate e n self.now → result ≡ picked e None seed events n }
     {

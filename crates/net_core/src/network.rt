@@ -83,6 +83,16 @@ impl<'a> Network<'a> {
         self.history.as_slice()
     }
 
+    /// Forgets the events so far. Those that come are counted from the first again, and have the memory
+    /// of those that are forgotten.
+    pub fn forget(&mut self)
+        ensures endpoints { self.new.endpoints ≡ self.old.endpoints }
+        ensures state { self.new.state ≡ self.old.state }
+        ensures history { self.new.history ≡ [] }
+    {
+        self.history.clear();
+    }
+
     /// The events so far, of a network that makes no more.
     pub fn into_history(self) -> Vec<Entry>
         ensures { result.items ≡ self.entry.history }
@@ -99,8 +109,8 @@ impl<'a> Network<'a> {
         machine.head(self.endpoints)
     }
 
-    // How many processes there are.
-    pub(crate) fn count(&self) -> u32
+    /// How many processes there are.
+    pub fn count(&self) -> u32
         ensures count { result ≡ length self.now.state.machines }
         ensures stand { EachStands self.now.endpoints self.now.state }
     {

@@ -51,7 +51,7 @@ pub fn channel_named(channels: &[Channel], name: NameId) -> Option<&Channel>
 // The place of what the seed picks among so many after so many events.
 pub fn place_of_pick(seed: u64, events: u64, count: u64) -> u64
     requires positive { 0 < count }
-    requires small { seed < 2 ^ 32 }
+    requires small { seed < 2 ^ 33 }
     requires few { events < 2 ^ 63 }
     ensures place { result ≡ (seed + events) % count }
     ensures within { result < count }

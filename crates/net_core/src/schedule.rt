@@ -24,7 +24,7 @@ const FEW: u32 = 4;
 
 // The process that the pick rule takes among these after so many events.
 fn picked_of(pids: &[u32], seed: u64, events: u64) -> Option<u32>
-    requires small { seed < 2 ^ 32 }
+    requires small { seed < 2 ^ 33 }
     requires few { events < 2 ^ 63 }
     ensures { result ≡ picked_of pids.now (seed + events) }
 {
@@ -88,7 +88,7 @@ impl Network<'_> {
     /// `(seed + events so far) mod count`. Of those that join, only one in its channel's first
     /// active role is counted.
     pub fn pick(&self, seed: u64) -> Option<u32>
-        requires { seed < 2 ^ 32 }
+        requires { seed < 2 ^ 33 }
         ensures pick { result ≡ picked self.now.endpoints None seed (length self.now.history) self.now.state }
         ensures none { (result ≡ None) ↔ (none_can_step self.now.endpoints None self.now.state self.now.state.machines ≡ true) }
     {
@@ -135,7 +135,7 @@ impl Network<'_> {
         steps: u64,
     ) -> Option<Picked>
         requires hosts { AsksKnown (is_listed (names_of (functions_of hosts.now)) self.old.endpoints) self.old.endpoints }
-        requires seed { seed < 2 ^ 32 }
+        requires seed { seed < 2 ^ 33 }
         requires fits { length self.old.history ≢ steps → FitsMore self.old 1 }
         requires candidates { IsUpToDate self.old.endpoints self.old.state candidates.old }
         ensures turns { Turns (hosts_in self.old.endpoints.names (functions_of hosts.now)) seed steps self.old result self.new }
@@ -186,7 +186,7 @@ impl Network<'_> {
         steps: u64,
     ) -> Option<Picked>
         requires hosts { AsksKnown (is_listed (names_of (functions_of hosts.now)) self.old.endpoints) self.old.endpoints }
-        requires seed { seed < 2 ^ 32 }
+        requires seed { seed < 2 ^ 33 }
         requires fits { length self.old.history ≢ steps → FitsMore self.old 1 }
         ensures { Turns (hosts_in self.old.endpoints.names (functions_of hosts.now)) seed steps self.old result self.new }
     {
@@ -211,7 +211,7 @@ impl Network<'_> {
     // Goes on by the pick rule as long as there are few processes. Tells how the run closed, if it did.
     fn run_among_few(&mut self, hosts: &HostTable, seed: u64, steps: u64) -> Option<Picked>
         requires hosts { AsksKnown (is_listed (names_of (functions_of hosts.now)) self.old.endpoints) self.old.endpoints }
-        requires seed { seed < 2 ^ 32 }
+        requires seed { seed < 2 ^ 33 }
         requires before { length self.old.history ≤ steps }
         requires fits { FitsMore self.old (steps - length self.old.history) }
         ensures { RunsOrGoesOn (hosts_in self.old.endpoints.names (functions_of hosts.now)) seed steps self.old result self.new }
@@ -228,7 +228,7 @@ impl Network<'_> {
     // Goes on by the pick rule, and keeps who may be picked from event to event.
     fn run_among_many(&mut self, hosts: &HostTable, seed: u64, steps: u64) -> Picked
         requires hosts { AsksKnown (is_listed (names_of (functions_of hosts.now)) self.old.endpoints) self.old.endpoints }
-        requires seed { seed < 2 ^ 32 }
+        requires seed { seed < 2 ^ 33 }
         requires before { length self.old.history ≤ steps }
         requires fits { FitsMore self.old (steps - length self.old.history) }
         ensures { Runs (hosts_in self.old.endpoints.names (functions_of hosts.now)) seed steps self.old result self.new }
@@ -250,7 +250,7 @@ impl Network<'_> {
     /// from the first process on.
     pub fn run_picked(&mut self, hosts: &HostTable, seed: u64, steps: u64) -> Picked
         requires hosts { AsksKnown (is_listed (names_of (functions_of hosts.now)) self.old.endpoints) self.old.endpoints }
-        requires seed { seed < 2 ^ 32 }
+        requires seed { seed < 2 ^ 33 }
         requires few { steps ≤ 1000000 }
         requires before { length self.old.history ≤ steps }
         requires fits { FitsMore self.old (steps - length self.old.history) }

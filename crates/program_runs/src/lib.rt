@@ -3,5 +3,7 @@
 
 mod closing;
 mod run;
+mod telling;
 
 pub use run::{Executed, execute};
+pub use telling::{Told, tell_run};

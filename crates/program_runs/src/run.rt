@@ -9,13 +9,13 @@ ghost use Rattle.transcript.specs.Text.{transcript};
 ghost use Rattle.transcript.specs.Books.{words};
 ghost use Rattle.program_runs.specs.Transcripts.{events_of, closing_text, is_stuck, IsTranscriptOf};
 
-use crate::closing::put_closing;
+use crate::telling::tell_run;
 use chor_base::{List, Memory, NameId};
 use chor_host::HostTable;
 use endpoint_code::{Endpoints, Process};
-use endpoint_runs::{Closed, Ran, run_endpoints};
+use endpoint_runs::{Closed, Run, Schedule};
 use std::alloc::Global;
-use transcript::{Book, print_events};
+use transcript::Book;
 
 /// The transcript of a run, and whether the run is stuck.
 #[derive(Drop)]
@@ -40,30 +40,18 @@ pub fn execute(
     requires few { steps ≤ 1000000 }
     ensures { IfOk result (λ x. IsTranscriptOf (functions_of hosts.now) endpoints.now seed steps x.text.items x.stuck) }
 {
-    let ran = run_endpoints(alloc, endpoints, hosts, seed, steps)?;
+    let run = Run::new(alloc, endpoints, Schedule { seed, steps })?;
     let processes = names_of(alloc, endpoints.processes.as_slice())?;
     let book = Book {
         names: &endpoints.names,
         texts: &endpoints.texts,
         processes: &processes,
     };
-    let text = print_run(alloc, &ran, &book)?;
+    let told = tell_run(alloc, run, hosts, &book)?;
     Ok(Executed {
-        text,
-        stuck: is_stuck(ran.closed),
+        text: told.text,
+        stuck: is_stuck(told.closed),
     })
-}
-
-// The lines of a run.
-fn print_run(alloc: Global, ran: &Ran, book: &Book) -> Result<Vec<u8>, Memory>
-    ensures { IfOk result (λ text. text.items ≡ transcript (words book.now) (events_of ran.now.history) (closing_text (words book.now) (length ran.now.history) (close_of ran.now.closed))) }
-{
-    let mut text = Vec::new(alloc);
-    print_events(alloc, ran.history.as_slice(), book, &mut text)?;
-    let count = ran.history.len() as u64;
-    put_closing(&mut text, alloc, count, ran.closed, book)?;
-    text.push(b'\n')?;
-    Ok(text)
 }
 
 fn is_stuck(closed: Closed) -> bool

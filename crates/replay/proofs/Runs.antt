@@ -63,6 +63,20 @@ underway_more e hosts xs i d old new lt u f g =
       fits = fits_after old new (length xs - (i + 1)) f.becomes.endpoints g (subst (FitsMore old) left u.fits);
     }
 
+-- what was made may be forgotten
+pub forgotten : (e : Endpoints) (hosts : Hosts) (xs : List Event) (i : ℕ) (v w : NetworkView) → Underway e hosts xs i v → w.endpoints ≡ v.endpoints → w.state ≡ v.state → Underway e hosts xs i w
+forgotten e hosts xs i v w u same at =
+    let left = length xs - i in
+    let here : length w.state.machines + left * most_served v.endpoints.channels < 2 ^ 32 = subst (λ (n : NetworkState). length n.machines + left * most_served v.endpoints.channels < 2 ^ 32) (sym at) u.fits.machines in
+    record {
+      endpoints = same ∙ u.endpoints;
+      run = subst (λ (n : NetworkState). IsNetworkRun e hosts None (take i xs) n) (sym at) u.run;
+      fits = record {
+        sid = subst (λ (n : NetworkState). n.sid + left < 2 ^ 32) (sym at) u.fits.sid;
+        machines = subst (λ (a : Endpoints). length w.state.machines + left * most_served a.channels < 2 ^ 32) (sym same) here;
+      };
+    }
+
 pub unmatched : (e : Endpoints) (hosts : Hosts) (xs : List Event) (i : ℕ) (d : Event) (v : NetworkView) → i < length xs → Underway e hosts xs i v → (IsStep v.endpoints hosts v.state (get_or xs i d) → ⊥) → IsUnmatched e hosts xs (i + 1)
 unmatched e hosts xs i d v lt u cannot = record {
   before = i;

@@ -29,7 +29,7 @@ pub fn replay(
     let mut network = Network::new(alloc, endpoints)?;
     for (place, event) in events.iter().enumerate() {
         match network.follow(hosts, event) {
-            Followed::Did => {}
+            Followed::Did => network.forget(),
             Followed::Unmatched => return Err(ReplayFault::Unmatched(place as u64 + 1)),
             Followed::Memory => return Err(ReplayFault::Memory),
         }

@@ -3,6 +3,8 @@
 
 mod accepted;
 mod running;
+mod telling;
 
 pub use accepted::{Accepted, accept};
 pub use running::{Outcome, run_accepted};
+pub use telling::tell_accepted;

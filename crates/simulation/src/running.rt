@@ -59,7 +59,7 @@ pub fn run_accepted(
 }
 
 // What is proved of each accepted file and its runs.
-fn laws()
+pub(crate) fn laws()
     ensures faultless { ProjectionIsFaultless }
     ensures runs { ScheduledRunsAreRuns }
 {
@@ -68,7 +68,7 @@ fn laws()
 }
 
 // Each host function that an accepted file asks has an answer.
-fn functions_answer(accepted: &Accepted, hosts: &HostTable)
+pub(crate) fn functions_answer(accepted: &Accepted, hosts: &HostTable)
     requires { accepted.now.typed.hosts ≡ names_of (functions_of hosts.now) }
     ensures { IsAnswered accepted.now.typed.file (hosts_in accepted.now.typed.file.names (functions_of hosts.now)) }
 {

@@ -1,4 +1,5 @@
 -- The digits of a number and of the next one.
+use Rattle.std.proofs.lemmas.Int.{ints}
 use Rattle.std.proofs.Common.{ℕ, ◌≡◌, ◌+◌, ◌-◌, ◌/◌, ◌%◌, ◌^◌, ◌<◌, ◌≤◌, List, [], ◌∷◌, ◌++◌, length, length-append, arith, sym, ap, ◌∙◌}
 use Rattle.std.specs.Prelude.{◌⊎◌}
 use Rattle.std.proofs.Common.{inl, inr}
@@ -6,7 +7,8 @@ use Rattle.std.proofs.lemmas.Bool.{cases_lt}
 use Rattle.std.proofs.Math.ListN.{set}
 use Rattle.std.proofs.Math.Seq.{set-append_seam}
 use Rattle.std.proofs.lemmas.Fmt.{decimal_digit, decimal_step}
-use Rattle.std.specs.Fmt.{decimal}
+use Rattle.std.specs.Fmt.{decimal, signed_decimal}
+use Rattle.std.specs.Prelude.{ℤ, pos, negsuc, nat_abs, ◌≤ℤ◌, ◌<ℤ◌}
 
 -- the digits of a number that doesn't end in 9 and of the next one differ in the last
 pub record DifferInLast (n : ℕ) (front : List ℕ) : Type 0 where
@@ -54,3 +56,8 @@ counted_on ds n last fits h e at =
     ∙ ap (λ (k : ℕ). set (w.0 ++ (48 + n % 10) ∷ []) k (49 + n % 10)) place
     ∙ set-append_seam w.0 (48 + n % 10) [] (49 + n % 10)
     ∙ sym w.1.next
+
+-- a number of a single digit is written as that digit
+pub one_digit : (z : ℤ) → pos 0 ≤ℤ z → z <ℤ pos 10 → signed_decimal z ≡ (48 + nat_abs z) ∷ []
+one_digit (pos n) h lt = decimal_digit n (grind (arith, ints, h, lt))
+one_digit (negsuc n) h lt = absurd (grind (arith, ints, h, lt))

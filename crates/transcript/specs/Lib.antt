@@ -1,4 +1,5 @@
 pub mod Text
 pub mod Books
 pub mod Phrases
+pub mod Written
 pub mod Closing

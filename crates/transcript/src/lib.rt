@@ -10,4 +10,4 @@ mod phrases;
 pub use book::Book;
 pub use closing::print_stuck;
 pub use line::print_event;
-pub use lines::print_events;
+pub use lines::{Lines, print_events};

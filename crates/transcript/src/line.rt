@@ -1,7 +1,7 @@
 //! One line of a transcript.
 
 ghost use Rattle.std.specs.Prelude.{◌≡◌, ◌++◌, ◌∷◌, [], OnOk, OnErr, IfSome, IfNone, slice_get, codes};
-ghost use Rattle.std.specs.Fmt.{decimal};
+ghost use Rattle.std.specs.Fmt.{decimal, signed_decimal};
 ghost use Rattle.chor_base.specs.Writing.{truth_text};
 ghost use Rattle.transcript.specs.Text.{Words, name_text, process_text, value_text, load_text, parts_text, spaced, numbers_text, said, event_text};
 ghost use Rattle.transcript.specs.Phrases.{sending_verb, receiving_verb, verb_text, route_text, phrase_text, deed_text};
@@ -65,11 +65,23 @@ pub(crate) fn put_process(
     }
 }
 
+// Appends a number. One of a single digit, as most are, is written without a look for its digits.
+#[tactic(auto, using(crate::proofs::Digits::one_digit))]
+fn put_number_of(line: &mut Vec<u8>, alloc: Global, number: i64) -> Result<(), Memory>
+    ensures { OnOk result (line.new.items ≡ line.old.items ++ signed_decimal number) }
+{
+    if 0 <= number && number < 10 {
+        line.push(b'0' + number.unsigned_abs() as u8)?;
+        return Ok(());
+    }
+    put_int(line, alloc, number)
+}
+
 fn put_value(line: &mut Vec<u8>, alloc: Global, book: &Book, value: &Value) -> Result<(), Memory>
     ensures { OnOk result (line.new.items ≡ line.old.items ++ value_text (words book.now) value.now) }
 {
     match *value {
-        Value::Int(number) => put_int(line, alloc, number),
+        Value::Int(number) => put_number_of(line, alloc, number),
         Value::Bool(truth) => put_truth(line, truth),
         Value::Text(text) => put_literal(line, alloc, book.texts, text),
         Value::Part(sid, role) => {

@@ -1,8 +1,9 @@
 //! The lines of a run.
 
-ghost use Rattle.std.specs.Prelude.{◌≡◌, ◌<◌, ◌+◌, ◌^◌, ◌++◌, IfOk, OnOk, OnErr, map};
+ghost use Rattle.std.specs.Prelude.{◌≡◌, ◌<◌, ◌+◌, ◌^◌, ◌++◌, ◌∷◌, [], IfOk, OnOk, OnErr, length, map};
 ghost use Rattle.std.specs.Fmt.{decimal};
-ghost use Rattle.transcript.specs.Text.{said, lines_from};
+ghost use Rattle.transcript.specs.Written.{AreReady};
+ghost use Rattle.transcript.specs.Text.{Words, event_text, said, lines_from};
 ghost use Rattle.transcript.specs.Books.{words};
 ghost use Rattle.transcript.specs.Phrases.{AreTextsOf};
 
@@ -23,35 +24,101 @@ pub fn print_events(
     ensures ok { OnOk result (out.new.items ≡ out.old.items ++ lines_from (words book.now) 1 (map (λ entry. entry.event) events.now)) }
     ensures err { OnErr result (out.new.items ≡ out.old.items) }
 {
-    let lines = lines_of(alloc, events, book)?;
+    let mut lines = Lines::new(alloc)?;
+    lines.put(events, book)?;
     if out.is_empty() {
         // nothing is copied
-        *out = lines;
+        *out = lines.into_text();
     } else {
         out.extend_from_slice(lines.as_slice())?;
     }
     Ok(())
 }
 
-fn lines_of(alloc: Global, events: &[Entry], book: &Book) -> Result<Vec<u8>, Memory>
-    ensures { IfOk result (λ lines. lines.items ≡ lines_from (words book.now) 1 (map (λ entry. entry.event) events.now)) }
-{
-    let mut lines = Vec::new(alloc);
-    let mut phrases = Phrases::new(alloc, events.len())?;
-    let mut digits = Vec::new(alloc);
-    put_number(&mut digits, alloc, 0)?;
-    for (index, entry) in events.iter().enumerate() {
-        count_on(&mut digits, alloc, index as u64)?;
-        put_bytes(&mut lines, digits.as_slice())?;
-        put_said(&mut lines, &mut phrases, &entry.event, book)?;
-        lines.push(b'\n')?;
+/// The lines of a run whose events come in parts, numbered from 1, each ended by a line feed.
+#[derive(Drop)]
+pub struct Lines {
+    text: Vec<u8>,
+    // How many lines there are.
+    count: u64,
+    // The digits of that number.
+    digits: Vec<u8>,
+    phrases: Phrases,
+}
+
+impl Lines {
+    /// No lines yet.
+    pub fn new(alloc: Global) -> Result<Lines, Memory>
+        ensures text { IfOk result (λ lines. lines.text.items ≡ []) }
+        ensures count { IfOk result (λ lines. lines.count ≡ 0) }
+        ensures ready { IfOk result (λ lines. (w : Words) → AreReady w lines) }
+    {
+        let mut digits = Vec::new(alloc);
+        put_number(&mut digits, alloc, 0)?;
+        Ok(Lines {
+            text: Vec::new(alloc),
+            count: 0,
+            digits,
+            phrases: Phrases::new(alloc, 0)?,
+        })
     }
-    Ok(lines)
+
+    /// How many lines there are.
+    pub fn count(&self) -> u64
+        ensures { result ≡ self.now.count }
+    {
+        self.count
+    }
+
+    /// The bytes of all lines so far.
+    pub fn as_slice(&self) -> &[u8]
+        ensures { result.now ≡ self.now.text.items }
+    {
+        self.text.as_slice()
+    }
+
+    /// The bytes of all lines.
+    pub fn into_text(self) -> Vec<u8>
+        ensures { result.items ≡ self.text.items }
+    {
+        self.text
+    }
+
+    /// Appends the lines of the events that come next. The workers that made them aren't written.
+    pub fn put(&mut self, events: &[Entry], book: &Book) -> Result<(), Memory>
+        requires ready { AreReady (words book.now) self.old }
+        requires few { self.old.count + length events.now < 2 ^ 64 }
+        ensures ready { OnOk result (AreReady (words book.now) self.new) }
+        ensures count { OnOk result (self.new.count ≡ self.old.count + length events.now) }
+        ensures text { OnOk result (self.new.text.items ≡ self.old.text.items ++ lines_from (words book.now) (self.old.count + 1) (map (λ entry. entry.event) events.now)) }
+    {
+        self.phrases.fit(events.len())?;
+        for entry in events {
+            self.put_line(&entry.event, book)?;
+        }
+        Ok(())
+    }
+
+    // Appends the line of the event that comes next.
+    fn put_line(&mut self, event: &Event, book: &Book) -> Result<(), Memory>
+        requires ready { AreReady (words book.now) self.old }
+        requires few { self.old.count + 1 < 2 ^ 64 }
+        ensures ready { OnOk result (AreReady (words book.now) self.new) }
+        ensures count { OnOk result (self.new.count ≡ self.old.count + 1) }
+        ensures text { OnOk result (self.new.text.items ≡ self.old.text.items ++ event_text (words book.now) (self.old.count + 1) event.now ++ 10 ∷ []) }
+    {
+        count_on(&mut self.digits, self.count)?;
+        self.count += 1;
+        put_bytes(&mut self.text, self.digits.as_slice())?;
+        put_said(&mut self.text, &mut self.phrases, event, book)?;
+        self.text.push(b'\n')?;
+        Ok(())
+    }
 }
 
 // The digits of a number become those of the next one, mostly by the last digit alone.
 #[tactic(auto, using(crate::proofs::Digits::has_last, crate::proofs::Digits::counted_on))]
-fn count_on(digits: &mut Vec<u8>, alloc: Global, number: u64) -> Result<(), Memory>
+fn count_on(digits: &mut Vec<u8>, number: u64) -> Result<(), Memory>
     requires fits { number + 1 < 2 ^ 64 }
     requires digits { digits.old.items ≡ decimal number }
     ensures { OnOk result (digits.new.items ≡ decimal (number + 1)) }
@@ -61,6 +128,7 @@ fn count_on(digits: &mut Vec<u8>, alloc: Global, number: u64) -> Result<(), Memo
         digits[last] = b'1' + (number % 10) as u8;
         Ok(())
     } else {
+        let alloc = *digits.allocator();
         digits.clear();
         put_number(digits, alloc, number + 1)
     }

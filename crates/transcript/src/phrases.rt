@@ -132,6 +132,17 @@ impl Phrases {
         })
     }
 
+    /// Has room for the texts of so many events, without texts where there was too little.
+    pub fn fit(&mut self, events: usize) -> Result<(), Memory>
+        ensures { OnOk result ((w : Words) → AreTextsOf w self.old.slots.items → AreTextsOf w self.new.slots.items) }
+    {
+        if self.slots.len() < count_for(events) as usize {
+            let alloc = *self.slots.allocator();
+            *self = Phrases::new(alloc, events)?;
+        }
+        Ok(())
+    }
+
     // The slot in which a phrase is kept.
     #[tactic(auto, using(std::proofs::lemmas::Nat::and_le_r))]
     fn slot_of(&self, phrase: Phrase) -> usize

@@ -1,4 +1,4 @@
-use Rattle.std.proofs.Common.{◌≡◌, ◌∙◌, ◌≤◌, ℕ, List, length, take, refl, sym, ap, subst, None, arith}
+use Rattle.std.proofs.Common.{◌≡◌, ◌∙◌, ◌+◌, ◌≤◌, ℕ, List, length, take, refl, sym, ap, subst, None, arith}
 use Rattle.std.proofs.Math.Seq.{take-length}
 use Rattle.chor_base.specs.declared.event.Event.{Event}
 use Rattle.chor_host.specs.Functions.{hosts_in}
@@ -6,7 +6,7 @@ use Rattle.chor_host.specs.Tables.{functions_of}
 use Rattle.endpoint_code.specs.declared.endpoints.Endpoints.{Endpoints}
 use Rattle.endpoint_code.specs.NetworkRuns.{IsNetworkRun, all_ended}
 use Rattle.net_core.specs.Follows.{IsStep, HasFollowed}
-use Rattle.replay.proofs.Runs.{begun, underway_more, unmatched}
+use Rattle.replay.proofs.Runs.{begun, underway_more, forgotten, unmatched}
 use Rattle.replay.proofs.replaying.replay.Goals as goal
 
 pub loop-place-init : goal.loop-place-init
@@ -32,7 +32,8 @@ loop-place-preserved g c =
     let u = c.loop-place.invariant in
     let x = c.index-events-place.result in
     let followed = subst (λ (y : Event). HasFollowed (hosts_in e.names fs) v y c.follow.new.self) c.index-events-place.is (subst (λ (a : Endpoints). HasFollowed (hosts_in a.names fs) v x c.follow.new.self) u.endpoints c.in-Did.ensures.0) in
-    underway_more e (hosts_in e.names fs) c.args.events.now c.loop-place.place x v c.follow.new.self c.loop-place-test.true u followed c.in-Did.ensures.1
+    let more = underway_more e (hosts_in e.names fs) c.args.events.now c.loop-place.place x v c.follow.new.self c.loop-place-test.true u followed c.in-Did.ensures.1 in
+    forgotten e (hosts_in e.names fs) c.args.events.now (c.loop-place.place + 1) c.follow.new.self c.forget.new.self more c.forget.ensures.endpoints c.forget.ensures.state
 
 pub returns : goal.returns
 returns g c =
