@@ -1,7 +1,7 @@
 -- The fields of a network and what contracts see of it.
 use Rattle.std.proofs.Common.{◌≡◌, ℕ, suc, ◌+◌, ◌*◌, ◌^◌, ◌<◌, ◌≤◌, ◌==◌, max, cond, true, false, ◌++◌, ◌∷◌, [], Bool, List, length, get_or, sym, ap, ◌∙◌, subst, refl, Some, None, arith, length-set, length-append}
-use Rattle.std.specs.Prelude.{slice_set, map}
-use Rattle.std.proofs.lemmas.List.{length-map}
+use Rattle.std.specs.Prelude.{slice_get, slice_set, map}
+use Rattle.std.proofs.lemmas.List.{length-map, map-set}
 use Rattle.chor_base.specs.declared.names.NameId.{NameId}
 use Rattle.chor_base.specs.declared.event.Event.{Event}
 use Rattle.chor_base.specs.declared.event.Event.TheVariants as event
@@ -20,6 +20,8 @@ use Rattle.net_core.specs.Heads.{Stands, Shows}
 use Rattle.net_core.specs.Views.{NetworkView, IsSame, state_of}
 use Rattle.net_core.specs.Steps.{HasStepped, HasBegun, HasGrown, FitsMore, most_served}
 use Rattle.session_starts.specs.Starts.{HasStarted}
+use Rattle.waiting_processes.proofs.Left.{get_other}
+use Rattle.net_core.specs.Shown.{MovesAlone}
 use Rattle.net_core.proofs.Scopes.{runner_at}
 
 abbrev pub fields : Endpoints → List MachineView → QueuesView → ℕ → List Entry → List Bool → NetworkView
@@ -129,4 +131,14 @@ module _ {e : Endpoints} (ms : List MachineView) (q : QueuesView) {sid : ℕ} {h
             let f = length-map ms standing_of in
             let g = length-set ms p t in
             omega arith);
+      })
+
+  -- no other process moves where one machine is put
+  pub moved_alone : (n : NetworkState) (p : ℕ) (t : MachineView) (k : QueuesView) → n ≡ state_of (slice_set ms p t) k sid → MovesAlone v.state p n
+  moved_alone n p t k a =
+      let put : n.machines ≡ slice_set (map standing_of ms) p (standing_of t) = ap (λ (m : NetworkState). m.machines) a ∙ map-set standing_of ms p t in
+      subst (λ (w : NetworkView). MovesAlone w.state p n) is
+      (record {
+        count = ap length put ∙ length-set (map standing_of ms) p (standing_of t);
+        others = λ q other. ap (λ (l : List Machine). slice_get l q) put ∙ get_other (map standing_of ms) p q (standing_of t) other;
       })

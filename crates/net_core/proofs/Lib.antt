@@ -17,6 +17,7 @@ pub mod Begins
 pub mod Leaders
 pub mod Numbers
 pub mod Runs
+pub mod Shown
 pub mod Listed
 pub mod Anew
 pub mod Taken

@@ -204,25 +204,30 @@ stands_at e ms q sid p r sound lt h =
       },
     )
 
+-- the next action at the node where a process stands tells of it
+pub shows_from : (e : Endpoints) (n : NetworkState) (p : ℕ) (node : CodeNode) (s : Stands e n p node) (h : Head) → node_head s.sessions node ≡ Some h → Shows e n p h
+shows_from e n p node s h here = record {
+  node = node;
+  stands = s;
+  head = here;
+  ended = ap (ended_of e) s.there ∙ ap ends_there s.at_node.place ∙ end_head s.sessions node h here;
+  joins = λ c r. ap (λ (o : Option Machine). joins_there (place_at e o) c r) s.there ∙ ap (λ (o : Option Place). joins_there o c r) s.at_node.place ∙ joins_head s.sessions node h c r here;
+  leads = ap (λ (o : Option Machine). listed_at e (place_at e o)) s.there ∙ ap (listed_at e) s.at_node.place ∙ leads_head e s.sessions node h here;
+  joining = ap (λ (o : Option Machine). is_joining (place_at e o)) s.there ∙ ap is_joining s.at_node.place ∙ joining_head s.sessions node h here;
+  waits = λ j. ap (why_of e n) s.there ∙ ap (place_waits e None n s.machine.vars) s.at_node.place ∙ why_head e n s.machine.vars s.sessions node h here j;
+}
+
+-- so it is where the process stands at a machine with this head
+pub shows_standing : (e : Endpoints) (n : NetworkState) (p : ℕ) (node : CodeNode) (s : Stands e n p node) (m : Machine) (h : Head) → slice_get n.machines p ≡ Some m → head_of e m ≡ Some h → Shows e n p h
+shows_standing e n p node s m h there shown =
+    let same : s.machine ≡ m = let a : Some s.machine ≡ Some m = sym s.there ∙ there in cc in
+    shows_from e n p node s h (sym (ap place_head s.at_node.place) ∙ ap (head_of e) same ∙ shown)
+
 -- the next action of a process tells of it
 pub shows : (e : Endpoints) (ms : List MachineView) (q : QueuesView) (sid p : ℕ) (r : MachineView) (h : Head) → IsSound e ms → p < length ms → r ≡ get_or ms p r → head_of e r.machine ≡ Some h → Shows e (state_of ms q sid) p h
 shows e ms q sid p r h sound lt is shown =
-    let n : NetworkState = state_of ms q sid in
     let found = stands_at e ms q sid p r sound lt is in
-    let node : CodeNode = found.0 in
-    let s : Stands e n p node = found.1 in
-    let same : s.machine ≡ r.machine = let a : Some s.machine ≡ Some r.machine = sym s.there ∙ runner_at ms p r lt is in cc in
-    let here : node_head s.sessions node ≡ Some h = sym (ap place_head s.at_node.place) ∙ ap (head_of e) same ∙ shown in
-    record {
-      node = node;
-      stands = s;
-      head = here;
-      ended = ap (ended_of e) s.there ∙ ap ends_there s.at_node.place ∙ end_head s.sessions node h here;
-      joins = λ c r. ap (λ (o : Option Machine). joins_there (place_at e o) c r) s.there ∙ ap (λ (o : Option Place). joins_there o c r) s.at_node.place ∙ joins_head s.sessions node h c r here;
-      leads = ap (λ (o : Option Machine). listed_at e (place_at e o)) s.there ∙ ap (listed_at e) s.at_node.place ∙ leads_head e s.sessions node h here;
-      joining = ap (λ (o : Option Machine). is_joining (place_at e o)) s.there ∙ ap is_joining s.at_node.place ∙ joining_head s.sessions node h here;
-      waits = λ j. ap (why_of e n) s.there ∙ ap (place_waits e None n s.machine.vars) s.at_node.place ∙ why_head e n s.machine.vars s.sessions node h here j;
-    }
+    shows_standing e (state_of ms q sid) p found.0 found.1 r.machine h (runner_at ms p r lt is) shown
 
 -- a process that takes on an empty queue waits by it
 pub waits_empty : (e : Endpoints) (n : NetworkState) (p s : ℕ) (a b : NameId) → Shows e n p (head.Take s a b) → queue_of n (s, a, b) ≡ [] → why_of e n (slice_get n.machines p) ≡ Some (Empty s a b)

@@ -6,5 +6,6 @@ pub mod Heads
 pub mod Starts
 pub mod Steps
 pub mod Picks
+pub mod Shown
 pub mod Candidates
 pub mod Follows

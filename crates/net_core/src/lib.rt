@@ -4,6 +4,7 @@
 mod acts;
 mod answer;
 mod candidates;
+mod few;
 mod follow_starts;
 mod following;
 mod joiners;

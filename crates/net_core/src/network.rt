@@ -13,6 +13,7 @@ ghost use Rattle.net_core.specs.Views.{IsSame, IsReserved};
 ghost use Rattle.net_core.specs.Steps.{HasStepped, HasBegun, HasGrown, FitsMore, Answers};
 ghost use Rattle.session_starts.specs.Starts.{AllJoin, AreApart};
 ghost use Rattle.net_core.specs.Starts.{partner_for, IsCast};
+ghost use Rattle.net_core.specs.Shown.{MovesAlone};
 ghost use Rattle.net_core.specs.Heads.{Shows, EachStands, ended_at, why_at, steps_at, is_listed_at, joins_in, leads_at, joins_at_all};
 
 use crate::acts::{act, reserve};
@@ -220,6 +221,7 @@ impl<'a> Network<'a> {
         requires room { IsReserved self.old pid }
         ensures stepped { HasStepped (hosts_in self.old.endpoints.names (functions_of hosts.now)) self.old pid self.new }
         ensures grown { HasGrown self.old self.new }
+        ensures alone { MovesAlone self.old.state pid self.new.state }
     {
         let endpoints = self.endpoints;
         let machine = &mut self.machines[pid as usize];
@@ -256,6 +258,7 @@ impl<'a> Network<'a> {
         requires steps { steps_at self.old.endpoints self.old.state pid ≡ true }
         ensures ok { OnOk result (HasStepped (hosts_in self.old.endpoints.names (functions_of hosts.now)) self.old pid self.new) }
         ensures grown { OnOk result (HasGrown self.old self.new) }
+        ensures alone { OnOk result (joins_at_all self.old.endpoints self.old.state pid ≡ false → MovesAlone self.old.state pid self.new.state) }
         ensures room { OnErr result (IsReserved self.old pid → joins_at_all self.old.endpoints self.old.state pid ≡ true) }
         ensures same { OnErr result (IsSame self.old self.new) }
     {

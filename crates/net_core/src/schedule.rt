@@ -1,49 +1,25 @@
 //! Runs by the pick rule.
 
-ghost use Rattle.std.specs.Prelude.{◌≡◌, ◌≢◌, ◌<◌, ◌≤◌, ◌+◌, ◌-◌, ◌^◌, ◌++◌, ◌∷◌, [], if◌then◌else◌, length, IfOk, OnOk, None, Some, ◌↔◌, true, false, slice_get};
+ghost use Rattle.std.specs.Prelude.{◌≡◌, ◌≢◌, ◌<◌, ◌≤◌, ◌+◌, ◌-◌, ◌^◌, length, None, Some, ◌↔◌, true, false, slice_get};
 ghost use Rattle.chor_host.specs.Functions.{hosts_in, names_of};
 ghost use Rattle.chor_host.specs.Tables.{functions_of};
 ghost use Rattle.endpoint_code.specs.Faults.{AsksKnown, is_listed};
 ghost use Rattle.endpoint_code.specs.NetworkRuns.{all_ended, none_can_step};
-ghost use Rattle.endpoint_code.specs.Scheduled.{listed, picked, picked_of, first_waiting};
-ghost use Rattle.net_core.specs.Heads.{EachStands};
+ghost use Rattle.endpoint_code.specs.Scheduled.{listed, picked, first_waiting};
+ghost use Rattle.net_core.specs.Shown.{ShowsAll};
 ghost use Rattle.net_core.specs.Steps.{FitsMore};
 ghost use Rattle.net_core.specs.Candidates.{IsUpToDate};
 ghost use Rattle.net_core.specs.Picks.{waiting_at, Runs, RunsOrGoesOn, Turns, IsStuck};
 
 use crate::answer::Picked;
 use crate::candidates::{Candidates, Past};
+use crate::few::Few;
 use crate::network::Network;
 use crate::parts::place_of_pick;
-use crate::standing::has_ended;
-use chor_base::Memory;
 use chor_host::HostTable;
 
 // Up to how many processes a look at each of them costs less than to keep who may be picked.
 const FEW: u32 = 4;
-
-// The process that the pick rule takes among these after so many events.
-fn picked_of(pids: &[u32], seed: u64, events: u64) -> Option<u32>
-    requires small { seed < 2 ^ 33 }
-    requires few { events < 2 ^ 63 }
-    ensures { result ≡ picked_of pids.now (seed + events) }
-{
-    let count = pids.len() as u64;
-    if count == 0 {
-        return None;
-    }
-    Some(pids[place_of_pick(seed, events, count) as usize])
-}
-
-// A process comes last among these, if it is one of those that count.
-fn add_if(pids: &mut Vec<u32>, pid: u32, counts: bool) -> Result<(), Memory>
-    ensures { OnOk result (pids.new.items ≡ (if counts then pids.old.items ++ pid ∷ [] else pids.old.items)) }
-{
-    if counts {
-        pids.push(pid)?;
-    }
-    Ok(())
-}
 
 impl Network<'_> {
     // How many events there are.
@@ -161,26 +137,10 @@ impl Network<'_> {
         }
     }
 
-    // Who may be picked, in order, by a look at each process. Tells whether every process has ended.
-    fn survey(&self, pids: &mut Vec<u32>) -> Result<bool, Memory>
-        ensures ended { IfOk result (λ ended. ended ≡ all_ended self.now.endpoints self.now.state.machines) }
-        ensures listed { OnOk result (pids.new.items ≡ listed self.now.endpoints None self.now.state) }
-        ensures stand { EachStands self.now.endpoints self.now.state }
-    {
-        pids.clear();
-        let mut ended = true;
-        for pid in 0..self.count() {
-            let head = self.head(pid);
-            ended &= has_ended(head);
-            add_if(pids, pid, self.is_listed(pid, head))?;
-        }
-        Ok(ended)
-    }
-
-    // One event of a scheduled run, unless it is closed, by a look at each process.
+    // One event of a scheduled run, unless it is closed, by a look at what each process does next.
     fn turn_among_few(
         &mut self,
-        pids: &mut Vec<u32>,
+        few: &mut Few,
         hosts: &HostTable,
         seed: u64,
         steps: u64,
@@ -188,9 +148,11 @@ impl Network<'_> {
         requires hosts { AsksKnown (is_listed (names_of (functions_of hosts.now)) self.old.endpoints) self.old.endpoints }
         requires seed { seed < 2 ^ 33 }
         requires fits { length self.old.history ≢ steps → FitsMore self.old 1 }
-        ensures { Turns (hosts_in self.old.endpoints.names (functions_of hosts.now)) seed steps self.old result self.new }
+        requires heads { ShowsAll self.old.endpoints self.old.state few.old.heads.items }
+        ensures turns { Turns (hosts_in self.old.endpoints.names (functions_of hosts.now)) seed steps self.old result self.new }
+        ensures heads { result ≡ None → ShowsAll self.new.endpoints self.new.state few.new.heads.items }
     {
-        let Ok(ended) = self.survey(pids) else {
+        let Ok(ended) = few.survey(self) else {
             return Some(Picked::Memory);
         };
         if ended {
@@ -199,11 +161,15 @@ impl Network<'_> {
         if self.events() == steps {
             return Some(Picked::Limit);
         }
-        let Some(pid) = picked_of(pids.as_slice(), seed, self.events()) else {
+        let Some(pid) = few.pick(seed, self.events()) else {
             return Some(self.stuck());
         };
-        match self.go(pid, self.head(pid), hosts) {
-            Ok(()) => None,
+        let head = few.head(pid);
+        match self.go(pid, head, hosts) {
+            Ok(()) => match few.follow(self, pid, head) {
+                Ok(()) => None,
+                Err(_) => Some(Picked::Memory),
+            },
             Err(_) => Some(Picked::Memory),
         }
     }
@@ -216,9 +182,11 @@ impl Network<'_> {
         requires fits { FitsMore self.old (steps - length self.old.history) }
         ensures { RunsOrGoesOn (hosts_in self.old.endpoints.names (functions_of hosts.now)) seed steps self.old result self.new }
     {
-        let mut pids = Vec::new(self.alloc);
+        let Ok(mut few) = Few::new(self.alloc, self) else {
+            return Some(Picked::Memory);
+        };
         while self.count() <= FEW {
-            if let Some(picked) = self.turn_among_few(&mut pids, hosts, seed, steps) {
+            if let Some(picked) = self.turn_among_few(&mut few, hosts, seed, steps) {
                 return Some(picked);
             }
         }

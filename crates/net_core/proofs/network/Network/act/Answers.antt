@@ -6,7 +6,7 @@ use Rattle.endpoint_code.specs.Faults.{AsksKnown, is_listed}
 use Rattle.net_core.specs.Machines.{ActsWith}
 use Rattle.net_core.specs.Heads.{steps_at, joins_at_all}
 use Rattle.net_core.specs.Views.{NetworkView}
-use Rattle.net_core.proofs.Fields.{within, shows_in, stepped, grown_put}
+use Rattle.net_core.proofs.Fields.{within, shows_in, stepped, grown_put, moved_alone}
 use Rattle.net_core.proofs.Scopes.{bound_at}
 use Rattle.net_core.proofs.Rooms.{room_known, reserved_room, reserved_first}
 use Rattle.net_core.proofs.Alone.{head_there, acts_freely, sound_after, alone_chooses}
@@ -67,3 +67,6 @@ returns-clause-stepped g c =
 
 pub returns-clause-grown : goal.returns-clause-grown
 returns-clause-grown g c = grown_put c.self.inside.machines.items c.self.inside.queues c.self.view_is _ c.args.pid c.act-event.new.machine c.act-event.new.queues refl
+
+pub returns-clause-alone : goal.returns-clause-alone
+returns-clause-alone g c = moved_alone c.self.inside.machines.items c.self.inside.queues c.self.view_is _ c.args.pid c.act-event.new.machine c.act-event.new.queues refl
