@@ -34,24 +34,24 @@ module _ {bits : List Bool} {total : ℕ} {blocks groups tops : List ℕ} (are :
   in_tops = omega (arith, group_whole, same_whole itself groups tops are.in_tops)
 
   module _ (top rest : ℕ) (in_top : IsReached itself tops (0 + number) top rest) where
-    from_top : before itself (64 * top) groups + rest ≡ number
+    from_top : before itself (16 * top) groups + rest ≡ number
     from_top = begins_below itself groups tops are.in_tops (0 + number) top rest in_top ∙ omega arith
 
-    pub in_groups : before itself (64 * top) groups + rest < sum_by itself groups
+    pub in_groups : before itself (16 * top) groups + rest < sum_by itself groups
     in_groups = omega (arith, from_top, group_whole)
 
-    module _ (group less_rest : ℕ) (in_group : IsReached itself groups (before itself (64 * top) groups + rest) group less_rest) where
-      from_group : before itself (64 * group) blocks + less_rest ≡ number
+    module _ (group less_rest : ℕ) (in_group : IsReached itself groups (before itself (16 * top) groups + rest) group less_rest) where
+      from_group : before itself (16 * group) blocks + less_rest ≡ number
       from_group = begins_below itself blocks groups are.in_groups _ group less_rest in_group ∙ from_top
 
-      pub in_blocks : before itself (64 * group) blocks + less_rest < sum_by itself blocks
+      pub in_blocks : before itself (16 * group) blocks + less_rest < sum_by itself blocks
       in_blocks = omega (arith, from_group, block_whole)
 
-      module _ (block least_rest : ℕ) (in_block : IsReached itself blocks (before itself (64 * group) blocks + less_rest) block least_rest) where
-        from_block : before one (64 * block) bits + least_rest ≡ number
+      module _ (block least_rest : ℕ) (in_block : IsReached itself blocks (before itself (16 * group) blocks + less_rest) block least_rest) where
+        from_block : before one (16 * block) bits + least_rest ≡ number
         from_block = begins_below one bits blocks are.in_blocks _ block least_rest in_block ∙ from_group
 
-        pub found : (bit none : ℕ) → IsReached one bits (before one (64 * block) bits + least_rest) bit none → Some bit ≡ slice_get (places 0 bits) number
+        pub found : (bit none : ℕ) → IsReached one bits (before one (16 * block) bits + least_rest) bit none → Some bit ≡ slice_get (places 0 bits) number
         found bit none r =
             let reached : before one bit bits ≡ number = omega (arith, r.starts, r.ends, from_block, one_more bits bit) in
             sym (place_reached 0 bits number bit reached (omega (arith, r.ends, from_block)) ∙ ap Some (omega arith))

@@ -14,10 +14,10 @@ itself n = n
 abbrev pub before : {X : Type 0} → (X → ℕ) → ℕ → List X → ℕ
 before amount place items = sum_by amount (take place items)
 
--- each count is what 64 items come to, the last count what the rest does
+-- each count is what 16 items come to, the last count what the rest does
 pub record AreSums {X : Type 0} (amount : X → ℕ) (items : List X) (counts : List ℕ) : Type 0 where
-  pub cover : length items ≤ 64 * length counts
-  pub sums : (j : ℕ) → before itself j counts ≡ before amount (64 * j) items
+  pub cover : length items ≤ 16 * length counts
+  pub sums : (j : ℕ) → before itself j counts ≡ before amount (16 * j) items
 
 -- an amount is reached at the item at a place: the items before it come to less by the rest, and with it to more
 pub record IsReached {X : Type 0} (amount : X → ℕ) (items : List X) (number place rest : ℕ) : Type 0 where

@@ -9,13 +9,13 @@ use std::alloc::Global;
 use std::marker::Model;
 
 /// Bits in order, fewer than 2^32 of them. Contracts see the list of the bits. A push takes constant
-/// time but for the growing of vectors, `set` constant time, and `nth` looks at 64 counts of each
-/// level at most, and at one for each 262,144 bits.
+/// time but for the growing of vectors, `set` constant time, and `nth` looks at 16 counts of each
+/// level at most, and at one for each 4,096 bits.
 #[derive(Drop)]
 pub struct CountedBits {
     bits: Vec<bool>,
     total: u32,
-    // How many of each 64 bits are set, of each 64 blocks, and of each 64 groups.
+    // How many of each 16 bits are set, of each 16 blocks, and of each 16 groups.
     blocks: Vec<u32>,
     groups: Vec<u32>,
     tops: Vec<u32>,
@@ -109,9 +109,9 @@ impl CountedBits {
             return None;
         }
         let top = find(&self.tops, 0, number);
-        let group = find(&self.groups, 64 * top.place, top.rest);
-        let block = find(&self.blocks, 64 * group.place, group.rest);
-        let bit = find_bit(&self.bits, 64 * block.place, block.rest);
+        let group = find(&self.groups, 16 * top.place, top.rest);
+        let block = find(&self.blocks, 16 * group.place, group.rest);
+        let bit = find_bit(&self.bits, 16 * block.place, block.rest);
         Some(bit.place as u32)
     }
 
@@ -133,13 +133,13 @@ impl CountedBits {
         requires { slice_get self.old place ≡ Some false }
         ensures { self.new ≡ slice_set self.old place true }
     {
-        let block = place / 64;
-        let group = block / 64;
+        let block = place / 16;
+        let group = block / 16;
         self.bits[place] = true;
         self.total += 1;
         raise(&mut self.blocks, block);
         raise(&mut self.groups, group);
-        raise(&mut self.tops, group / 64);
+        raise(&mut self.tops, group / 16);
     }
 
     // Clears a bit that is set.
@@ -147,12 +147,12 @@ impl CountedBits {
         requires { slice_get self.old place ≡ Some true }
         ensures { self.new ≡ slice_set self.old place false }
     {
-        let block = place / 64;
-        let group = block / 64;
+        let block = place / 16;
+        let group = block / 16;
         self.bits[place] = false;
         self.total -= 1;
         lower(&mut self.blocks, block);
         lower(&mut self.groups, group);
-        lower(&mut self.tops, group / 64);
+        lower(&mut self.tops, group / 16);
     }
 }

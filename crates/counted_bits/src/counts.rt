@@ -1,4 +1,4 @@
-//! One level of counts, each of which is what 64 items of the level below come to.
+//! One level of counts, each of which is what 16 items of the level below come to.
 
 ghost use Rattle.std.specs.Prelude.{◌≡◌, ◌+◌, ◌-◌, ◌*◌, ◌<◌, ◌≤◌, ◌^◌, length, slice_index, slice_set, OnOk};
 ghost use Rattle.std.specs.List.{sum_by};
@@ -40,11 +40,11 @@ pub fn lower(counts: &mut Vec<u32>, place: usize)
 
 // Has a count for one item more than there are below.
 pub fn make_room(counts: &mut Vec<u32>, items: usize) -> Result<(), Memory>
-    requires { items ≤ 64 * length counts.old.items }
-    ensures ok { OnOk result (items < 64 * length counts.new.items) }
+    requires { items ≤ 16 * length counts.old.items }
+    ensures ok { OnOk result (items < 16 * length counts.new.items) }
     ensures grown { IsGrown counts.old.items counts.new.items }
 {
-    if items / 64 >= counts.len() {
+    if items / 16 >= counts.len() {
         counts.push(0)?;
     }
     Ok(())

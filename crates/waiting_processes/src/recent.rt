@@ -3,12 +3,15 @@
 use std::alloc::Global;
 
 // How many places are kept.
-const SLOTS: usize = 1024;
+const SLOTS: usize = 4096;
 
-// Where the place of something with these numbers is kept.
+// Where the place of something with these numbers is kept. The two directions between two roles of a
+// session have slots side by side.
 fn slot_of(numbers: (u32, u32, u32)) -> usize {
     let (first, second, third) = numbers;
-    let others = second.wrapping_add(third.wrapping_mul(3));
+    let pair = second.wrapping_add(third).wrapping_mul(37);
+    let way = u32::from(second < third);
+    let others = pair.wrapping_mul(2).wrapping_add(way);
     first.wrapping_mul(2).wrapping_add(others) as usize % SLOTS
 }
 
