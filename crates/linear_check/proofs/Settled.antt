@@ -99,7 +99,7 @@ module _ (f : File) (cs : List NameId) where
   upper_end old new t u c lt =
       subst (AreUpper (procedures_of f) (main_of f) (channel_at cs c)) (sym (walked_main old new c lt t)) (upper_main (procedures_of f) (main_of f) (channel_at cs c) (holds old c) (u c lt))
 
-  pub upper_begins : (sets : Sets) → length cs ≤ 64 → ((c : ℕ) (g : NameId) (i : ℕ) → c < 64 → holds sets c g i ≡ true) → AreAllUpper f cs sets
+  pub upper_begins : (sets : Sets) → length cs ≤ 128 → ((c : ℕ) (g : NameId) (i : ℕ) → c < 128 → holds sets c g i ≡ true) → AreAllUpper f cs sets
   upper_begins sets few full c lt = λ others m g i h. full c g i (omega arith)
 
   -- ---- settled sets

@@ -67,7 +67,7 @@ turned x y = grind (arith, nat_tests)
 
 module _ (f : File) (cs : List NameId) where
   -- a tail
-  tail_taken : (h : Heard) (m : ℕ → Members) (old new : Sets) (bs : List Block) (p : Place) (g : Form) → length cs ≤ 64 → Tracks cs h m → children_of g ≡ [] → TakesAtTail h (head_of g) old new
+  tail_taken : (h : Heard) (m : ℕ → Members) (old new : Sets) (bs : List Block) (p : Place) (g : Form) → length cs ≤ 128 → Tracks cs h m → children_of g ≡ [] → TakesAtTail h (head_of g) old new
       → TakesAway cs m (block_of bs p g) old new
   tail_taken h m old new bs p (Start c k active serve n) few tracks e t = absurd cc
   tail_taken h m old new bs p (Value from x to y k n) few tracks e t = absurd cc
@@ -82,7 +82,7 @@ module _ (f : File) (cs : List NameId) where
       t c o i (omega arith) ∙ (λ k. if turned g.name.0 o.0 k then holds old c o i && heard k else holds old c o i)
   tail_taken h m old new bs p End few tracks e t = λ c lt o i. ap (λ s. holds s c o i) t
 
-  pub tail_away : (h : Heard) (m : ℕ → Members) (old new : Sets) (id : NodeId) (n : Node) → length cs ≤ 64 → slice_get f.tree.nodes id.0 ≡ Some n → Tracks cs h m → [] ≡ children_of n.form
+  pub tail_away : (h : Heard) (m : ℕ → Members) (old new : Sets) (id : NodeId) (n : Node) → length cs ≤ 128 → slice_get f.tree.nodes id.0 ≡ Some n → Tracks cs h m → [] ≡ children_of n.form
       → TakesAtTail h (head_of n.form) old new → TakesAway cs m (body_of f id) old new
   tail_away h m old new id n few at tracks none t =
       subst (λ b. TakesAway cs m b old new) (sym (block_is f id n at)) (tail_taken h m old new (blocks_of f.tree.nodes) n.place n.form few tracks (sym none) t)

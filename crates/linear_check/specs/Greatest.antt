@@ -24,7 +24,7 @@ members_in sets p = λ c. given (holds sets c p.name.name) 0 (map (λ x. Named x
 
 -- where a procedure begins the parameters in its sets have heard
 abbrev pub HearsInSet : Sets → Proc → Heard → Type 0
-HearsInSet sets p h = (c : ℕ) → c < 64 → (x : ℕ) → members_in sets p c (Named x 0) ≡ hears h c x
+HearsInSet sets p h = (c : ℕ) → c < 128 → (x : ℕ) → members_in sets p c (Named x 0) ≡ hears h c x
 
 -- the sets after a walk of a procedure's body
 abbrev pub TakesIn : File → List NameId → Proc → Sets → Sets → Type 0

@@ -21,7 +21,7 @@ is_heard h c (p ∷ ps) (suc i) = is_heard h c ps i
 -- the parameters of a procedure for which these processes are passed stay where these have heard
 abbrev pub TakesInCall : Heard → NameId → List Named → Sets → Sets → Type 0
 TakesInCall h f ps old new =
-    (c : ℕ) (g : NameId) (i : ℕ) → c < 64 → holds new c g i ≡ (if f.0 == g.0 then holds old c g i && is_heard h c ps i else holds old c g i)
+    (c : ℕ) (g : NameId) (i : ℕ) → c < 128 → holds new c g i ≡ (if f.0 == g.0 then holds old c g i && is_heard h c ps i else holds old c g i)
 
 abbrev pub TakesAtTail : Heard → Block → Sets → Sets → Type 0
 TakesAtTail h (Calls place f ps ss) old new = TakesInCall h f.name ps old new

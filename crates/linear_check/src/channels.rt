@@ -1,4 +1,4 @@
-//! Up to 64 channels, and which of them have a name.
+//! Up to 128 channels, and which of them have a name.
 
 ghost use Rattle.std.specs.Prelude.{ℕ, ◌≡◌, ◌<◌, ◌≤◌, not, false, length};
 ghost use Rattle.linearity.specs.Marks.{is_marked};
@@ -8,14 +8,14 @@ ghost use Rattle.linear_check.specs.Starts.{has_name};
 use chor_base::NameId;
 use linearity::Marks;
 
-// Up to 64 channels, with the least and the greatest number of their names. In a file with many
+// Up to 128 channels, with the least and the greatest number of their names. In a file with many
 // channels most starts are of none of these, and mostly the bounds alone tell so.
 #[derive(Clone, Copy)]
 pub struct Channels<'a> {
     pub names: &'a [NameId],
     least: u32,
     greatest: u32,
-    ghost few: { length names.now ≤ 64 },
+    ghost few: { length names.now ≤ 128 },
     ghost above: { (c : ℕ) → c < length names.now → least ≤ (channel_at names.now c).0 },
     ghost below: { (c : ℕ) → c < length names.now → (channel_at names.now c).0 ≤ greatest },
 }
@@ -23,7 +23,7 @@ pub struct Channels<'a> {
 impl<'a> Channels<'a> {
     // The channels of these names.
     pub fn new(names: &'a [NameId]) -> Self
-        requires { length names.now ≤ 64 }
+        requires { length names.now ≤ 128 }
         ensures { result.names.now ≡ names.now }
     {
         let mut least = u32::MAX;

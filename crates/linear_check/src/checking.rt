@@ -50,24 +50,24 @@ fn channels_of_several(alloc: Global, services: &[Service]) -> Result<List<NameI
     Ok(list)
 }
 
-// The first unordered start of these channels, 64 of them at a time.
+// The first unordered start of these channels, 128 of them at a time.
 fn first_in_groups(alloc: Global, file: &File, channels: &[NameId]) -> Result<Option<Fault>, Memory>
     ensures first { IfOk result (IsFirst (IsOrderFaultOf file.now channels.now)) }
     ensures greatest { OnOk result (HaveGreatest file.now channels.now) }
 {
-    if channels.len() <= 64 {
+    if channels.len() <= 128 {
         let first = first_in_group(alloc, file, channels)?;
         return Ok(first);
     }
-    let (front, back) = channels.split_at(64);
+    let (front, back) = channels.split_at(128);
     let here = first_in_group(alloc, file, front)?;
     let there = first_in_groups(alloc, file, back)?;
     Ok(earlier(here, there))
 }
 
-// The first unordered start of up to 64 channels.
+// The first unordered start of up to 128 channels.
 fn first_in_group(alloc: Global, file: &File, channels: &[NameId]) -> Result<Option<Fault>, Memory>
-    requires { length channels.now ≤ 64 }
+    requires { length channels.now ≤ 128 }
     ensures first { IfOk result (IsFirst (IsOrderFaultOf file.now channels.now)) }
     ensures greatest { OnOk result (HaveGreatest file.now channels.now) }
 {

@@ -1,9 +1,9 @@
-//! Up to 64 channels of a file.
+//! Up to 128 channels of a file.
 
 use crate::channels::Channels;
 use chor_tree::File;
 
-// Up to 64 channels of a file.
+// Up to 128 channels of a file.
 #[derive(Clone, Copy)]
 pub struct Group<'a> {
     pub file: &'a File,

@@ -1,4 +1,4 @@
-//! Which processes have heard of the last start of a channel, for up to 64 channels at a time.
+//! Which processes have heard of the last start of a channel, for up to 128 channels at a time.
 
 ghost use Rattle.std.specs.Prelude.{ℕ, ◌≡◌, ◌<◌, ◌||◌, ◌&&◌, ◌==◌, true, false, IfOk, OnOk};
 ghost use Rattle.std.specs.List.{list_any, list_all};
@@ -21,7 +21,7 @@ pub struct Heard {
 impl Heard {
     // All processes have heard of all channels.
     pub fn everyone(alloc: Global) -> Self
-        ensures { (c x : ℕ) → c < 64 → hears result c x ≡ true }
+        ensures { (c x : ℕ) → c < 128 → hears result c x ≡ true }
     {
         Heard {
             all: Marks::all(),
@@ -106,7 +106,7 @@ impl Heard {
 
     // The channels of which all of these have heard.
     pub fn all_of(&self, parts: &[Part]) -> Marks
-        ensures { (c : ℕ) → c < 64 → is_marked result c ≡ list_all (λ q. hears self.now c q.process.name.0) parts.now }
+        ensures { (c : ℕ) → c < 128 → is_marked result c ≡ list_all (λ q. hears self.now c q.process.name.0) parts.now }
     {
         let mut marks = Marks::all();
         for part in parts {

@@ -1,4 +1,4 @@
-//! The parameters in the sets of procedures, for up to 64 channels at a time.
+//! The parameters in the sets of procedures, for up to 128 channels at a time.
 
 ghost use Rattle.std.specs.Prelude.{ℕ, ◌≡◌, ◌<◌, ◌&&◌, ◌==◌, true, false, IfOk, OnOk, if◌then◌else◌};
 ghost use Rattle.chor_base.specs.declared.names.NameId.{NameId};
@@ -26,7 +26,7 @@ pub struct Sets {
 impl Sets {
     // All parameters are in all sets.
     pub fn full(alloc: Global) -> Self
-        ensures { (c : ℕ) (f : NameId) (i : ℕ) → c < 64 → holds result c f i ≡ true }
+        ensures { (c : ℕ) (f : NameId) (i : ℕ) → c < 128 → holds result c f i ≡ true }
     {
         Sets {
             marks: IndexMap::new(alloc),
@@ -35,7 +35,7 @@ impl Sets {
 
     // The channels in whose sets a parameter is.
     pub fn get(&self, parameter: Parameter) -> Marks
-        ensures { (c : ℕ) → c < 64 → is_marked result c ≡ holds self.now c parameter.procedure parameter.place }
+        ensures { (c : ℕ) → c < 128 → is_marked result c ≡ holds self.now c parameter.procedure parameter.place }
     {
         match self.marks.get(&parameter) {
             Some(marks) => *marks,
@@ -45,7 +45,7 @@ impl Sets {
 
     // A parameter leaves the sets of all channels but these, and whether it was in one of those.
     pub fn take(&mut self, parameter: Parameter, marks: Marks) -> Result<bool, Memory>
-        ensures taken { OnOk result ((c : ℕ) (f : NameId) (i : ℕ) → c < 64 → holds self.new c f i ≡ (if (parameter.procedure.0 == f.0) && (parameter.place == i) then holds self.old c f i && is_marked marks c else holds self.old c f i)) }
+        ensures taken { OnOk result ((c : ℕ) (f : NameId) (i : ℕ) → c < 128 → holds self.new c f i ≡ (if (parameter.procedure.0 == f.0) && (parameter.place == i) then holds self.old c f i && is_marked marks c else holds self.old c f i)) }
         ensures same { IfOk result (λ changed. changed ≡ false → self.new ≡ self.old) }
     {
         let old = self.get(parameter);

@@ -1,12 +1,12 @@
-//! Marks of up to 64 channels.
+//! Marks of up to 128 channels.
 
 ghost use Rattle.std.specs.Prelude.{ℕ, ◌≡◌, ◌<◌, ◌==◌, ◌||◌, ◌&&◌, not, true, false};
 ghost use Rattle.linearity.specs.Marks.{is_marked};
 
-/// Which of up to 64 channels are marked.
+/// Which of up to 128 channels are marked.
 #[derive(Clone, Copy, Debug, PartialEq, Eq)]
 pub struct Marks {
-    bits: u64,
+    bits: u128,
 }
 
 impl Marks {
@@ -17,16 +17,16 @@ impl Marks {
         Marks { bits: 0 }
     }
 
-    /// All 64 channels.
+    /// All 128 channels.
     pub fn all() -> Self
-        ensures { (i : ℕ) → i < 64 → is_marked result i ≡ true }
+        ensures { (i : ℕ) → i < 128 → is_marked result i ≡ true }
     {
-        Marks { bits: u64::MAX }
+        Marks { bits: u128::MAX }
     }
 
     /// Whether the channel of this number is marked.
     pub fn has(self, number: u32) -> bool
-        requires { number < 64 }
+        requires { number < 128 }
         ensures { result ≡ is_marked self number }
     {
         (self.bits >> number) & 1 == 1
@@ -52,23 +52,23 @@ impl Marks {
 
     /// One channel more.
     pub fn with(self, number: u32) -> Self
-        requires { number < 64 }
+        requires { number < 128 }
         ensures there { is_marked result number ≡ true }
         ensures others { (i : ℕ) → (i ≡ number → ⊥) → is_marked result i ≡ is_marked self i }
     {
         Marks {
-            bits: self.bits | (1u64 << number),
+            bits: self.bits | (1u128 << number),
         }
     }
 
     /// One channel less.
     pub fn without(self, number: u32) -> Self
-        requires { number < 64 }
+        requires { number < 128 }
         ensures gone { is_marked result number ≡ false }
-        ensures others { (i : ℕ) → i < 64 → (i ≡ number → ⊥) → is_marked result i ≡ is_marked self i }
+        ensures others { (i : ℕ) → i < 128 → (i ≡ number → ⊥) → is_marked result i ≡ is_marked self i }
     {
         Marks {
-            bits: self.bits & !(1u64 << number),
+            bits: self.bits & !(1u128 << number),
         }
     }
 }

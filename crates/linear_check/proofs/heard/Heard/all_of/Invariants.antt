@@ -5,4 +5,4 @@ use Rattle.linear_check.specs.Heard.{hears}
 use Rattle.linear_check.proofs.heard.Heard.all_of.Given as goal
 
 abbrev pub invariant-loop-part : goal.invariant-loop-part
-invariant-loop-part l = (c : ℕ) → c < 64 → (is_marked l.marks c && list_all (λ q. hears l.self c q.process.name.0) (drop l.part-index l.parts)) ≡ list_all (λ q. hears l.self c q.process.name.0) l.parts
+invariant-loop-part l = (c : ℕ) → c < 128 → (is_marked l.marks c && list_all (λ q. hears l.self c q.process.name.0) (drop l.part-index l.parts)) ≡ list_all (λ q. hears l.self c q.process.name.0) l.parts

@@ -7,7 +7,7 @@ use Rattle.linear_check.proofs.heard.Heard.take_in_call.Given as goal
 
 abbrev pub invariant-loop-place : goal.invariant-loop-place
 invariant-loop-place l = record {
-  taken : (c : ℕ) (g : NameId) (i : ℕ) → c < 64
+  taken : (c : ℕ) (g : NameId) (i : ℕ) → c < 128
       → holds l.sets c g i ≡ (if (l.procedure.0 == g.0) && nat_lt i l.place then holds l.fn.sets c g i && is_heard l.self c l.processes i else holds l.fn.sets c g i);
   same : l.changed ≡ false → l.sets ≡ l.fn.sets;
 }
