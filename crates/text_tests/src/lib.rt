@@ -1,7 +1,7 @@
-//! Tests of what lies below the commands and speaks of text, by public calls alone: tables and values,
-//! tokens and their numbers, sources that are cut, sources that say the same, and nodes of endpoint
-//! files. They say what no clause says: that the calls succeed where there is memory, and what comes of
-//! sources, worked out by hand. What a command shows is among the cases of `command_tests`.
+//! Tests of what lies below the commands and speaks of text, by public calls alone: values and events,
+//! sources that are cut, sources that say the same, and nodes of endpoint files. They say what no clause
+//! says: that the calls succeed where there is memory, and what comes of sources, worked out by hand.
+//! What a command shows is among the cases of `command_tests`.
 #![tactic(auto)]
 
 #[cfg(test)]
@@ -11,6 +11,4 @@ mod sameness;
 #[cfg(test)]
 mod sources;
 #[cfg(test)]
-mod tables;
-#[cfg(test)]
-mod tokens;
+mod values;
