@@ -1,0 +1,8 @@
+use Rattle.std.proofs.Common.{◌≡◌, IfSome, true}
+use Rattle.post_office.specs.Starts.{is_joining}
+use Rattle.post_office.specs.Views.{post_at}
+use Rattle.office_runs.specs.Told.{HasPosted}
+use Rattle.office_runs.proofs.starting.post_all.Given as goal
+
+abbrev pub invariant-loop-part : goal.invariant-loop-part
+invariant-loop-part l = HasPosted l.fn.office l.office × IfSome l.last (λ pid. is_joining (post_at l.office.desks pid) ≡ true)

@@ -1,0 +1,174 @@
+//! Offices that are told the events of scheduled runs.
+
+ghost use Rattle.std.specs.Prelude.{IfOk, OnOk};
+ghost use Rattle.chor_host.specs.Functions.{names_of};
+ghost use Rattle.chor_host.specs.Tables.{functions_of};
+ghost use Rattle.endpoint_code.specs.Faults.{IsFaultlessWith, AsksKnown, is_listed};
+
+use chor_base::{Entry, Event, HostOp, List, Load, Meaning, NameId, Value, Word};
+use chor_host::{HostFn, HostTable, host_max};
+use endpoint_check::read_programs;
+use endpoint_code::Endpoints;
+use endpoint_runs::run_endpoints;
+use known_functions::{asks_known, host_names};
+use office_runs::office_of;
+use post_office::Office;
+use std::alloc::Global;
+use std::process::Abort;
+use std::test::Fail;
+use transcript::{Book, print_events};
+use worked::endpoints::{EXAMPLES, HELLO};
+
+// How many events a run has at most.
+const STEPS: u64 = 120;
+
+// The host functions that programs may ask: `max` alone.
+fn functions(alloc: Global) -> Result<HostTable, Fail> {
+    let name = Word::from_slice(alloc, b"max".as_slice())?;
+    let mut hosts = HostTable::new(alloc);
+    hosts.add(HostFn::new(name, Meaning::Exact(HostOp::Max), host_max))?;
+    Ok(hosts)
+}
+
+// The events of entries.
+fn events_of(alloc: Global, entries: &[Entry]) -> Result<Vec<Event>, Fail> {
+    let mut events = Vec::new(alloc);
+    for entry in entries {
+        events.push(entry.event.copy(alloc)?)?;
+    }
+    Ok(events)
+}
+
+// The lines of entries.
+fn lines_of(alloc: Global, endpoints: &Endpoints, entries: &[Entry]) -> Result<Vec<u8>, Fail> {
+    let mut processes = List::new(alloc);
+    for process in endpoints.processes.as_slice() {
+        processes.push(process.name)?;
+    }
+    let book = Book {
+        names: &endpoints.names,
+        texts: &endpoints.texts,
+        processes: &processes,
+    };
+    let mut out = Vec::new(alloc);
+    print_events(alloc, entries, &book, &mut out)?;
+    Ok(out)
+}
+
+// What stands in an office of a run's first events: whether its history is these, and of its first
+// session what A has sent B first, whether that queue is full, and the start that the first process has
+// to take over.
+#[derive(Clone, Copy)]
+struct Found {
+    is_same: bool,
+    sent: Option<Load>,
+    is_full: bool,
+    joined: Option<u32>,
+}
+
+// What stands in an office after so many events of a run.
+fn seen_in(
+    alloc: Global,
+    endpoints: &Endpoints,
+    office: &Office<'_>,
+    entries: &[Entry],
+) -> Result<Found, Fail> {
+    let told = lines_of(alloc, endpoints, office.history())?;
+    let want = lines_of(alloc, endpoints, entries)?;
+    let from = endpoints.names.find(b"A").unwrap_or(NameId(0));
+    let to = endpoints.names.find(b"B").unwrap_or(NameId(0));
+    Ok(Found {
+        is_same: told.as_slice() == want.as_slice(),
+        sent: office.first(0, from, to),
+        is_full: office.full(0, from, to),
+        joined: office.joined(0),
+    })
+}
+
+// The programs that a text is of.
+fn read(rt: &impl Abort, alloc: Global, text: &[u8], hosts: &HostTable) -> Result<Endpoints, Fail>
+    ensures { IfOk result (IsFaultlessWith (names_of (functions_of hosts.now))) }
+{
+    faultless_endpoints::made_is_faultless();
+    if text.len() > 16_777_216 {
+        panic!(rt; "too long");
+    }
+    let endpoints = read_programs(alloc, text, hosts)?;
+    judge(rt, alloc, &endpoints, hosts)?;
+    Ok(endpoints)
+}
+
+// Programs that ask no other host functions.
+fn judge(
+    rt: &impl Abort,
+    alloc: Global,
+    endpoints: &Endpoints,
+    hosts: &HostTable,
+) -> Result<(), Fail>
+    ensures { OnOk result (AsksKnown (is_listed (names_of (functions_of hosts.now)) endpoints.now) endpoints.now) }
+{
+    let known = host_names(alloc, hosts)?;
+    if !asks_known(endpoints, known.as_slice()) {
+        panic!(rt; "it asks a host function that isn't known");
+    }
+    Ok(())
+}
+
+// The office of the first events of the run of these programs with this seed: of all of its events,
+// where there are fewer.
+fn look(
+    rt: &impl Abort,
+    alloc: Global,
+    text: &[u8],
+    seed: u32,
+    count: usize,
+) -> Result<Option<Found>, Fail> {
+    let hosts = functions(alloc)?;
+    let endpoints = read(rt, alloc, text, &hosts)?;
+    let ran = run_endpoints(alloc, &endpoints, &hosts, u64::from(seed), STEPS)?;
+    let history = ran.history.as_slice();
+    let entries = &history[..count.min(history.len())];
+    let events = events_of(alloc, entries)?;
+    match office_of(alloc, &endpoints, &hosts, events.as_slice())? {
+        Some(office) => Ok(Some(seen_in(alloc, &endpoints, &office, entries)?)),
+        None => Ok(None),
+    }
+}
+
+#[test]
+fn offices_have_the_events_that_they_are_told(rt: HostRuntime) -> Result<(), Fail> {
+    let alloc = rt.alloc();
+    for (name, text) in EXAMPLES {
+        for seed in 0..5 {
+            match look(&rt, alloc, text, seed, 120)? {
+                Some(found) => assert!(rt; found.is_same && !found.is_full, "{name}"),
+                None => assert!(rt; false, "{name}"),
+            }
+        }
+    }
+    Ok(())
+}
+
+// Of `1 start a #0 A=p B=q`, `2 send p #0 A>B 3` and `3 recv q #0 A>B 3`.
+#[test]
+fn the_queue_and_the_start_of_hello(rt: HostRuntime) -> Result<(), Fail> {
+    let alloc = rt.alloc();
+    let three = Some(Load::Value(Value::Int(3)));
+    let wanted = [
+        (None, None),
+        (None, Some(0)),
+        (three, Some(0)),
+        (None, Some(0)),
+    ];
+    for (count, (sent, joined)) in wanted.iter().enumerate() {
+        match look(&rt, alloc, HELLO, 0, count)? {
+            Some(found) => {
+                assert!(rt; found.is_same && !found.is_full, "{count}");
+                assert!(rt; found.sent == *sent, "{count}");
+                assert!(rt; found.joined == *joined, "{count}");
+            }
+            None => assert!(rt; false, "{count}"),
+        }
+    }
+    Ok(())
+}
