@@ -15,7 +15,8 @@ use Rattle.endpoint_code.specs.Network.{channel_of as channel_in}
 use Rattle.well_formed.specs.WellFormed.{names_in_scope}
 use Rattle.well_formed.proofs.References.{same_name, clash, or_rights}
 use Rattle.typed_sources.specs.Laws.{IsAccepted}
-use Rattle.typed_sources.proofs.BlockTrees.{tree_of, tree_at}
+use Rattle.source_blocks.specs.Blocks.{choreography_of}
+use Rattle.source_blocks.proofs.Blocks.{choreography_at}
 use Rattle.typed_sources.proofs.Sources.{scope_with}
 use Rattle.projection.specs.Projects.{body_at}
 use Rattle.projection_follows.specs.Roles.{sessions_of}
@@ -49,7 +50,7 @@ module _ (f : File) (a : NameId) (known : is_among (channels_of f) a ≡ true) w
       go true i = absurd (clash known (ap (is_among (channels_of f)) (sym (same_name x a i)) ∙ off))
 
   -- no start of a block binds the name
-  binds_no : (b : Block) (scope : Scope) → AreNamed f scope b → BindsNo a.0 (tree_of b)
+  binds_no : (b : Block) (scope : Scope) → AreNamed f scope b → BindsNo a.0 (choreography_of b)
   binds_no (Then place (Starts c k active serve) next) scope m = (another k.name m.0.no_channel, binds_no next (scope_with scope (Starts c k active serve)) m.1)
   binds_no (Then place (Sends p x q y k) next) scope m = binds_no next scope m.1
   binds_no (Then place (Selects p q k l) next) scope m = binds_no next scope m.1
@@ -73,11 +74,11 @@ module _ (f : File) (words : List (List ℕ)) (ok : IsAccepted f words) (wanted 
 
   -- No session of main has a channel's name
   pub main_apart : BindsNo a.0 (body_at f f.body)
-  main_apart = subst (BindsNo a.0) (sym (tree_at f.tree.nodes f.body)) (binds_no f a known (body_of f f.body) _ (main_named f words ok))
+  main_apart = subst (BindsNo a.0) (sym (choreography_at f.tree.nodes f.body)) (binds_no f a known (body_of f f.body) _ (main_named f words ok))
 
   -- nor one of a procedure
   pub procedure_apart : (x : Proc) → Contains f.procs x → (among (Named a.0 0) (names_in_scope (sessions_of x)) ≡ false) × BindsNo a.0 (body_at f x.body)
   procedure_apart x m = (
     among_named (sessions_of x) a.0 ∙ no_session f a known x.sessions (sessions_named f words ok x m),
-    subst (BindsNo a.0) (sym (tree_at f.tree.nodes x.body)) (binds_no f a known (body_of f x.body) _ (procedure_named f words ok x m)),
+    subst (BindsNo a.0) (sym (choreography_at f.tree.nodes x.body)) (binds_no f a known (body_of f x.body) _ (procedure_named f words ok x m)),
   )

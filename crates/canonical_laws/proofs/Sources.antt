@@ -3,6 +3,7 @@ use Rattle.std.proofs.Common.{◌≡◌, ℕ, List, [], ◌∷◌, ◌++◌, map
 use Rattle.std.proofs.lemmas.List.{map-append}
 use Rattle.std.proofs.lemmas.List.Concat.{flat_map-append}
 use Rattle.std.proofs.Math.ListN.{get_or-map}
+use Rattle.node_table.proofs.Tables.{trees_alike}
 use Rattle.chor_base.specs.declared.rule.Place.{Place}
 use Rattle.std.specs.List.{flat_map}
 use Rattle.chor_base.specs.Expr.{Term}
@@ -19,7 +20,7 @@ use Rattle.chor_tree.specs.Source.{Statement, Starts, Sends, Selects, Gives, Set
 use Rattle.chor_tree.specs.Source as source
 use Rattle.chor_print.specs.Pieces.{named_text, part_text, process_param_text, session_param_text, listed, listed_after}
 use Rattle.chor_print.specs.Statements.{start_text, label_text, give_text}
-use Rattle.chor_print.specs.Lines.{indented, braced, stated, lines_in, lines_of_form, grown, block_lines}
+use Rattle.chor_print.specs.Lines.{indented, braced, stated, lines_in, lines_of_form, node_lines, block_lines}
 use Rattle.chor_print.specs.Text.{state_line, protocol_head, protocol_lines, service_line, proc_head, proc_lines, main_head, ended, canonical_text}
 use Rattle.chor_print.specs.Parts.{line_at, lines_at, body_text, protocol_text, service_text}
 use Rattle.chor_print.proofs.Lines.{braced_lines, mapped_lines, braced_at}
@@ -96,16 +97,10 @@ module _ (f : File) where
   form_lines bs p (form.Call g ps ks) = refl
   form_lines bs p form.End = refl
 
-  all_lines : (ns : List Node) (bs : List Block) → grown f (map (lines_of f.names f.texts) bs) ns ≡ map (lines_of f.names f.texts) (source.grown bs ns)
-  all_lines [] bs = refl
-  all_lines (n ∷ ns) bs =
-      let b = block_of bs n.place n.form in
-      let more : map (lines_of f.names f.texts) bs ++ lines_of_form f (map (lines_of f.names f.texts) bs) n.form ∷ [] ≡ map (lines_of f.names f.texts) (bs ++ b ∷ []) =
-      ap (λ (l : List (List ℕ)). map (lines_of f.names f.texts) bs ++ l ∷ []) (form_lines bs n.place n.form) ∙ sym (map-append (lines_of f.names f.texts) bs (b ∷ [])) in
-      ap (λ (ls : List (List (List ℕ))). grown f ls ns) more ∙ all_lines ns (bs ++ b ∷ [])
-
   pub block_lines_are : (id : NodeId) → block_lines f id ≡ lines_of f.names f.texts (block_in (source.blocks_of f.tree.nodes) id)
-  block_lines_are id = ap (λ (ls : List (List (List ℕ))). lines_in ls id) (all_lines f.tree.nodes []) ∙ lines_there (source.blocks_of f.tree.nodes) id
+  block_lines_are id =
+      let alike = trees_alike source.node_block (node_lines f) (lines_of f.names f.texts) (λ bs n. form_lines bs n.place n.form) f.tree.nodes in
+      ap (λ (ls : List (List (List ℕ))). lines_in ls id) alike ∙ lines_there (source.blocks_of f.tree.nodes) id
 
 procedures_are : (f : File) (ps : List Proc) → flat_map (proc_lines f) ps ≡ flat_map (procedure_lines f.names f.texts) (map (procedure_of f.tree.nodes) ps)
 procedures_are f [] = refl

@@ -19,38 +19,18 @@ use Rattle.chor_tree.specs.declared.tree.Node.{Node}
 use Rattle.chor_tree.specs.declared.tree.NodeId.{NodeId}
 use Rattle.chor_tree.specs.Children.{children_of}
 use Rattle.chor_tree.specs.Kept.{followers_in, times}
-use Rattle.chor_tree.specs.Source.{Statement, Block, Then, Either, Ends, nowhere, block_in, block_of, grown, blocks_of}
-use Rattle.chor_tree.proofs.Blocks.{grown_length}
+use Rattle.chor_tree.specs.Source.{Statement, Block, Then, Either, Ends, nowhere, block_in, block_of, node_block, blocks_of}
+use Rattle.node_table.proofs.Tables.{tree_stays, tree_pushed}
 use Rattle.chor_gen.specs.Words.{beginning}
 use Rattle.chor_gen.specs.Making.{form_kept, nodes_kept, node_of, Says, below, Adds}
 
 -- ---- blocks
 
-grown_more : (bs : List Block) (ns ms : List Node) → grown bs (ns ++ ms) ≡ grown (grown bs ns) ms
-grown_more bs [] ms = refl
-grown_more bs (n ∷ ns) ms = grown_more (bs ++ block_of bs n.place n.form ∷ []) ns ms
-
-grown_keeps : (ns : List Node) (bs : List Block) (j : ℕ) → j < length bs → slice_index_or (grown bs ns) j (Ends nowhere) ≡ slice_index_or bs j (Ends nowhere)
-grown_keeps [] bs j lt = refl
-grown_keeps (n ∷ ns) bs j lt =
-    let b = block_of bs n.place n.form in
-    grown_keeps ns (bs ++ b ∷ []) j (omega (arith, length-append bs (b ∷ []))) ∙ get_or-append bs (b ∷ []) (Ends nowhere) j lt
-
-blocks_length : (ns : List Node) → length (blocks_of ns) ≡ length ns
-blocks_length ns = omega (arith, grown_length ns [])
-
 pub block_stays : (old new added : List Node) (id : NodeId) → new ≡ old ++ added → id.0 < length old → block_in (blocks_of new) id ≡ block_in (blocks_of old) id
-block_stays old new added id made lt =
-    ap (λ (ns : List Node). block_in (blocks_of ns) id) made
-    ∙ ap (λ (bs : List Block). block_in bs id) (grown_more [] old added)
-    ∙ grown_keeps added (blocks_of old) id.0 (omega (arith, blocks_length old))
+block_stays old new added id made lt = tree_stays node_block (Ends nowhere) old new added id.0 made lt
 
 block_pushed : (old new : List Node) (n : Node) (id : NodeId) → new ≡ old ++ n ∷ [] → id.0 ≡ length old → block_in (blocks_of new) id ≡ block_of (blocks_of old) n.place n.form
-block_pushed old new n id made at =
-    let b : Block = block_of (blocks_of old) n.place n.form in
-    let all : blocks_of new ≡ blocks_of old ++ b ∷ [] = ap blocks_of made ∙ grown_more [] old (n ∷ []) in
-    let place : id.0 ≡ length (blocks_of old) = at ∙ sym (blocks_length old) in
-    (λ i. slice_index_or (all i) (place i) (Ends nowhere)) ∙ get_or-append_seam (blocks_of old) b [] (Ends nowhere)
+block_pushed old new n id made at = tree_pushed node_block (Ends nowhere) old new n id.0 made at
 
 -- ---- counts
 

@@ -3,6 +3,7 @@ use Rattle.std.proofs.Common.{◌≡◌, ◌<◌, ◌+◌, List, [], ◌∷◌, 
 use Rattle.std.specs.Prelude.{slice_index_or}
 use Rattle.std.proofs.lemmas.List.{append-nil, get_or_append_left, length-append}
 use Rattle.std.proofs.Math.Seq.{get_or-append_seam}
+use Rattle.node_table.proofs.Tables.{tree_stays, tree_pushed}
 use Rattle.chor_base.specs.declared.rule.Place.{Place}
 use Rattle.chor_tree.specs.declared.file.Proc.{Proc}
 use Rattle.chor_tree.specs.declared.tree.Node.{Node}
@@ -10,45 +11,15 @@ use Rattle.chor_tree.specs.declared.tree.NodeId.{NodeId}
 use Rattle.chor_parser.specs.declared.block.Line.{Line}
 use Rattle.chor_parser.specs.declared.statement.Statement.{Statement as Read}
 use Rattle.chor_parser.specs.declared.statement.Statement.TheVariants as read
-use Rattle.chor_tree.specs.Source.{Block, Then, Ends, Procedure, nowhere, block_in, block_of, grown, blocks_of, procedure_of}
+use Rattle.chor_tree.specs.Source.{Block, Then, Ends, Procedure, nowhere, block_in, block_of, node_block, blocks_of, procedure_of}
 use Rattle.chor_parser.specs.Reading.{statement_of, form_of, with_lines, Grows, AreThere}
 use Rattle.chor_parser.proofs.Coming.{with_last}
 
-grown_more : (bs : List Block) (ns ms : List Node) → grown bs (ns ++ ms) ≡ grown (grown bs ns) ms
-grown_more bs [] ms = refl
-grown_more bs (n ∷ ns) ms = grown_more (bs ++ block_of bs n.place n.form ∷ []) ns ms
-
-grown_length : (bs : List Block) (ns : List Node) → length (grown bs ns) ≡ length bs + length ns
-grown_length bs [] = omega arith
-grown_length bs (n ∷ ns) = omega (arith, grown_length (bs ++ block_of bs n.place n.form ∷ []) ns, length-append bs (block_of bs n.place n.form ∷ []))
-
--- the blocks that are known stay
-record Stay (bs all : List Block) : Type 0 where
-  more : List Block
-  is : all ≡ bs ++ more
-
-grown_stay : (bs : List Block) (ns : List Node) → Stay bs (grown bs ns)
-grown_stay bs [] = record { more = []; is = sym (append-nil bs) }
-grown_stay bs (n ∷ ns) =
-    let h = grown_stay (bs ++ block_of bs n.place n.form ∷ []) ns in
-    record { more = block_of bs n.place n.form ∷ h.more; is = h.is ∙ append_assoc bs (block_of bs n.place n.form ∷ []) h.more }
-
-blocks_length : (ns : List Node) → length (blocks_of ns) ≡ length ns
-blocks_length ns = omega (arith, grown_length [] ns)
-
 pub block_stays : (old new : List Node) (id : NodeId) → Grows old new → id.0 < length old → block_in (blocks_of new) id ≡ block_in (blocks_of old) id
-block_stays old new id grows lt =
-    let h = grown_stay (blocks_of old) grows.0 in
-    let all : blocks_of new ≡ blocks_of old ++ h.more = ap blocks_of grows.1 ∙ grown_more [] old grows.0 ∙ h.is in
-    let within : id.0 < length (blocks_of old) = omega (arith, blocks_length old) in
-    ap (λ (bs : List Block). slice_index_or bs id.0 (Ends nowhere)) all ∙ get_or_append_left (blocks_of old) h.more (Ends nowhere) id.0 within
+block_stays old new id grows lt = tree_stays node_block (Ends nowhere) old new grows.0 id.0 grows.1 lt
 
 pub block_pushed : (old new : List Node) (n : Node) (id : NodeId) → new ≡ old ++ n ∷ [] → id.0 ≡ length old → block_in (blocks_of new) id ≡ block_of (blocks_of old) n.place n.form
-block_pushed old new n id e at =
-    let b : Block = block_of (blocks_of old) n.place n.form in
-    let all : blocks_of new ≡ blocks_of old ++ b ∷ [] = ap blocks_of e ∙ grown_more [] old (n ∷ []) in
-    let place : id.0 ≡ length (blocks_of old) = at ∙ sym (blocks_length old) in
-    (λ i. slice_index_or (all i) (place i) (Ends nowhere)) ∙ get_or-append_seam (blocks_of old) b [] (Ends nowhere)
+block_pushed old new n id e at = tree_pushed node_block (Ends nowhere) old new n id.0 e at
 
 -- ---- growth
 

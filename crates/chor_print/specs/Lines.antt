@@ -1,5 +1,6 @@
 -- The lines of a block, without their ends (this project's own). A block is known by the node with which it begins.
 use Rattle.std.specs.Prelude.{ℕ, List, [], ◌∷◌, ◌++◌, map, slice_index_or, codes}
+use Rattle.node_table.specs.Tables as table
 use Rattle.chor_base.specs.Expr.{term_of}
 use Rattle.chor_tree.specs.declared.file.File.{File}
 use Rattle.chor_tree.specs.declared.tree.NodeId.{NodeId}
@@ -38,14 +39,12 @@ lines_of_form f bs (If p e first second) =
 lines_of_form f bs (Call g ps ks) = call_text f g ps ks ∷ []
 lines_of_form f bs End = codes "end" ∷ []
 
--- the lines of all nodes' blocks, after those that are known
-abbrev pub grown : File → List (List (List ℕ)) → List Node → List (List (List ℕ))
-grown f bs [] = bs
-grown f bs (n ∷ ns) = grown f (bs ++ lines_of_form f bs n.form ∷ []) ns
+abbrev pub node_lines : File → List (List (List ℕ)) → Node → List (List ℕ)
+node_lines f bs n = lines_of_form f bs n.form
 
 -- the lines of the block that begins at each node of a file
 abbrev pub blocks_of : File → List (List (List ℕ))
-blocks_of f = grown f [] f.tree.nodes
+blocks_of f = table.trees_of (node_lines f) f.tree.nodes
 
 -- The lines of the block that begins at a node of a file
 abbrev pub block_lines : File → NodeId → List (List ℕ)

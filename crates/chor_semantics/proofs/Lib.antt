@@ -1,4 +1,3 @@
 pub mod Determined
 pub mod Tables
 pub mod Walks
-pub mod Grown

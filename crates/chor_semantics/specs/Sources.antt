@@ -1,6 +1,7 @@
 -- A source file as choreographies: the tree that stands at each node of its table, its procedures, and where it begins.
-use Rattle.std.specs.Prelude.{ℕ, suc, ◌==◌, List, [], ◌∷◌, ◌++◌, map, slice_index_or, if◌then◌else◌}
+use Rattle.std.specs.Prelude.{ℕ, suc, ◌==◌, List, [], ◌∷◌, map, slice_index_or, if◌then◌else◌}
 use Rattle.std.specs.FinMap as fin
+use Rattle.node_table.specs.Tables as table
 use Rattle.chor_base.specs.declared.names.NameId.{NameId}
 use Rattle.chor_base.specs.Expr.{term_of}
 use Rattle.chor_base.specs.NameMap.{Variables}
@@ -43,14 +44,12 @@ form_tree ts (If p e first second) = Either (name_ref p) (term_of e) (tree_in ts
 form_tree ts (Call f ps ss) = Calls f.name 0 (map name_ref ps) (map name_ref ss)
 form_tree ts End = Ends
 
--- the trees of all nodes, after those that are known
-abbrev pub grown : List Choreography → List TreeNode → List Choreography
-grown ts [] = ts
-grown ts (n ∷ ns) = grown (ts ++ form_tree ts n.form ∷ []) ns
+abbrev pub node_tree : List Choreography → TreeNode → Choreography
+node_tree ts n = form_tree ts n.form
 
 -- the tree at each number of a table
 abbrev pub trees_of : List TreeNode → List Choreography
-trees_of nodes = grown [] nodes
+trees_of nodes = table.trees_of node_tree nodes
 
 -- ---- procedures
 

@@ -1,10 +1,8 @@
 -- The block at a node is made of the blocks at those that follow it.
-use Rattle.std.proofs.Common.{◌≡◌, ℕ, zero, suc, ◌+◌, ◌<◌, ◌≤◌, Bool, true, false, List, [], ◌∷◌, ◌++◌, length, map, refl, sym, ap, ◌∙◌, subst, Some, arith}
+use Rattle.std.proofs.Common.{◌≡◌, ℕ, ◌<◌, ◌≤◌, Bool, true, false, List, [], ◌∷◌, length, map, refl, sym, ◌∙◌, Some}
 use Rattle.std.specs.Prelude.{slice_get, slice_index_or, All, ◌&&◌}
-use Rattle.std.proofs.lemmas.List.{length-append, get_or_past}
 use Rattle.std.proofs.lemmas.List.Elements.{All-head, All-tail}
-use Rattle.std.proofs.Math.ListN.{get_or-append}
-use Rattle.std.proofs.Math.Seq.{get_or-append_seam}
+use Rattle.node_table.proofs.Tables.{tree_at_node, tree_past}
 use Rattle.chor_base.specs.declared.names.NameId.{NameId}
 use Rattle.chor_base.specs.declared.rule.Place.{Place}
 use Rattle.chor_tree.specs.declared.tree.Form.{Form}
@@ -12,20 +10,9 @@ use Rattle.chor_tree.specs.declared.tree.Form.TheVariants.{Start, Value, Label, 
 use Rattle.chor_tree.specs.declared.tree.Node.{Node}
 use Rattle.chor_tree.specs.declared.tree.NodeId.{NodeId}
 use Rattle.chor_tree.specs.Children.{children_of, IsClosed}
-use Rattle.chor_tree.specs.Source.{Block, Then, Either, Calls, Ends, nowhere, block_in, block_of, grown, blocks_of, tails_of}
+use Rattle.chor_tree.specs.Source.{Block, Then, Either, Calls, Ends, nowhere, block_in, block_of, node_block, blocks_of, tails_of}
 use Rattle.chor_tree.specs.Same.{Same, all_same, same_named, same_term, same_statement, same_block}
 use Rattle.chor_tree.specs.Forms.{head_of}
-
--- what is known stays
-grown_old : (ns : List Node) (bs : List Block) (j : ℕ) → j < length bs → slice_index_or (grown bs ns) j (Ends nowhere) ≡ slice_index_or bs j (Ends nowhere)
-grown_old [] bs j lt = refl
-grown_old (n ∷ ns) bs j lt =
-    let b = block_of bs n.place n.form in
-    grown_old ns (bs ++ b ∷ []) j (omega (arith, length-append bs (b ∷ []))) ∙ get_or-append bs (b ∷ []) (Ends nowhere) j lt
-
-pub grown_length : (ns : List Node) (bs : List Block) → length (grown bs ns) ≡ length bs + length ns
-grown_length [] bs = omega arith
-grown_length (n ∷ ns) bs = omega (arith, grown_length ns (bs ++ block_of bs n.place n.form ∷ []), length-append bs (block_of bs n.place n.form ∷ []))
 
 -- all of these children come before i
 abbrev Before : ℕ → List NodeId → Type 0
@@ -48,32 +35,13 @@ module _ (bs us : List Block) (i : ℕ) (h : (j : ℕ) → j < i → slice_index
   form_same p (Call f ps ss) a = refl
   form_same p End a = refl
 
-grown_at : (ns : List Node) (bs : List Block) (i : ℕ) (n : Node) → slice_get ns i ≡ Some n → Before (length bs + i) (children_of n.form)
-    → slice_index_or (grown bs ns) (length bs + i) (Ends nowhere) ≡ block_of (grown bs ns) n.place n.form
-grown_at [] bs i n h a = absurd cc
-grown_at (m ∷ ns) bs zero n h a =
-    let e : m ≡ n = cc in
-    let z : length bs + 0 ≡ length bs = omega arith in
-    let b = block_of bs m.place m.form in
-    let bs' = bs ++ b ∷ [] in
-    let lt : length bs < length bs' = omega (arith, length-append bs (b ∷ [])) in
-    let here = ap (λ j. slice_index_or (grown bs' ns) j (Ends nowhere)) z ∙ grown_old ns bs' (length bs) lt ∙ get_or-append_seam bs b [] (Ends nowhere) in
-    let below = form_same bs (grown bs' ns) (length bs) (λ j l. grown_old ns bs' j (omega arith) ∙ get_or-append bs (b ∷ []) (Ends nowhere) j l) n.place n.form (subst (λ (j : ℕ). Before j (children_of n.form)) z a) in
-    here ∙ ap (λ (o : Node). block_of bs o.place o.form) e ∙ sym below
-grown_at (m ∷ ns) bs (suc i) n h a =
-    let b = block_of bs m.place m.form in
-    let bs' = bs ++ b ∷ [] in
-    let z : length bs + suc i ≡ length bs' + i = omega (arith, length-append bs (b ∷ [])) in
-    ap (λ j. slice_index_or (grown bs' ns) j (Ends nowhere)) z ∙ grown_at ns bs' i n h (subst (λ (j : ℕ). Before j (children_of n.form)) z a)
-
 pub block_at : (nodes : List Node) (id : NodeId) (n : Node) → IsClosed nodes → slice_get nodes id.0 ≡ Some n → block_in (blocks_of nodes) id ≡ block_of (blocks_of nodes) n.place n.form
 block_at nodes id n closed h =
-    let z : length {A = Block} [] + id.0 ≡ id.0 = omega arith in
-    ap (λ j. slice_index_or (blocks_of nodes) j (Ends nowhere)) (sym z) ∙ grown_at nodes [] id.0 n h (subst (λ (j : ℕ). Before j (children_of n.form)) (sym z) (closed id.0 n h))
+    tree_at_node node_block (Ends nowhere) (λ i m. Before i (children_of m.form)) (λ bs us i old m. form_same bs us i old m.place m.form) nodes id.0 n closed h
 
 -- no block where no node is
 pub block_past : (nodes : List Node) (id : NodeId) → length nodes ≤ id.0 → block_in (blocks_of nodes) id ≡ Ends nowhere
-block_past nodes id h = get_or_past (blocks_of nodes) id.0 (Ends nowhere) (omega (arith, grown_length nodes [], h))
+block_past nodes id h = tree_past node_block (Ends nowhere) nodes id.0 h
 
 -- ---- a block, and what follows its first statement
 

@@ -1,5 +1,6 @@
 -- A source file as its text says it: statements and blocks without where they lie in a table (this project's own).
-use Rattle.std.specs.Prelude.{List, [], ◌∷◌, ◌++◌, map, slice_index_or}
+use Rattle.std.specs.Prelude.{List, [], ◌∷◌, map, slice_index_or}
+use Rattle.node_table.specs.Tables.{trees_of}
 use Rattle.chor_base.specs.declared.names.NameId.{NameId}
 use Rattle.chor_base.specs.declared.rule.Place.{Place}
 use Rattle.chor_base.specs.Expr.{Term, term_of}
@@ -90,14 +91,12 @@ block_of bs p (form.If q e first second) = Either p q (term_of e) (block_in bs f
 block_of bs p (form.Call f ps ss) = Calls p f ps ss
 block_of bs p form.End = Ends p
 
--- the blocks of all nodes, after those that are known
-abbrev pub grown : List Block → List Node → List Block
-grown bs [] = bs
-grown bs (n ∷ ns) = grown (bs ++ block_of bs n.place n.form ∷ []) ns
+abbrev pub node_block : List Block → Node → Block
+node_block bs n = block_of bs n.place n.form
 
 -- the block that begins at each node of a table
 abbrev pub blocks_of : List Node → List Block
-blocks_of nodes = grown [] nodes
+blocks_of nodes = trees_of node_block nodes
 
 abbrev pub procedure_of : List Node → Proc → Procedure
 procedure_of nodes p = record {

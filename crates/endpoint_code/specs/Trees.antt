@@ -1,5 +1,6 @@
 -- Endpoint code as trees, wherever its nodes lie in a table.
-use Rattle.std.specs.Prelude.{List, [], ◌∷◌, ◌++◌, slice_index_or}
+use Rattle.std.specs.Prelude.{List, [], ◌∷◌, slice_index_or}
+use Rattle.node_table.specs.Tables as table
 use Rattle.chor_base.specs.declared.names.NameId.{NameId}
 use Rattle.chor_base.specs.Expr.{Term, term_of}
 use Rattle.endpoint_code.specs.declared.code.CodeId.{CodeId}
@@ -56,14 +57,9 @@ node_tree ts (If e first second) = Tests (term_of e) (tree_in ts first) (tree_in
 node_tree ts (Call f p ss) = Calls f p ss
 node_tree ts End = Ends
 
--- the trees of all nodes, after those that are known
-abbrev pub grown : List CodeTree → List CodeNode → List CodeTree
-grown ts [] = ts
-grown ts (n ∷ ns) = grown (ts ++ node_tree ts n ∷ []) ns
-
 -- the tree at each number of a table
 abbrev pub trees_of : List CodeNode → List CodeTree
-trees_of nodes = grown [] nodes
+trees_of nodes = table.trees_of node_tree nodes
 
 -- The code that stands at a number of a table
 abbrev pub code_at : List CodeNode → CodeId → CodeTree

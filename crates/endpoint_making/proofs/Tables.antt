@@ -4,20 +4,16 @@ use Rattle.std.specs.Prelude.{slice_index_or, slice_get, All}
 use Rattle.std.proofs.lemmas.Option.{slice_get-get_or}
 use Rattle.std.proofs.lemmas.List.{take_more, map-append}
 use Rattle.std.proofs.lemmas.List.Elements.{All-map, All-push}
+use Rattle.node_table.proofs.Tables.{trees_pushed}
 use Rattle.endpoint_code.specs.declared.code.CodeId.{CodeId}
 use Rattle.endpoint_code.specs.declared.code.CodeNode.{CodeNode}
 use Rattle.endpoint_code.specs.Trees as tree
-use Rattle.endpoint_code.proofs.CodeTables as codes
 use Rattle.endpoint_reader.specs.declared.lines.Line.{Line}
 use Rattle.endpoint_reader.specs.Lines.{nexts_of, IsClosed}
 use Rattle.chor_base.specs.declared.names.NameId.{NameId}
 use Rattle.endpoint_code.specs.Kept.{node_there}
-use Rattle.endpoint_names.specs.Bodies.{Body, line_body, grown, bodies_of}
+use Rattle.endpoint_names.specs.Bodies.{Body, line_body, bodies_of}
 use Rattle.endpoint_making.specs.Codes.{code_id, code_of, line_there}
-
-grown-append : (ls ms : List Line) (bs : List Body) → grown bs (ls ++ ms) ≡ grown (grown bs ls) ms
-grown-append [] ms bs = refl
-grown-append (l ∷ ls) ms bs = grown-append ls ms (bs ++ line_body bs l ∷ [])
 
 module _ (ls ys : List Line) (i : ℕ) (l : Line) (same : ys ≡ ls) (lt : i < length ys) (at : l ≡ slice_index_or ys i l) where
   within : i < length ls
@@ -39,11 +35,11 @@ module _ (ls ys : List Line) (i : ℕ) (l : Line) (same : ys ≡ ls) (lt : i < l
       → tree.trees_of old ≡ map code_of (bodies_of (take i ls)) → tree.trees_of new ≡ map code_of (bodies_of (take (i + 1) ls))
   trees_turn old new node is_new made so_far =
       let bs = bodies_of (take i ls) in
-      ap tree.trees_of is_new ∙ codes.grown-append old (node ∷ []) []
+      ap tree.trees_of is_new ∙ trees_pushed tree.node_tree old node
       ∙ ap (λ ts. ts ++ tree.node_tree ts node ∷ []) so_far
       ∙ ap (λ c. map code_of bs ++ c ∷ []) (made bs)
       ∙ sym (map-append code_of bs (line_body bs l ∷ []))
-      ∙ ap (map code_of) (sym (grown-append (take i ls) (l ∷ []) []) ∙ ap (λ x. bodies_of (take i ls ++ x ∷ [])) here ∙ ap bodies_of (sym (take_more ls i l within)))
+      ∙ ap (map code_of) (sym (trees_pushed line_body (take i ls) l) ∙ ap (λ x. bodies_of (take i ls ++ x ∷ [])) here ∙ ap bodies_of (sym (take_more ls i l within)))
 
   pub there_turn : (n : NameId → Bool) (t : ℕ → Bool) (old new : List CodeNode) (node : CodeNode) → new ≡ old ++ node ∷ []
       → node_there n t node ≡ line_there n t l → All (λ m. line_there n t m ≡ true) ls

@@ -4,6 +4,7 @@ use Rattle.std.specs.Prelude.{slice_get, slice_index_or, All, map}
 use Rattle.std.proofs.lemmas.List.Elements.{All-nil, All-cons, All-head, All-tail}
 use Rattle.std.proofs.Math.ListN.{get_or-append}
 use Rattle.std.proofs.Math.Seq.{get_or-append_seam}
+use Rattle.node_table.proofs.Tables.{tree_at_node}
 use Rattle.endpoint_reader.specs.declared.input.Named.{Named}
 use Rattle.endpoint_reader.specs.declared.lines.LineId.{LineId}
 use Rattle.endpoint_reader.specs.declared.lines.Arm.{Arm as OneArm}
@@ -11,12 +12,7 @@ use Rattle.endpoint_reader.specs.declared.lines.Line.{Line}
 use Rattle.endpoint_reader.specs.declared.lines.Line.TheVariants as line
 use Rattle.endpoint_reader.specs.Lines.{nexts_of, IsClosed}
 use Rattle.endpoint_names.specs.Keys.{sign_of_name, sign_of_arm}
-use Rattle.endpoint_names.specs.Bodies.{Body, Ends, labels_of, arms_in, line_body, grown, bodies_of, body_at}
-
--- what is known stays
-grown-old : (ls : List Line) (bs : List Body) (j : ℕ) → j < length bs → slice_index_or (grown bs ls) j Ends ≡ slice_index_or bs j Ends
-grown-old [] bs j lt = refl
-grown-old (l ∷ ls) bs j lt = grown-old ls (bs ++ line_body bs l ∷ []) j (omega (arith, length-append bs (line_body bs l ∷ []))) ∙ get_or-append bs (line_body bs l ∷ []) Ends j lt
+use Rattle.endpoint_names.specs.Bodies.{Body, Ends, labels_of, arms_in, line_body, bodies_of, body_at}
 
 -- all of these come before i
 abbrev pub Before : ℕ → List LineId → Type 0
@@ -40,25 +36,8 @@ module _ (bs cs : List Body) (i : ℕ) (h : (j : ℕ) → j < i → slice_index_
   line_same (line.Call p s) a = refl
   line_same line.End a = refl
 
-grown-at : (ls : List Line) (bs : List Body) (i : ℕ) (l : Line) → slice_get ls i ≡ Some l → Before (length bs + i) (nexts_of l) → slice_index_or (grown bs ls) (length bs + i) Ends ≡ line_body (grown bs ls) l
-grown-at [] bs i l h a = absurd cc
-grown-at (m ∷ ls) bs zero l h a =
-    let e : m ≡ l = cc in
-    let z : length bs + 0 ≡ length bs = omega arith in
-    let bs' = bs ++ line_body bs m ∷ [] in
-    let lt : length bs < length bs' = omega (arith, length-append bs (line_body bs m ∷ [])) in
-    let here = ap (λ j. slice_index_or (grown bs' ls) j Ends) z ∙ grown-old ls bs' (length bs) lt ∙ get_or-append_seam bs (line_body bs m) [] Ends in
-    let below = line_same bs (grown bs' ls) (length bs) (λ j lt'. grown-old ls bs' j (omega arith) ∙ get_or-append bs (line_body bs m ∷ []) Ends j lt') l (subst (λ (j : ℕ). Before j (nexts_of l)) z a) in
-    here ∙ ap (line_body bs) e ∙ sym below
-grown-at (m ∷ ls) bs (suc i) l h a =
-    let bs' = bs ++ line_body bs m ∷ [] in
-    let z : length bs + suc i ≡ length bs' + i = omega (arith, length-append bs (line_body bs m ∷ [])) in
-    ap (λ j. slice_index_or (grown bs' ls) j Ends) z ∙ grown-at ls bs' i l h (subst (λ (j : ℕ). Before j (nexts_of l)) z a)
-
 pub body_at-line : (ls : List Line) (id : LineId) (l : Line) → IsClosed ls → slice_get ls id.0 ≡ Some l → body_at ls id ≡ line_body (bodies_of ls) l
-body_at-line ls id l closed h =
-    let z : length {A = Body} [] + id.0 ≡ id.0 = omega arith in
-    ap (λ j. slice_index_or (bodies_of ls) j Ends) (sym z) ∙ grown-at ls [] id.0 l h (subst (λ (j : ℕ). Before j (nexts_of l)) (sym z) (closed id.0 l h))
+body_at-line ls id l closed h = tree_at_node line_body Ends (λ i m. Before i (nexts_of m)) line_same ls id.0 l closed h
 
 -- the labels of arms
 pub labels_are : (bs : List Body) (arms : List OneArm) → map sign_of_name (labels_of (arms_in bs arms)) ≡ map sign_of_arm arms

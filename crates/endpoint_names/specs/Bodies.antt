@@ -1,5 +1,6 @@
 -- Bodies as trees, with their names and where these stand (this project's own).
-use Rattle.std.specs.Prelude.{List, [], ◌∷◌, ◌++◌, slice_index_or}
+use Rattle.std.specs.Prelude.{List, [], ◌∷◌, slice_index_or}
+use Rattle.node_table.specs.Tables.{trees_of}
 use Rattle.chor_base.specs.declared.rule.Place.{Place}
 use Rattle.chor_base.specs.declared.expr.Expr.{Expr}
 use Rattle.endpoint_reader.specs.declared.input.Named.{Named}
@@ -46,13 +47,9 @@ line_body bs (line.If e first second) = Tests e (body_in bs first) (body_in bs s
 line_body bs (line.Call p s) = Calls p s
 line_body bs line.End = Ends
 
--- the bodies of all lines, after those that are known
-abbrev pub grown : List Body → List Line → List Body
-grown bs [] = bs
-grown bs (l ∷ ls) = grown (bs ++ line_body bs l ∷ []) ls
-
+-- the body that begins at each line of a table
 abbrev pub bodies_of : List Line → List Body
-bodies_of ls = grown [] ls
+bodies_of ls = trees_of line_body ls
 
 -- The body that begins at a number of a table
 abbrev pub body_at : List Line → LineId → Body

@@ -1,40 +1,19 @@
 -- The bodies of a table of lines, when lines are added.
-use Rattle.std.proofs.Common.{◌≡◌, ◌<◌, ◌+◌, ℕ, List, [], ◌∷◌, ◌++◌, length, length-append, refl, ap, ◌∙◌, sym, append_assoc, arith}
+use Rattle.std.proofs.Common.{◌≡◌, ◌<◌, List, [], ◌∷◌, ◌++◌, length, length-append, ap, ◌∙◌, sym, append_assoc, arith}
 use Rattle.std.proofs.lemmas.List.{append-nil}
-use Rattle.std.specs.Prelude.{slice_index_or}
-use Rattle.std.proofs.Math.ListN.{get_or-append}
-use Rattle.std.proofs.Math.Seq.{get_or-append_seam}
-use Rattle.endpoint_grammar.specs.Written.{Body, Ends}
+use Rattle.node_table.proofs.Tables.{tree_stays, tree_pushed}
+use Rattle.endpoint_grammar.specs.Written.{Ends}
 use Rattle.endpoint_reader.specs.declared.input.Input.{Input}
 use Rattle.endpoint_reader.specs.declared.lines.LineId.{LineId}
 use Rattle.endpoint_reader.specs.declared.lines.Line.{Line}
-use Rattle.endpoint_reader.specs.Lines.{line_body, grown, bodies_of, body_at}
+use Rattle.endpoint_reader.specs.Lines.{line_body, bodies_of, body_at}
 use Rattle.endpoint_reader.specs.Bodies.{Grows}
 
-grown-old : (i : Input) (ls : List Line) (bs : List Body) (j : ℕ) → j < length bs → slice_index_or (grown i bs ls) j Ends ≡ slice_index_or bs j Ends
-grown-old i [] bs j lt = refl
-grown-old i (l ∷ ls) bs j lt =
-    grown-old i ls (bs ++ line_body i bs l ∷ []) j (omega (arith, length-append bs (line_body i bs l ∷ []))) ∙ get_or-append bs (line_body i bs l ∷ []) Ends j lt
-
-grown-append : (i : Input) (ls ms : List Line) (bs : List Body) → grown i bs (ls ++ ms) ≡ grown i (grown i bs ls) ms
-grown-append i [] ms bs = refl
-grown-append i (l ∷ ls) ms bs = grown-append i ls ms (bs ++ line_body i bs l ∷ [])
-
-length-grown : (i : Input) (ls : List Line) (bs : List Body) → length (grown i bs ls) ≡ length bs + length ls
-length-grown i [] bs = omega arith
-length-grown i (l ∷ ls) bs = omega (arith, length-grown i ls (bs ++ line_body i bs l ∷ []), length-append bs (line_body i bs l ∷ []))
-
 pub body_at-kept : (i : Input) (old new more : List Line) (id : LineId) → new ≡ old ++ more → id.0 < length old → body_at i new id ≡ body_at i old id
-body_at-kept i old new more id e h =
-    ap (λ ls. body_at i ls id) e ∙ ap (λ bs. slice_index_or bs id.0 Ends) (grown-append i old more [])
-    ∙ grown-old i more (bodies_of i old) id.0 (omega (arith, length-grown i old []))
+body_at-kept i old new more id e h = tree_stays (line_body i) Ends old new more id.0 e h
 
 pub body_at-pushed : (i : Input) (old new : List Line) (l : Line) (id : LineId) → new ≡ old ++ l ∷ [] → id.0 ≡ length old → body_at i new id ≡ line_body i (bodies_of i old) l
-body_at-pushed i old new l id e j =
-    let n : length (bodies_of i old) ≡ length old = omega (arith, length-grown i old []) in
-    ap (λ ls. body_at i ls id) e ∙ ap (λ bs. slice_index_or bs id.0 Ends) (grown-append i old (l ∷ []) [])
-    ∙ ap (λ k. slice_index_or (bodies_of i old ++ line_body i (bodies_of i old) l ∷ []) k Ends) (j ∙ sym n)
-    ∙ get_or-append_seam (bodies_of i old) (line_body i (bodies_of i old) l) [] Ends
+body_at-pushed i old new l id e j = tree_pushed (line_body i) Ends old new l id.0 e j
 
 -- ---- growth
 

@@ -1,5 +1,6 @@
 -- Lines of bodies, as they are written, and what readers of bodies answer.
-use Rattle.std.specs.Prelude.{◌≡◌, ◌<◌, ℕ, List, [], ◌∷◌, ◌++◌, map, All, Some, slice_get, slice_index_or, codes}
+use Rattle.std.specs.Prelude.{◌≡◌, ◌<◌, ℕ, List, [], ◌∷◌, map, All, Some, slice_get, slice_index_or, codes}
+use Rattle.node_table.specs.Tables.{trees_of}
 use Rattle.chor_base.specs.Expr.{term_of}
 use Rattle.chor_lexer.specs.Lexeme.{word, Lexeme}
 use Rattle.grammar_laws.specs.Readers.{Leads}
@@ -43,13 +44,9 @@ line_body i bs (line.If e first second) = Tests (written i (term_of e)) (body_in
 line_body i bs (line.Call p s) = Calls (record { symbol = word (codes "call"); place = p }) (named i s.name) (named i s.param) (all_named i s.sessions)
 line_body i bs line.End = Ends
 
--- the bodies of all lines, after those that are known
-abbrev pub grown : Input → List Body → List Line → List Body
-grown i bs [] = bs
-grown i bs (l ∷ ls) = grown i (bs ++ line_body i bs l ∷ []) ls
-
+-- the body that begins at each line of a table
 abbrev pub bodies_of : Input → List Line → List Body
-bodies_of i ls = grown i [] ls
+bodies_of i ls = trees_of (line_body i) ls
 
 -- The body that begins at a number of a table
 abbrev pub body_at : Input → List Line → LineId → Body

@@ -20,11 +20,12 @@ use Rattle.endpoint_code.specs.Faults.{is_among, IsActive, all_among, IsScoped}
 use Rattle.endpoint_code.specs.Labels.{has_label, HasDistinctLabels, AreDistinctArms}
 use Rattle.endpoint_code.specs.Network as network
 use Rattle.endpoint_code.specs.Trees as tree
+use Rattle.node_table.proofs.Tables.{trees_length}
 use Rattle.endpoint_code.proofs.CodeTables.{length-trees_of}
 use Rattle.scoped_codes.specs.Scoped as scoped
 use Rattle.scoped_codes.proofs.Tables.{tree_tells}
 use Rattle.endpoint_names.specs.Keys.{alone, both, same_key, is_known, sign_of_name, sign_of_channel, sign_of_procedure, first_by}
-use Rattle.endpoint_names.specs.Bodies.{Body, Does, Offers, Tests, Calls, Ends, Arms, NoArms, Arm, labels_of, line_body, grown, bodies_of, body_at}
+use Rattle.endpoint_names.specs.Bodies.{Body, Does, Offers, Tests, Calls, Ends, Arms, NoArms, Arm, labels_of, line_body, bodies_of, body_at}
 use Rattle.endpoint_names.specs.Faults.{fault_at, names_in, repeated, channel_of, procedure_of, unknown_channel, inactive, unbound, bound_again, bound_after, wrong_call, setting, action_faults, call_faults, body_faults, arms_faults}
 use Rattle.endpoint_names.proofs.Keys.{number_turned}
 use Rattle.endpoint_making.specs.Codes.{code_id, action_of, code_of, arms_of}
@@ -105,10 +106,6 @@ pub label_known : (l : NameId) (arms : Arms) → has_label l (arms_of arms) ≡ 
 label_known l NoArms = refl
 label_known l (Arm k b others) = ap (λ c. (l.0 == k.name.0) || c) (label_known l others) ∙ ap (λ c. c || is_known (keys_in (map sign_of_name (labels_of others))) (alone l)) (sym (same_alone l k.name))
 
-length-grown : (ls : List Line) (bs : List Body) → length (grown bs ls) ≡ length bs + length ls
-length-grown [] bs = omega arith
-length-grown (l ∷ ls) bs = omega (arith, length-grown ls (bs ++ line_body bs l ∷ []), length-append bs (line_body bs l ∷ []))
-
 -- ---- bodies
 
 module _ (w : Written) (names texts hosts : List (List ℕ)) (e : Endpoints) (made : IsMadeOf w names texts e) where
@@ -183,7 +180,7 @@ module _ (w : Written) (names texts hosts : List (List ℕ)) (e : Endpoints) (ma
   pub count : length e.code.nodes ≡ length w.lines.items
   count =
       sym (length-trees_of e.code.nodes) ∙ ap length made.code ∙ length-map (bodies_of w.lines.items) code_of
-      ∙ (let n = length-grown w.lines.items [] in omega (arith, n))
+      ∙ trees_length line_body w.lines.items
 
   pub code_scoped : (id : LineId) (bs : List NameId) → id.0 < length w.lines.items → body_faults (setting w names hosts) bs (body_at w.lines.items id) ≡ [] → IsScoped e (code_id id) bs
   code_scoped id bs lt h =

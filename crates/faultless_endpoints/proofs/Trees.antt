@@ -1,10 +1,10 @@
 -- The bodies that are judged are those that are written.
 use Rattle.std.proofs.Common.{◌≡◌, ◌==◌, ◌<◌, ℕ, Bool, true, false, Some, length, List, [], ◌∷◌, ◌++◌, map, refl, ap, sym, ◌∙◌}
-use Rattle.std.proofs.lemmas.List.{map-append}
 use Rattle.std.proofs.Math.ListN.{get_or-map}
 use Rattle.std.specs.Prelude.{bytes_eq, slice_get, slice_index_or}
 use Rattle.std.proofs.lemmas.Slice.Eq.{bytes_eq-Decides}
 use Rattle.std.proofs.lemmas.Option.{slice_get-get_or}
+use Rattle.node_table.proofs.Tables.{trees_alike}
 use Rattle.chor_base.specs.declared.names.NameId.{NameId}
 use Rattle.chor_base.specs.Words.{AllDistinct}
 use Rattle.chor_base.specs.Writing.{name_in}
@@ -14,7 +14,7 @@ use Rattle.endpoint_reader.specs.declared.lines.Arm.{Arm as OneArm}
 use Rattle.endpoint_reader.specs.declared.lines.Line.{Line}
 use Rattle.endpoint_reader.specs.declared.lines.Line.TheVariants as line
 use Rattle.endpoint_reader.specs.Lines as lines
-use Rattle.endpoint_names.specs.Bodies.{Body, Ends, body_in, arms_in, line_body, grown, bodies_of, body_at}
+use Rattle.endpoint_names.specs.Bodies.{Body, Ends, body_in, arms_in, line_body, bodies_of, body_at}
 use Rattle.endpoint_names.proofs.Keys.{same_number}
 use Rattle.faultless_endpoints.proofs.Lists.{count_same}
 use Rattle.faultless_endpoints.specs.Reading.{written_body, written_arms}
@@ -34,14 +34,10 @@ module _ (i : Input) where
   line_same bs (line.Call p s) = refl
   line_same bs line.End = refl
 
-  grown_same : (ls : List Line) (bs : List Body) → map (written_body i) (grown bs ls) ≡ lines.grown i (map (written_body i) bs) ls
-  grown_same [] bs = refl
-  grown_same (l ∷ ls) bs =
-      grown_same ls (bs ++ line_body bs l ∷ [])
-      ∙ ap (λ cs. lines.grown i cs ls) (map-append (written_body i) bs (line_body bs l ∷ []) ∙ ap (λ c. map (written_body i) bs ++ c ∷ []) (line_same bs l))
-
   pub bodies_written : (ls : List Line) (id : LineId) → written_body i (body_at ls id) ≡ lines.body_at i ls id
-  bodies_written ls id = in_same (bodies_of ls) id ∙ ap (λ bs. lines.body_in bs id) (grown_same ls [])
+  bodies_written ls id =
+      let alike = trees_alike line_body (lines.line_body i) (written_body i) (λ bs l. sym (line_same bs l)) ls in
+      in_same (bodies_of ls) id ∙ ap (λ bs. lines.body_in bs id) (sym alike)
 
 -- names are the same where their words are
 pub names_words : (names : List (List ℕ)) (x y : NameId) → AllDistinct names → x.0 < length names → y.0 < length names → (x.0 == y.0) ≡ bytes_eq (name_in names x) (name_in names y)

@@ -31,7 +31,7 @@ use Rattle.typing_rules.specs.After.{with_value, with_state, with_endpoint, with
 use Rattle.typed_runs.proofs.Small.{both_true}
 use Rattle.typed_sources.proofs.Checked.{first_passes, asked, holder_is}
 use Rattle.typed_sources.proofs.Opened.{IsNamedStart, eq_flip, holder_other, holder_new}
-use Rattle.typed_sources.proofs.BlockTrees.{node_of, tree_of}
+use Rattle.source_blocks.specs.Blocks.{node_of, choreography_of}
 use Rattle.typed_sources.proofs.Sources.{NamesKept, IsNamedCall, IsFaultless, scope_with}
 use Rattle.projection.specs.Codes.{is_named, name_of, role_in, proc_named, param_for}
 use Rattle.typed_sources.proofs.Scopes.{among_front}
@@ -277,10 +277,10 @@ module _ (f : File) (ep : Endpoints) (differ : DiffersThere f) (r : NameId) wher
   in_scope_after scope (Shows q x) i = i
 
   -- Along a block without fault a process in scope uses the sessions in which it holds a role
-  pub block_uses : (b : Block) (scope : Scope) (e : Environment) → IsFaultless f scope e b → AreNamed f scope b → KeepsOwners scope e → AreThere f ep (tree_of b) → is_in scope.processes r ≡ true
-      → (g : Held) → Knows r g e → UsesHeld ep f.procs r (tree_of b) g
+  pub block_uses : (b : Block) (scope : Scope) (e : Environment) → IsFaultless f scope e b → AreNamed f scope b → KeepsOwners scope e → AreThere f ep (choreography_of b) → is_in scope.processes r ≡ true
+      → (g : Held) → Knows r g e → UsesHeld ep f.procs r (choreography_of b) g
   block_uses (Then place s next) scope e (names, rule, rest) n t there here g knows =
-      statement_uses ep f.procs r f differ scope e t here g knows s (tree_of next) names n.0 rule there
+      statement_uses ep f.procs r f differ scope e t here g knows s (choreography_of next) names n.0 rule there
       (λ g' k'. block_uses next (scope_with scope s) (after_statement f e s) rest n.1 (statement_owned f scope e t s names rule).keeps (λ c z m. there c z (inr m)) (in_scope_after scope s here) g' k')
   block_uses (Either place p x first second) scope e (names, rule, one, other) n t there here g knows =
       (block_uses first scope e one n.0 t (λ c z m. there c z (inl m)) here g knows, block_uses second scope e other n.1 t (λ c z m. there c z (inr m)) here g knows)

@@ -20,7 +20,8 @@ use Rattle.well_formed.proofs.References.{same_name, true_eq, or_left, or_rights
 use Rattle.delegation.specs.Checks.{all_differ}
 use Rattle.typing_rules.specs.Environment.{at_main, at_procedure}
 use Rattle.typed_sources.specs.Laws.{IsAccepted}
-use Rattle.typed_sources.proofs.BlockTrees.{tree_of, tree_at}
+use Rattle.source_blocks.specs.Blocks.{choreography_of}
+use Rattle.source_blocks.proofs.Blocks.{choreography_at}
 use Rattle.typed_sources.proofs.Resolved.{both_empty, each_empty, found_in, is_named_there}
 use Rattle.typed_sources.proofs.ProcedureHeads.{no_fault_at, not_true, is_known, all_apart, names_append, names_map}
 use Rattle.typed_sources.proofs.Accepted.{declared, channels_fine, procedures_fine, main_faultless, procedures_keep}
@@ -120,11 +121,11 @@ module _ (f : File) (words : List (List ℕ)) (ok : IsAccepted f words) where
     found_there : (c : NameId) (s : Service) → first_named (λ z. z.name) f.services c ≡ Some s → is_some_start (starts_of f c) ≡ true → channel_of e.channels c ≡ Some (channel_from s)
     found_there c s is some = ap (λ ks. channel_of ks c) pr.channels ∙ channel_there is_started f.services c s is (ap (λ z. is_some_start (starts_of f z)) (named_so f.services c s is) ∙ some)
 
-    main_there : AreThere f e (tree_of (body_of f f.body))
-    main_there c s h is = found_there c s is (main_starts f c (subst (StartsIn c) (sym (tree_at f.tree.nodes f.body)) h))
+    main_there : AreThere f e (choreography_of (body_of f f.body))
+    main_there c s h is = found_there c s is (main_starts f c (subst (StartsIn c) (sym (choreography_at f.tree.nodes f.body)) h))
 
-    body_there : (p : Proc) → Contains f.procs p → AreThere f e (tree_of (body_of f p.body))
-    body_there p m c s h is = found_there c s is (body_starts f c p m (subst (StartsIn c) (sym (tree_at f.tree.nodes p.body)) h))
+    body_there : (p : Proc) → Contains f.procs p → AreThere f e (choreography_of (body_of f p.body))
+    body_there p m c s h is = found_there c s is (body_starts f c p m (subst (StartsIn c) (sym (choreography_at f.tree.nodes p.body)) h))
 
     -- ---- bodies
 
@@ -138,7 +139,7 @@ module _ (f : File) (words : List (List ℕ)) (ok : IsAccepted f words) where
     -- Each process of main uses the sessions in which it holds a role
     pub main_uses : (r : NameId) → is_in (names_in f.processes) r ≡ true → UsesHeld e f.procs r (body_at f f.body) (λ y. false)
     main_uses r there =
-        subst (λ c. UsesHeld e f.procs r c (λ y. false)) (sym (tree_at f.tree.nodes f.body))
+        subst (λ c. UsesHeld e f.procs r c (λ y. false)) (sym (choreography_at f.tree.nodes f.body))
         (block_uses f e differs r (body_of f f.body) (scope_of_main f) at_main (main_faultless f words ok.names ok.protocols ok.types) (main_named f words ok) (main_keeps f) main_there there (λ y. false) (none_held r))
 
     -- and each parameter in a procedure's body
@@ -146,7 +147,7 @@ module _ (f : File) (words : List (List ℕ)) (ok : IsAccepted f words) where
     body_uses h m q i =
         let is = each_first f words ok h m in
         let keep = procedures_keep f words ok.names ok.protocols ok.types in
-        subst (λ c. UsesHeld e f.procs q.name.name c (listing q.name.name h)) (sym (tree_at f.tree.nodes h.body))
+        subst (λ c. UsesHeld e f.procs q.name.name c (listing q.name.name h)) (sym (choreography_at f.tree.nodes h.body))
         (block_uses f e differs q.name.name (body_of f h.body) (scope_of_procedure h) (at_procedure h) (keep.bodies h.name.name h is) (procedure_named f words ok h m) (body_keeps f words ok h.name.name h is) (body_there h m) (among_those (λ z. z.name) h.params q i) (listing q.name.name h)
         (head_knows q.name.name h (keep.proper h.name.name h is).sessions (holders_differ h m)))
 
@@ -167,14 +168,14 @@ module _ (f : File) (words : List (List ℕ)) (ok : IsAccepted f words) where
       where
         main : AllByRecursion (StartUses e f.procs a) (starts_in a (body_at f f.body))
         main =
-            subst (λ c. AllByRecursion (StartUses e f.procs a) (starts_in a c)) (sym (tree_at f.tree.nodes f.body))
+            subst (λ c. AllByRecursion (StartUses e f.procs a) (starts_in a c)) (sym (choreography_at f.tree.nodes f.body))
             (starts_use e f differs a known (body_of f f.body) (scope_of_main f) at_main (main_faultless f words ok.names ok.protocols ok.types) (main_named f words ok) (main_keeps f) main_there refl)
 
         body : (h : Proc) → Contains f.procs h → AllByRecursion (StartUses e f.procs a) (starts_in a (body_at f h.body))
         body h m =
             let is = each_first f words ok h m in
             let keep = procedures_keep f words ok.names ok.protocols ok.types in
-            subst (λ c. AllByRecursion (StartUses e f.procs a) (starts_in a c)) (sym (tree_at f.tree.nodes h.body))
+            subst (λ c. AllByRecursion (StartUses e f.procs a) (starts_in a c)) (sym (choreography_at f.tree.nodes h.body))
             (starts_use e f differs a known (body_of f h.body) (scope_of_procedure h) (at_procedure h) (keep.bodies h.name.name h is) (procedure_named f words ok h m) (body_keeps f words ok h.name.name h is) (body_there h m)
             (no_session a known h.sessions (sessions_named f words ok h m)))
 

@@ -20,7 +20,7 @@ use Rattle.typing_rules.specs.After.{after_statement}
 use Rattle.typed_runs.proofs.Small.{both_true}
 use Rattle.typed_sources.proofs.Checked.{some_is}
 use Rattle.typed_sources.proofs.Opened.{IsNamedStart, among_more, eq_flip, holder_other, holder_new}
-use Rattle.typed_sources.proofs.BlockTrees.{node_of, tree_of}
+use Rattle.source_blocks.specs.Blocks.{node_of, choreography_of}
 use Rattle.typed_sources.proofs.Sources.{IsFaultless, scope_with}
 use Rattle.projection.specs.Projects.{start_at, starts_in, serving}
 use Rattle.projection.specs.Renamed.{AreOther}
@@ -62,7 +62,7 @@ module _ (f : File) (a : NameId) (known : is_in (channels_of f) a ≡ true) wher
       go true e = absurd (clash known (ap (is_in (channels_of f)) (sym (same_name k a e)) ∙ off))
 
   -- in a block in whose scope session k is and the channel is not, neither gets in the other's way
-  is_free : (k : NameId) (b : Block) (scope : Scope) → AreNamed f scope b → is_in scope.sessions k ≡ true → is_in scope.sessions a ≡ false → IsFree k.0 a (tree_of b)
+  is_free : (k : NameId) (b : Block) (scope : Scope) → AreNamed f scope b → is_in scope.sessions k ≡ true → is_in scope.sessions a ≡ false → IsFree k.0 a (choreography_of b)
   is_free k (Then place (Starts c s active serve) next) scope n there out = (
     eq_flip s.name.0 k.0 ∙ other_name scope.sessions k s.name there n.0.new,
     no_channel s.name n.0.no_channel,
@@ -123,10 +123,10 @@ module _ (ep : Endpoints) (f : File) (differ : DiffersThere f) (a : NameId) (kno
         back s i = record { role = q.role.name; is = ap (λ x. holder_of now x q.role.name) (sym (same_name k.name s i)) ∙ mine }
 
     start_uses : (next : Block) → IsFaultless f (scope_with scope (Starts c k active serve)) (after_statement f e (Starts c k active serve)) next → AreNamed f (scope_with scope (Starts c k active serve)) next
-        → AreThere f ep (tree_of next) → is_in scope.sessions a ≡ false → StartUses ep f.procs a (record { session = k.name.0; serve = served_of serve; rest = tree_of next })
+        → AreThere f ep (choreography_of next) → is_in scope.sessions a ≡ false → StartUses ep f.procs a (record { session = k.name.0; serve = served_of serve; rest = choreography_of next })
     start_uses next rest m there out = record {
       free = is_free f a known k.name next (scope_with scope (Starts c k active serve)) m here (still_out scope.sessions k.name a out (no_channel f a known k.name n.no_channel));
-      uses = λ r p i. (let q = serving_part r p serve i in subst (λ z. UsesHeld ep f.procs z (tree_of next) (only_in k.name.0)) q.process
+      uses = λ r p i. (let q = serving_part r p serve i in subst (λ z. UsesHeld ep f.procs z (choreography_of next) (only_in k.name.0)) q.process
           (block_uses f ep differ q.part.process.name next (scope_with scope (Starts c k active serve)) (after_statement f e (Starts c k active serve)) rest m
           (statement_owned f scope e t (Starts c k active serve) w h).keeps there (in_scope q.part q.at) (only_in k.name.0) (service_knows q.part q.at)));
     }
@@ -138,16 +138,16 @@ module _ (ep : Endpoints) (f : File) (differ : DiffersThere f) (a : NameId) (kno
         in_scope q i = among_more scope.processes (map (λ z. z.process.name) serve) q.process.name ∙ or_left _ _ (part_in_scope serve q i)
 
   -- In a block without fault after each start of the channel its new processes use its session
-  pub starts_use : (b : Block) (scope : Scope) (e : Environment) → IsFaultless f scope e b → AreNamed f scope b → KeepsOwners scope e → AreThere f ep (tree_of b) → is_in scope.sessions a ≡ false → AllByRecursion (StartUses ep f.procs a) (starts_in a (tree_of b))
+  pub starts_use : (b : Block) (scope : Scope) (e : Environment) → IsFaultless f scope e b → AreNamed f scope b → KeepsOwners scope e → AreThere f ep (choreography_of b) → is_in scope.sessions a ≡ false → AllByRecursion (StartUses ep f.procs a) (starts_in a (choreography_of b))
   starts_use (Then place (Starts c k active serve) next) scope e (names, rule, rest) n t there out =
-      append_all (StartUses ep f.procs a) (start_at a (node_of (Starts c k active serve)) (tree_of next)) (starts_in a (tree_of next)) (here (c.name.0 == a.0))
+      append_all (StartUses ep f.procs a) (start_at a (node_of (Starts c k active serve)) (choreography_of next)) (starts_in a (choreography_of next)) (here (c.name.0 == a.0))
       (starts_use next (scope_with scope (Starts c k active serve)) (after_statement f e (Starts c k active serve)) rest n.1 (statement_owned f scope e t (Starts c k active serve) names rule).keeps (λ d z m. there d z (inr m))
       (still_out scope.sessions k.name a out (no_channel f a known k.name n.0.no_channel)))
     where
-      uses : StartUses ep f.procs a (record { session = k.name.0; serve = served_of serve; rest = tree_of next })
+      uses : StartUses ep f.procs a (record { session = k.name.0; serve = served_of serve; rest = choreography_of next })
       uses = start_uses scope e t c k active serve names n.0 rule next rest n.1 (λ d z m. there d z (inr m)) out
 
-      here : (b : Bool) → AllByRecursion (StartUses ep f.procs a) (if b then record { session = k.name.0; serve = served_of serve; rest = tree_of next } ∷ [] else [])
+      here : (b : Bool) → AllByRecursion (StartUses ep f.procs a) (if b then record { session = k.name.0; serve = served_of serve; rest = choreography_of next } ∷ [] else [])
       here true = (uses, tt)
       here false = tt
   starts_use (Then place (Sends p x q y s) next) scope e (names, rule, rest) n t there out = starts_use next scope (after_statement f e (Sends p x q y s)) rest n.1 (statement_owned f scope e t (Sends p x q y s) names rule).keeps (λ d z m. there d z (inr m)) out
@@ -157,6 +157,6 @@ module _ (ep : Endpoints) (f : File) (differ : DiffersThere f) (a : NameId) (kno
   starts_use (Then place (Asks p y g x z) next) scope e (names, rule, rest) n t there out = starts_use next scope (after_statement f e (Asks p y g x z)) rest n.1 (statement_owned f scope e t (Asks p y g x z) names rule).keeps (λ d z m. there d z (inr m)) out
   starts_use (Then place (Shows p x) next) scope e (names, rule, rest) n t there out = starts_use next scope (after_statement f e (Shows p x)) rest n.1 (statement_owned f scope e t (Shows p x) names rule).keeps (λ d z m. there d z (inr m)) out
   starts_use (Either place p x first second) scope e (names, rule, one, other) n t there out =
-      append_all (StartUses ep f.procs a) (starts_in a (tree_of first)) (starts_in a (tree_of second)) (starts_use first scope e one n.0 t (λ d z m. there d z (inl m)) out) (starts_use second scope e other n.1 t (λ d z m. there d z (inr m)) out)
+      append_all (StartUses ep f.procs a) (starts_in a (choreography_of first)) (starts_in a (choreography_of second)) (starts_use first scope e one n.0 t (λ d z m. there d z (inl m)) out) (starts_use second scope e other n.1 t (λ d z m. there d z (inr m)) out)
   starts_use (Calls place g ps ks) scope e ok n t there out = tt
   starts_use (Ends place) scope e ok n t there out = tt

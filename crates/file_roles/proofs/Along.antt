@@ -30,7 +30,7 @@ use Rattle.typed_runs.proofs.Small.{both_true}
 use Rattle.typed_sources.proofs.Checked.{first_passes, asked, holder_is, some_is}
 use Rattle.typed_sources.proofs.Moved.{passed_other, passed_this, holds_one}
 use Rattle.typed_sources.proofs.Opened.{IsNamedStart, holder_other, holder_new}
-use Rattle.typed_sources.proofs.BlockTrees.{node_of, tree_of}
+use Rattle.source_blocks.specs.Blocks.{node_of, choreography_of}
 use Rattle.typed_sources.proofs.Sources.{NamesKept, IsNamedCall, IsFaultless, scope_with}
 use Rattle.projection.specs.Codes.{is_named, role_in, proc_named, param_for}
 use Rattle.projection_follows.specs.Roles.{Roles, with_role, HoldsRole, GivesAway, roles_sent, roles_gained, TakesPart, HoldsPassed, HoldsPassedFor, HoldsAtCall, HoldsRoles}
@@ -243,9 +243,9 @@ module _ (f : File) (apart : (h : NameId) (p : Proc) → procedure_of f h ≡ So
   there_after scope (Shows q x) i = i
 
   -- Along a block without fault a process in scope holds each role that it plays, where it knows those that it holds at first
-  pub block_holds : (b : Block) (scope : Scope) (e : Environment) → IsFaultless f scope e b → KeepsOwners scope e → is_among scope.processes r ≡ true → (g : Roles) → Knows r g e → HoldsRoles f.procs r (tree_of b) g
+  pub block_holds : (b : Block) (scope : Scope) (e : Environment) → IsFaultless f scope e b → KeepsOwners scope e → is_among scope.processes r ≡ true → (g : Roles) → Knows r g e → HoldsRoles f.procs r (choreography_of b) g
   block_holds (Then place s next) scope e (names, rule, rest) t here g knows =
-      statement_holds f.procs r f scope e t here g knows s (tree_of next) names rule
+      statement_holds f.procs r f scope e t here g knows s (choreography_of next) names rule
       (λ g' k'. block_holds next (scope_with scope s) (after_statement f e s) rest (statement_owned f scope e t s names rule).keeps (there_after scope s here) g' k')
   block_holds (Either place p x first second) scope e (names, rule, one, other) t here g knows = (block_holds first scope e one t here g knows, block_holds second scope e other t here g knows)
   block_holds (Calls place c ps ks) scope e (w, rule) t here g knows = call_holds f.procs r f scope e t here g knows place c ps ks (apart c.name) refl w rule

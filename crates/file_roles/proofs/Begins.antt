@@ -28,7 +28,8 @@ use Rattle.typed_sources.proofs.Checked.{first_passes, asked, some_is}
 use Rattle.typed_sources.proofs.Opened.{IsNamedStart, holder_other, holder_new}
 use Rattle.typed_sources.proofs.Arguments.{owners_of, holder_elsewhere, no_owner}
 use Rattle.typed_sources.specs.Laws.{IsAccepted}
-use Rattle.typed_sources.proofs.BlockTrees.{node_of, tree_of, tree_at}
+use Rattle.source_blocks.specs.Blocks.{node_of, choreography_of}
+use Rattle.source_blocks.proofs.Blocks.{choreography_at}
 use Rattle.typed_sources.proofs.Sources.{NamesKept, IsFaultless, scope_with}
 use Rattle.typed_sources.proofs.Resolved.{both_empty, found_in}
 use Rattle.typed_sources.proofs.Accepted.{main_faultless, procedures_keep, head_fine}
@@ -119,9 +120,9 @@ module _ (f : File) (apart : (h : NameId) (p : Proc) → procedure_of f h ≡ So
       go s a false i h = absurd (clash (t.in_scope s a q.process.name (sym (holder_other e.owners k.name (active ++ serve) s a i) ∙ h)) (none_of scope.processes serve w.new q.process.name (part_among serve q m)))
 
   services_hold_at : (scope : Scope) (e : Environment) → KeepsOwners scope e → (s : Statement) (next : Block) → NamesKept f scope e s → first_failed (statement_checks f e s) ≡ None → IsFaultless f (scope_with scope s) (after_statement f e s) next
-      → ServicesHoldAt f.procs (node_of s) (tree_of next)
+      → ServicesHoldAt f.procs (node_of s) (choreography_of next)
   services_hold_at scope e t (Starts c k active serve) next w h rest =
-      each_holds k.name (tree_of next) serve (λ q m.
+      each_holds k.name (choreography_of next) serve (λ q m.
       block_holds f apart q.process.name next (scope_with scope (Starts c k active serve)) (after_statement f e (Starts c k active serve)) rest (statement_owned f scope e t (Starts c k active serve) w h).keeps
       (behind scope.processes (map (λ z. z.process.name) serve) q.process.name (part_among serve q m))
       (with_role (λ y. None) k.name.0 (Some q.role.name)) (service_knows scope e t c k active serve w h q m))
@@ -133,7 +134,7 @@ module _ (f : File) (apart : (h : NameId) (p : Proc) → procedure_of f h ≡ So
   services_hold_at scope e t (Shows p x) next w h rest = tt
 
   -- In a block without fault each service holds its role after each start
-  services_hold : (b : Block) (scope : Scope) (e : Environment) → IsFaultless f scope e b → KeepsOwners scope e → ServicesHold f.procs (tree_of b)
+  services_hold : (b : Block) (scope : Scope) (e : Environment) → IsFaultless f scope e b → KeepsOwners scope e → ServicesHold f.procs (choreography_of b)
   services_hold (Then place s next) scope e (names, rule, rest) t =
       (services_hold_at scope e t s next names rule rest, services_hold next (scope_with scope s) (after_statement f e s) rest (statement_owned f scope e t s names rule).keeps)
   services_hold (Either place p x first second) scope e (names, rule, one, other) t = (services_hold first scope e one t, services_hold second scope e other t)
@@ -151,7 +152,7 @@ module _ (f : File) (words : List (List ℕ)) (ok : IsAccepted f words) where
 
   main_holds : MainHolds f
   main_holds p w i =
-      subst (λ c. HoldsRoles f.procs w.name c (λ y. None)) (sym (tree_at f.tree.nodes f.body))
+      subst (λ c. HoldsRoles f.procs w.name c (λ y. None)) (sym (choreography_at f.tree.nodes f.body))
       (block_holds f apart w.name (body_of f f.body) (scope_of_main f) at_main (main_faultless f words ok.names ok.protocols ok.types) (main_keeps f) (process_among f.processes p w i) (λ y. None) (λ k a h. absurd (nothing h)))
     where
       nothing : {q : NameId} → None ≡ Some q → ⊥
@@ -162,18 +163,18 @@ module _ (f : File) (words : List (List ℕ)) (ok : IsAccepted f words) where
       let is = named_there h x i in
       let keep = procedures_keep f words ok.names ok.protocols ok.types in
       let m = found_in (λ z. z.name) f.procs h x is in
-      subst (λ c. HoldsRoles f.procs p c (roles_of p x.sessions)) (sym (tree_at f.tree.nodes x.body))
+      subst (λ c. HoldsRoles f.procs p c (roles_of p x.sessions)) (sym (choreography_at f.tree.nodes x.body))
       (block_holds f apart p (body_of f x.body) (scope_of_procedure x) (at_procedure x) (keep.bodies h x is) (body_keeps f words ok h x is) (has_among p (params_of x) j) (roles_of p x.sessions)
       (λ k a t. head_knows x.sessions (keep.proper h x is).sessions (head_fine f words ok.names ok.protocols ok.types x m) p k a t))
 
   main_services : ServicesHold f.procs (body_at f f.body)
-  main_services = subst (ServicesHold f.procs) (sym (tree_at f.tree.nodes f.body)) (services_hold f apart (body_of f f.body) (scope_of_main f) at_main (main_faultless f words ok.names ok.protocols ok.types) (main_keeps f))
+  main_services = subst (ServicesHold f.procs) (sym (choreography_at f.tree.nodes f.body)) (services_hold f apart (body_of f f.body) (scope_of_main f) at_main (main_faultless f words ok.names ok.protocols ok.types) (main_keeps f))
 
   procedure_services : AllServicesHold f
   procedure_services h x i =
       let is = named_there h x i in
       let keep = procedures_keep f words ok.names ok.protocols ok.types in
-      subst (ServicesHold f.procs) (sym (tree_at f.tree.nodes x.body)) (services_hold f apart (body_of f x.body) (scope_of_procedure x) (at_procedure x) (keep.bodies h x is) (body_keeps f words ok h x is))
+      subst (ServicesHold f.procs) (sym (choreography_at f.tree.nodes x.body)) (services_hold f apart (body_of f x.body) (scope_of_procedure x) (at_procedure x) (keep.bodies h x is) (body_keeps f words ok h x is))
 
   -- Everybody holds its roles
   pub holds_its_roles : HoldsItsRoles f

@@ -23,7 +23,8 @@ use Rattle.typed_sources.specs.Stands.{holder_at}
 use Rattle.typed_sources.proofs.Arguments.{named, owners_of, standings_of, holder_elsewhere, no_owner}
 use Rattle.typed_sources.proofs.Begins.{IsProper}
 use Rattle.typed_sources.specs.Laws.{IsAccepted}
-use Rattle.typed_sources.proofs.BlockTrees.{tree_of, tree_at}
+use Rattle.source_blocks.specs.Blocks.{choreography_of}
+use Rattle.source_blocks.proofs.Blocks.{choreography_at}
 use Rattle.typed_sources.proofs.Resolved.{both_empty, each_empty, found_in}
 use Rattle.typed_sources.proofs.ProcedureHeads.{is_known}
 use Rattle.typed_sources.proofs.Sources.{ProceduresFit}
@@ -182,7 +183,7 @@ module _ (f : File) (words : List (List ℕ)) (ok : IsAccepted f words) where
   -- In main whoever uses a role is its holder
   pub main_held : (y : ℕ) (r : NameId) → HoldersFit (lists_of f) (Named y 0) r (tree_in (trees_of f.tree.nodes) f.body) None
   main_held y r =
-      subst (λ c. HoldersFit (lists_of f) (Named y 0) r c None) (sym (tree_at f.tree.nodes f.body))
+      subst (λ c. HoldersFit (lists_of f) (Named y 0) r c None) (sym (choreography_at f.tree.nodes f.body))
       (block_owned f y r (body_of f f.body) (scope_of_main f) at_main (main_faultless f words ok.names ok.protocols ok.types) (main_keeps f))
 
   -- and in each body, where the listed parameters hold their roles at first
@@ -192,4 +193,4 @@ module _ (f : File) (words : List (List ℕ)) (ok : IsAccepted f words) where
       let there = block_owned f y r (body_of f p.proc.body) (scope_of_procedure p.proc) (at_procedure p.proc) (keep.bodies h p.proc p.is) (body_keeps h p.proc p.is) in
       subst (λ (z : Procedure). HoldersFit (lists_of f) (Named y 0) r z.body (declared_holder (lists_of f h) z.params 0 z.sessions y r)) p.same
       (subst (HoldersFit (lists_of f) (Named y 0) r (tree_in (trees_of f.tree.nodes) p.proc.body)) (sym (begins_same h p.proc p.is y r))
-      (subst (λ c. HoldersFit (lists_of f) (Named y 0) r c (holder_in (at_procedure p.proc).owners y r)) (sym (tree_at f.tree.nodes p.proc.body)) there))
+      (subst (λ c. HoldersFit (lists_of f) (Named y 0) r c (holder_in (at_procedure p.proc).owners y r)) (sym (choreography_at f.tree.nodes p.proc.body)) there))

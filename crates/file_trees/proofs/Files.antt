@@ -25,7 +25,8 @@ use Rattle.typing_rules.specs.Environment.{at_main, at_procedure}
 use Rattle.typed_runs.proofs.Small.{both_true}
 use Rattle.typed_sources.proofs.Calls.{all_of}
 use Rattle.typed_sources.specs.Laws.{IsAccepted}
-use Rattle.typed_sources.proofs.BlockTrees.{tree_of, tree_at}
+use Rattle.source_blocks.specs.Blocks.{choreography_of}
+use Rattle.source_blocks.proofs.Blocks.{choreography_at}
 use Rattle.typed_sources.proofs.Resolved.{both_empty, each_empty, found_in, is_named_there}
 use Rattle.typed_sources.proofs.ProcedureHeads.{no_fault_at, not_true, is_known, all_apart, names_append, names_map}
 use Rattle.typed_sources.proofs.Accepted.{good, main_faultless, procedures_keep, procedures_fine, channels_fine, declared, bodies_there, procs_there, less}
@@ -165,9 +166,9 @@ module _ (f : File) (words : List (List ℕ)) (ok : IsAccepted f words) where
     pub main_fits : AreWanted wanted f (tree_in (trees_of f.tree.nodes) f.body)
         → IsWellFormed (channels_from wanted f) (procedures_of f) (declared_scope (map (λ p. p.name) f.processes) []) (tree_in (trees_of f.tree.nodes) f.body)
     main_fits want =
-        subst (IsWellFormed (channels_from wanted f) (procedures_of f) (declared_scope (map (λ p. p.name) f.processes) [])) (sym (tree_at f.tree.nodes f.body))
+        subst (IsWellFormed (channels_from wanted f) (procedures_of f) (declared_scope (map (λ p. p.name) f.processes) [])) (sym (choreography_at f.tree.nodes f.body))
         (block_fits f (good f words ok.names ok.protocols ok.types) wanted (body_of f f.body) (scope_of_main f) at_main (main_faultless f words ok.names ok.protocols ok.types) main_named (main_keeps f)
-        (declared_scope (map (λ p. p.name) f.processes) []) (alike_first (names_in f.processes) []) (subst (AreWanted wanted f) (tree_at f.tree.nodes f.body) want))
+        (declared_scope (map (λ p. p.name) f.processes) []) (alike_first (names_in f.processes) []) (subst (AreWanted wanted f) (choreography_at f.tree.nodes f.body) want))
 
     -- Each procedure is well formed
     pub all_fit : ((p : Proc) → Contains f.procs p → AreWanted wanted f (tree_in (trees_of f.tree.nodes) p.body)) → AllFit (channels_from wanted f) (procedures_of f)
@@ -183,7 +184,7 @@ module _ (f : File) (words : List (List ℕ)) (ok : IsAccepted f words) where
             record {
               params = distinct_refs (map (λ q. q.name.name) p.params) (params_apart p m);
               sessions = distinct_refs (map (λ k. k.name.name) p.sessions) (keep.proper h p is).sessions;
-              body = subst (IsWellFormed (channels_from wanted f) (procedures_of f) sc) (sym (tree_at f.tree.nodes p.body))
+              body = subst (IsWellFormed (channels_from wanted f) (procedures_of f) sc) (sym (choreography_at f.tree.nodes p.body))
                   (block_fits f (good f words ok.names ok.protocols ok.types) wanted (body_of f p.body) (scope_of_procedure p) (at_procedure p) (keep.bodies h p is) (procedure_named p m) (body_keeps f words ok h p is)
-                  sc (alike_first (map (λ q. q.name.name) p.params) (map (λ k. k.name.name) p.sessions)) (subst (AreWanted wanted f) (tree_at f.tree.nodes p.body) (want p m)));
+                  sc (alike_first (map (λ q. q.name.name) p.params) (map (λ k. k.name.name) p.sessions)) (subst (AreWanted wanted f) (choreography_at f.tree.nodes p.body) (want p m)));
             }

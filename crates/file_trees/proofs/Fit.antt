@@ -34,7 +34,7 @@ use Rattle.typed_sources.proofs.Checked.{first_passes, asked, holder_is, has_ste
 use Rattle.typed_sources.proofs.Moved.{at_is}
 use Rattle.typed_sources.proofs.Statements.{ProtocolsFit, is_own}
 use Rattle.typed_sources.proofs.Opened.{IsNamedStart}
-use Rattle.typed_sources.proofs.BlockTrees.{node_of, tree_of}
+use Rattle.source_blocks.specs.Blocks.{node_of, choreography_of}
 use Rattle.typed_sources.proofs.Sources.{IsIn, NamesKept, IsNamedCall, IsFaultless, scope_with, named_same}
 use Rattle.typed_sources.proofs.ProcedureHeads.{no_fault_at, not_true}
 use Rattle.file_trees.proofs.Owned.{KeepsOwners, two_parties, statement_owned}
@@ -161,7 +161,7 @@ module _ (f : File) (good : ProtocolsFit f) (wanted : Service → Bool) where
         let v1 = first_passes (has_sort u) (ask (is_sort sort.Int s && is_sort sort.Int u) T3 ∷ []) v0.1 in
         (in_process p w, (plain_checked x (e.sorts p.name) v0.0, plain_checked z (e.sorts p.name) v1.0))
 
-    statement_fits : (s : Statement) → NamesKept f scope e s → SessionsKept f scope s → first_failed (statement_checks f e s) ≡ None → (next : Block) → AreWanted wanted f (tree_of (Then nowhere s next)) → NodeFits ks sc (node_of s)
+    statement_fits : (s : Statement) → NamesKept f scope e s → SessionsKept f scope s → first_failed (statement_checks f e s) ≡ None → (next : Block) → AreWanted wanted f (choreography_of (Then nowhere s next)) → NodeFits ks sc (node_of s)
     statement_fits (Starts c k active serve) w m h next want = start_fits c k active serve w m h (λ s i. want c.name s (inl refl) i)
     statement_fits (Sends a x b y k) w m h next want = value_fits a b x y k w m h
     statement_fits (Selects a b k l) w m h next want = label_fits a b k l w m h
@@ -195,8 +195,8 @@ module _ (f : File) (good : ProtocolsFit f) (wanted : Service → Bool) where
   -- ---- blocks
 
   -- The choreography of a block without fault is well formed
-  pub block_fits : (b : Block) (scope : Scope) (e : Environment) → IsFaultless f scope e b → AreNamed f scope b → KeepsOwners scope e → (sc : RunScope) → Alike sc scope → AreWanted wanted f (tree_of b)
-      → IsWellFormed ks (procedures_of f) sc (tree_of b)
+  pub block_fits : (b : Block) (scope : Scope) (e : Environment) → IsFaultless f scope e b → AreNamed f scope b → KeepsOwners scope e → (sc : RunScope) → Alike sc scope → AreWanted wanted f (choreography_of b)
+      → IsWellFormed ks (procedures_of f) sc (choreography_of b)
   block_fits (Then place s next) scope e (names, rule, rest) m t sc al want = (
     statement_fits scope e t sc al s names m.0 rule next want,
     block_fits next (scope_with scope s) (after_statement f e s) rest m.1 (statement_owned f scope e t s names rule).keeps (run_scope_after sc (node_of s)) (alike_after sc scope al s) (λ c z i. want c z (inr i)),

@@ -22,7 +22,8 @@ use Rattle.typing_rules.specs.After.{after_statement}
 use Rattle.typed_sources.proofs.Opened.{AreNew}
 use Rattle.typed_sources.proofs.Arguments.{named}
 use Rattle.typed_sources.specs.Laws.{IsAccepted}
-use Rattle.typed_sources.proofs.BlockTrees.{node_of, tree_of, tree_at}
+use Rattle.source_blocks.specs.Blocks.{node_of, choreography_of}
+use Rattle.source_blocks.proofs.Blocks.{choreography_at}
 use Rattle.typed_sources.proofs.Sources.{NamesKept, IsFaultless, scope_with}
 use Rattle.typed_sources.proofs.Accepted.{procedures_keep}
 use Rattle.typed_sources.proofs.Scopes.{among_front}
@@ -62,7 +63,7 @@ module _ (p : NameId) where
   in_scope_after scope (Shows q x) i = i
 
   -- Where no call is a fault, the choreography is guarded
-  block_guarded : (f : File) (b : Block) (scope : Scope) (e : Environment) → IsFaultless f scope e b → is_among scope.processes p ≡ true → ((x : Fault) → IsUnguardedCall p x b → ⊥) → IsGuardedFor (Named p.0 0) (tree_of b)
+  block_guarded : (f : File) (b : Block) (scope : Scope) (e : Environment) → IsFaultless f scope e b → is_among scope.processes p ≡ true → ((x : Fault) → IsUnguardedCall p x b → ⊥) → IsGuardedFor (Named p.0 0) (choreography_of b)
   block_guarded f (Then place s next) scope e (names, rule, rest) i none = λ h.
       block_guarded f next (scope_with scope s) (after_statement f e s) rest (in_scope_after scope s i) (λ x u. none x (further (not_named f scope e s names i h) (only next []) u))
   block_guarded f (Either place q y first second) scope e (names, rule, one, rest) i none = λ h.
@@ -86,6 +87,6 @@ param_among (z ∷ zs) q (suc j, l, e) = or_rights (z.name.name.0 == q.name.name
 pub all_guarded : (f : File) (words : List (List ℕ)) → IsAccepted f words → IsGuarded f → (p : Proc) → Contains f.procs p → (q : ProcParam) → Contains p.params q → IsGuardedFor (Named q.name.name.0 0) (tree_in (trees_of f.tree.nodes) p.body)
 all_guarded f words ok guarded p there q m =
     let keep = procedures_keep f words ok.names ok.protocols ok.types in
-    subst (IsGuardedFor (Named q.name.name.0 0)) (sym (tree_at f.tree.nodes p.body))
+    subst (IsGuardedFor (Named q.name.name.0 0)) (sym (choreography_at f.tree.nodes p.body))
     (block_guarded q.name.name f (body_of f p.body) (scope_of_procedure p) (at_procedure p) (keep.bodies p.name.name p (each_first f words ok p there)) (param_among p.params q m)
     (λ x u. guarded x (record { procedure = p; param = q; is_declared = there; is_param = m; is_call = u })))

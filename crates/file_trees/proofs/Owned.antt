@@ -33,7 +33,7 @@ use Rattle.typed_sources.proofs.Moved.{at_same, at_is, passed_other, passed_this
 use Rattle.typed_sources.proofs.Opened.{IsNamedStart, eq_flip, holder_other, holder_new, parts_same, first_of_parts}
 use Rattle.typed_sources.proofs.Arguments.{named}
 use Rattle.typed_sources.proofs.Calls.{all_of}
-use Rattle.typed_sources.proofs.BlockTrees.{node_of, tree_of}
+use Rattle.source_blocks.specs.Blocks.{node_of, choreography_of}
 use Rattle.typed_sources.proofs.Sources.{NamesKept, IsNamedCall, IsFaultless, IsIn, scope_with}
 use Rattle.file_trees.specs.Lists.{one_more, place_of, listed_for, place_for, listed_in, listed_by, lists_of}
 use Rattle.typed_sources.proofs.Opened.{not_is}
@@ -252,10 +252,10 @@ module _ (f : File) (e : Environment) where
 
 module _ (f : File) (y : ℕ) (r : NameId) where
   -- In a block without fault whoever uses a role is its holder
-  pub block_owned : (b : Block) (scope : Scope) (e : Environment) → IsFaultless f scope e b → KeepsOwners scope e → HoldersFit (lists_of f) (Named y 0) r (tree_of b) (holder_in e.owners y r)
+  pub block_owned : (b : Block) (scope : Scope) (e : Environment) → IsFaultless f scope e b → KeepsOwners scope e → HoldersFit (lists_of f) (Named y 0) r (choreography_of b) (holder_in e.owners y r)
   block_owned (Then place s next) scope e (names, rule, rest) t =
       let g = statement_owned f scope e t s names rule in
-      (g.fits y r, subst (HoldersFit (lists_of f) (Named y 0) r (tree_of next)) (sym (g.same y r)) (block_owned next (scope_with scope s) (after_statement f e s) rest g.keeps))
+      (g.fits y r, subst (HoldersFit (lists_of f) (Named y 0) r (choreography_of next)) (sym (g.same y r)) (block_owned next (scope_with scope s) (after_statement f e s) rest g.keeps))
   block_owned (Either place p x first second) scope e (names, rule, one, other) t = (block_owned first scope e one t, block_owned second scope e other t)
   block_owned (Calls place g ps ks) scope e (w, rule) t = call_owned f e y r place scope g ps ks w rule
   block_owned (Ends place) scope e rule t = tt

@@ -3,6 +3,7 @@ use Rattle.std.proofs.Common.{◌≡◌, ◌<◌, ℕ, zero, suc, Bool, true, Li
 use Rattle.std.specs.Prelude.{All, slice_get}
 use Rattle.std.proofs.lemmas.List.{map-append}
 use Rattle.std.proofs.lemmas.List.Elements.{All-nil, All-cons, All-head, All-tail, All-map}
+use Rattle.node_table.proofs.Tables.{trees_alike, trees_map}
 use Rattle.chor_base.specs.declared.names.NameId.{NameId}
 use Rattle.endpoint_reader.specs.declared.node.Action.{Action}
 use Rattle.endpoint_reader.specs.declared.node.Action.TheVariants as deed
@@ -17,7 +18,7 @@ use Rattle.endpoint_code.specs.declared.endpoints.Endpoints.{Endpoints}
 use Rattle.endpoint_code.specs.Code.{children_of, IsClosed}
 use Rattle.endpoint_code.specs.Kept.{has_name, has_text, node_there}
 use Rattle.endpoint_code.specs.Trees as tree
-use Rattle.endpoint_names.specs.Bodies.{Body, line_body, grown}
+use Rattle.endpoint_names.specs.Bodies.{Body, line_body, bodies_of}
 use Rattle.endpoint_names.specs.Faults.{names_in}
 use Rattle.endpoint_making.specs.Codes.{code_id, action_of, code_of, pairs_of, action_there, line_there}
 use Rattle.endpoint_making.specs.Making.{channel_made, procedure_made, service_made, process_made, AreNumbered, IsMadeOf}
@@ -103,12 +104,8 @@ node_is_there n t line.End = refl
 
 -- ---- tables
 
-all_trees : (bs : List Body) (ls : List Line) → tree.grown (map code_of bs) (map node ls) ≡ map code_of (grown bs ls)
-all_trees bs [] = refl
-all_trees bs (l ∷ ls) =
-    let one : map code_of bs ++ tree.node_tree (map code_of bs) (node l) ∷ [] ≡ map code_of (bs ++ line_body bs l ∷ []) =
-    ap (λ c. map code_of bs ++ c ∷ []) (line_tree bs l) ∙ sym (map-append code_of bs (line_body bs l ∷ [])) in
-    ap (λ ts. tree.grown ts (map node ls)) one ∙ all_trees (bs ++ line_body bs l ∷ []) ls
+all_trees : (ls : List Line) → tree.trees_of (map node ls) ≡ map code_of (bodies_of ls)
+all_trees ls = trees_map tree.node_tree node ls ∙ trees_alike line_body (λ ts l. tree.node_tree ts (node l)) code_of line_tree ls
 
 count_map : {X Y : Type 0} (f : X → Y) (xs : List X) → length (map f xs) ≡ length xs
 count_map f [] = refl
@@ -154,4 +151,4 @@ made w names texts numbered =
       inside = whole_inside w nodes cs ps ss qs refl refl refl refl (count_map node ls);
       numbered = whole_numbered w nodes cs ps ss qs refl refl refl refl names texts numbered there;
     } in
-    (e, record { names_are = refl; texts_are = refl; channels = refl; procedures = refl; services = refl; processes = refl; code = all_trees [] ls })
+    (e, record { names_are = refl; texts_are = refl; channels = refl; procedures = refl; services = refl; processes = refl; code = all_trees ls })

@@ -4,6 +4,7 @@ use Rattle.std.specs.Prelude.{All, Contains, slice_get, slice_index_or, bytes_eq
 use Rattle.std.specs.List.{AllZip, list_any}
 use Rattle.std.proofs.lemmas.List.Elements.{All-nil, All-cons, All-head, All-tail, All-contains}
 use Rattle.std.proofs.lemmas.Option.{slice_get_within, slice_get-get_or, get_or_from_slice_get}
+use Rattle.node_table.proofs.Tables.{trees_all}
 use Rattle.chor_base.specs.declared.names.NameId.{NameId}
 use Rattle.endpoint_code.specs.declared.code.CodeId.{CodeId}
 use Rattle.endpoint_code.specs.declared.code.CodeNode.{CodeNode}
@@ -15,7 +16,7 @@ use Rattle.endpoint_code.specs.declared.endpoints.Endpoints.{Endpoints}
 use Rattle.endpoint_code.specs.Code.{children_of}
 use Rattle.endpoint_code.specs.Faults.{asks_known, AsksKnown, is_listed}
 use Rattle.endpoint_code.specs.Labels.{ArmIsIn, here, there}
-use Rattle.endpoint_code.specs.Trees.{Action, Asks, CodeTree, Does, Offers, Tests, Calls, Ends, Arms, NoArms, Arm, arms_in, tree_in, node_tree, grown, trees_of, code_at}
+use Rattle.endpoint_code.specs.Trees.{Action, Asks, CodeTree, Does, Offers, Tests, Calls, Ends, Arms, NoArms, Arm, arms_in, tree_in, node_tree, trees_of, code_at}
 use Rattle.endpoint_code.proofs.CodeTables.{code_at-node}
 use Rattle.same_programs.specs.Words.{SameName, SameText}
 use Rattle.same_programs.specs.Codes.{SameAction, joins, sends, receives, selects, gives, gains, sets, shows, asks, SameCode, does, offers, tests, calls, ends, SameArms, no_arm, one_arm}
@@ -49,17 +50,8 @@ module _ (known : NameId → Bool) where
   node_asks ts s (Call f p ss) h = tt
   node_asks ts s End h = tt
 
-  one_more : (ts : List CodeTree) (q : CodeTree) → AllAsk ts → AsksTree known q → AllAsk (ts ++ q ∷ [])
-  one_more [] q s h zero = h
-  one_more [] q s h (suc i) = tt
-  one_more (x ∷ ts) q s h zero = s zero
-  one_more (x ∷ ts) q s h (suc i) = one_more ts q (λ j. s (suc j)) h i
-
-  grown_asks : (nodes : List CodeNode) → All (λ n. asks_known known n ≡ true) nodes → (ts : List CodeTree) → AllAsk ts → AllAsk (grown ts nodes)
-  grown_asks [] h ts s = s
-  grown_asks (n ∷ nodes) h ts s =
-      grown_asks nodes (All-tail (λ m. asks_known known m ≡ true) n nodes h) (ts ++ node_tree ts n ∷ [])
-      (one_more ts (node_tree ts n) s (node_asks ts s n (All-head (λ m. asks_known known m ≡ true) n nodes h)))
+  all_ask : (nodes : List CodeNode) → All (λ n. asks_known known n ≡ true) nodes → AllAsk (trees_of nodes)
+  all_ask nodes h = trees_all node_tree Ends (λ n. asks_known known n ≡ true) (AsksTree known) tt node_asks nodes h
 
   -- ---- and back
 
@@ -184,4 +176,4 @@ copy_asks words e e' c used h =
         (get_or_from_slice_get e.names f.0 i.word [] i.here ∙ sym (get_or_from_slice_get e'.names g.0 i.word [] i.there))
 
     trees : (id : CodeId) → AsksTree (is_listed words e) (code_at e.code.nodes id)
-    trees id = grown_asks (is_listed words e) e.code.nodes h [] (λ i. tt) id.0
+    trees id = all_ask (is_listed words e) e.code.nodes h id.0

@@ -6,6 +6,7 @@ use Rattle.std.proofs.lemmas.Bool.{and_parts}
 use Rattle.std.proofs.lemmas.Bool.Decides.{nat_tests}
 use Rattle.std.proofs.lemmas.List.Elements.{All-head, All-tail}
 use Rattle.std.proofs.lemmas.Option.{slice_get-get_or}
+use Rattle.node_table.proofs.Tables.{trees_all}
 use Rattle.chor_base.specs.declared.names.NameId.{NameId}
 use Rattle.chor_base.specs.declared.value.Value.{Value}
 use Rattle.chor_base.specs.declared.value.Value.TheVariants.{Int, Bool as Truth, Text, Part}
@@ -20,7 +21,7 @@ use Rattle.endpoint_code.specs.declared.endpoints.Process.{Process}
 use Rattle.endpoint_code.specs.declared.endpoints.Endpoints.{Endpoints}
 use Rattle.endpoint_code.specs.Kept.{has_name, has_text, value_there, term_there, node_there, channel_there, procedure_there, service_there}
 use Rattle.endpoint_code.specs.Labels.{here}
-use Rattle.endpoint_code.specs.Trees.{CodeTree, Ends, arms_in, node_tree, grown}
+use Rattle.endpoint_code.specs.Trees.{CodeTree, Ends, arms_in, node_tree, trees_of}
 use Rattle.same_programs.specs.Words.{IsSameWord, SameName, SameText}
 use Rattle.same_programs.specs.Codes.{SameValue, number, truth, text, SameTerm, constant, variable, unary, binary, joins, sends, receives, selects, gives, gains, sets, shows, asks, SameCode, does, offers, tests, calls, ends, SameArms, no_arm, one_arm}
 use Rattle.same_programs.specs.Programs.{SameCodeAt, SameChannel, SameProcedure, SameService, SameProcess, SamePrograms}
@@ -80,17 +81,8 @@ module _ (n : NameId → Bool) (t : ℕ → Bool) (N : NameId → NameId → Typ
   node_self ts s (Call f p ss) h = let b = and_parts _ _ h in let a = and_parts _ _ b.0 in calls (name f a.0) (name p a.1) (names_self ss b.1)
   node_self ts s End h = ends
 
-  one_more : (ts : List CodeTree) (q : CodeTree) → AreSelves ts → SameCode N T q q → AreSelves (ts ++ q ∷ [])
-  one_more [] q s c zero = c
-  one_more [] q s c (suc i) = ends
-  one_more (x ∷ ts) q s c zero = s zero
-  one_more (x ∷ ts) q s c (suc i) = one_more ts q (λ j. s (suc j)) c i
-
-  grown_self : (nodes : List CodeNode) → All (λ o. node_there n t o ≡ true) nodes → (ts : List CodeTree) → AreSelves ts → AreSelves (grown ts nodes)
-  grown_self [] h ts s = s
-  grown_self (o ∷ nodes) h ts s =
-      grown_self nodes (All-tail (λ o. node_there n t o ≡ true) o nodes h) (ts ++ node_tree ts o ∷ [])
-      (one_more ts (node_tree ts o) s (node_self ts s o (All-head (λ o. node_there n t o ≡ true) o nodes h)))
+  all_selves : (nodes : List CodeNode) → All (λ o. node_there n t o ≡ true) nodes → AreSelves (trees_of nodes)
+  all_selves nodes h = trees_all node_tree Ends (λ o. node_there n t o ≡ true) (λ q. SameCode N T q q) ends node_self nodes h
 
 module _ (e : Endpoints) where
   abbrev there : NameId → Bool
@@ -103,7 +95,7 @@ module _ (e : Endpoints) where
   all_self xs h = names_self (has_name e.names) (has_text e.texts) (SameName e e) (SameText e e) name_self (λ i k. word_self e.texts i k) xs h
 
   body_self : (id : CodeId) → SameCodeAt e e id id
-  body_self id = grown_self (has_name e.names) (has_text e.texts) (SameName e e) (SameText e e) name_self (λ i k. word_self e.texts i k) e.code.nodes e.numbered.in_nodes [] (λ i. ends) id.0
+  body_self id = all_selves (has_name e.names) (has_text e.texts) (SameName e e) (SameText e e) name_self (λ i k. word_self e.texts i k) e.code.nodes e.numbered.in_nodes id.0
 
   pub programs_self : SamePrograms e e
   programs_self = record {

@@ -1,13 +1,13 @@
 -- The choreography that begins at a node is that of the block there.
 use Rattle.std.proofs.Common.{◌≡◌, ℕ, zero, suc, List, [], ◌∷◌, ◌++◌, map, refl, sym, ap, ◌∙◌}
 use Rattle.std.specs.Prelude.{slice_index_or}
-use Rattle.std.proofs.lemmas.List.{map-append}
+use Rattle.node_table.proofs.Tables.{trees_alike}
 use Rattle.chor_base.specs.declared.rule.Place.{Place}
 use Rattle.chor_tree.specs.declared.tree.NodeId.{NodeId}
 use Rattle.chor_tree.specs.declared.tree.Node.{Node}
 use Rattle.chor_tree.specs.declared.tree.Form.{Form}
 use Rattle.chor_tree.specs.declared.tree.Form.TheVariants.{Start, Value, Label, Give, Set, Host, Show, If, Call, End}
-use Rattle.chor_tree.specs.Source.{Block, Ends, nowhere, block_in, block_of, grown, blocks_of}
+use Rattle.chor_tree.specs.Source.{Block, Ends, nowhere, block_in, block_of, node_block, blocks_of}
 use Rattle.chor_semantics.specs.Choreography.{Choreography}
 use Rattle.chor_semantics.specs.Sources as tree
 use Rattle.source_blocks.specs.Blocks.{choreography_of}
@@ -35,12 +35,10 @@ of_form bs p (If q e first second) = let f = in_table bs first in let g = in_tab
 of_form bs p (Call f ps ss) = refl
 of_form bs p End = refl
 
-all_grown : (ns : List Node) (bs : List Block) → all (grown bs ns) ≡ tree.grown (all bs) ns
-all_grown [] bs = refl
-all_grown (n ∷ ns) bs =
-    let b = block_of bs n.place n.form in
-    all_grown ns (bs ++ b ∷ [])
-    ∙ ap (λ ts. tree.grown ts ns) (map-append choreography_of bs (b ∷ []) ∙ ap (λ t. all bs ++ t ∷ []) (of_form bs n.place n.form))
-
 pub block_choreography : (nodes : List Node) (id : NodeId) → choreography_of (block_in (blocks_of nodes) id) ≡ tree.tree_in (tree.trees_of nodes) id
-block_choreography nodes id = in_table (blocks_of nodes) id ∙ ap (λ ts. tree.tree_in ts id) (all_grown nodes [])
+block_choreography nodes id =
+    let alike = trees_alike node_block tree.node_tree choreography_of (λ bs n. sym (of_form bs n.place n.form)) nodes in
+    in_table (blocks_of nodes) id ∙ ap (λ ts. tree.tree_in ts id) (sym alike)
+
+pub choreography_at : (nodes : List Node) (id : NodeId) → tree.tree_in (tree.trees_of nodes) id ≡ choreography_of (block_in (blocks_of nodes) id)
+choreography_at nodes id = sym (block_choreography nodes id)

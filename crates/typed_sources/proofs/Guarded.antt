@@ -15,7 +15,8 @@ use Rattle.typing_rules.specs.Guarded.{IsUnguardedCall, here, IsGuarded}
 use Rattle.well_formed.proofs.References.{true_eq, same_name}
 use Rattle.typed_runs.proofs.Small.{both_true}
 use Rattle.conforming_runs.specs.Going.{IsNoCall}
-use Rattle.typed_sources.proofs.BlockTrees.{tree_of, tree_at}
+use Rattle.source_blocks.specs.Blocks.{choreography_of}
+use Rattle.source_blocks.proofs.Blocks.{choreography_at}
 use Rattle.typed_sources.proofs.Sources.{IsFaultless}
 use Rattle.typed_sources.proofs.Resolved.{found_in}
 
@@ -30,7 +31,7 @@ param_there (q ∷ qs) x h = go (q.name.name.0 == x.0) refl h (param_there qs x)
     go false i j ih = let w = ih j in (w.0, (suc w.1.0, (let l : w.1.0 < length qs = w.1.1 in omega (arith, l)), w.1.2), w.2)
 
 module _ (f : File) (guarded : IsGuarded f) where
-  no_call : (p : Proc) → Contains f.procs p → (b : Block) → body_of f p.body ≡ b → IsFaultless f (scope_of_procedure p) (at_procedure p) b → IsNoCall (tree_of b)
+  no_call : (p : Proc) → Contains f.procs p → (b : Block) → body_of f p.body ≡ b → IsFaultless f (scope_of_procedure p) (at_procedure p) b → IsNoCall (choreography_of b)
   no_call p m (Then place s next) is ok = tt
   no_call p m (Either place q x first second) is ok = tt
   no_call p m (Calls place g [] ks) is ok = tt
@@ -41,4 +42,4 @@ module _ (f : File) (guarded : IsGuarded f) where
   no_call p m (Ends place) is ok = tt
 
   pub bodies_guarded : ((h : NameId) (p : Proc) → procedure_of f h ≡ Some p → IsFaultless f (scope_of_procedure p) (at_procedure p) (body_of f p.body)) → (h : NameId) (p : Proc) → procedure_of f h ≡ Some p → IsNoCall (tree_in (trees_of f.tree.nodes) p.body)
-  bodies_guarded ok h p is = subst IsNoCall (sym (tree_at f.tree.nodes p.body)) (no_call p (found_in (λ q. q.name) f.procs h p is) (body_of f p.body) refl (ok h p is))
+  bodies_guarded ok h p is = subst IsNoCall (sym (choreography_at f.tree.nodes p.body)) (no_call p (found_in (λ q. q.name) f.procs h p is) (body_of f p.body) refl (ok h p is))

@@ -10,7 +10,6 @@ pub mod Bodies
 pub mod Arguments
 pub mod Begins
 pub mod Narrowed
-pub mod BlockTrees
 pub mod Sources
 pub mod Mains
 pub mod Resolved

@@ -23,7 +23,8 @@ use Rattle.typed_sources.proofs.Instances.{Deep}
 use Rattle.typed_sources.proofs.Bodies.{IsTypedThere, instance_typed}
 use Rattle.typed_sources.proofs.Arguments.{named}
 use Rattle.typed_sources.proofs.Sources.{IsFaultless, block_typed}
-use Rattle.typed_sources.proofs.BlockTrees.{tree_of, tree_at}
+use Rattle.source_blocks.specs.Blocks.{choreography_of}
+use Rattle.source_blocks.proofs.Blocks.{choreography_at}
 
 -- ---- calls
 
@@ -160,5 +161,5 @@ module _ (f : File) where
   main_typed good ok =
       let both = block_typed f good (body_of f f.body) (scope_of_main f) at_main ok (source_context f.processes) first_stands in
       let start = instance_of 0 (numbered 0 f.processes) (λ y. Named y 0) in
-      subst (IsTypedThere f (first_context (length f.processes))) (ap start (sym (tree_at f.tree.nodes f.body)))
-      (instance_typed f 0 (numbered 0 f.processes) (λ y. Named y 0) (source_context f.processes) (first_context (length f.processes)) first_names first_deep first_held (tree_of (body_of f f.body)) both.0 both.1)
+      subst (IsTypedThere f (first_context (length f.processes))) (ap start (sym (choreography_at f.tree.nodes f.body)))
+      (instance_typed f 0 (numbered 0 f.processes) (λ y. Named y 0) (source_context f.processes) (first_context (length f.processes)) first_names first_deep first_held (choreography_of (body_of f f.body)) both.0 both.1)

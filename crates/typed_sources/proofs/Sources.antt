@@ -26,7 +26,8 @@ use Rattle.typed_sources.proofs.Calls.{call_goes}
 use Rattle.typed_sources.proofs.Instances.{IsFlat}
 use Rattle.typed_sources.proofs.Bodies.{IsTypedThere, instance_typed}
 use Rattle.typed_sources.proofs.Begins.{IsProper, base, base_names, base_deep, base_held, base_stands}
-use Rattle.typed_sources.proofs.BlockTrees.{node_of, tree_of, tree_at}
+use Rattle.source_blocks.specs.Blocks.{node_of, choreography_of}
+use Rattle.source_blocks.proofs.Blocks.{choreography_at}
 
 -- what a call's names keep
 pub record IsNamedCall (f : File) (scope : Scope) (g : Written) (ps ks : List Written) : Type 0 where
@@ -96,11 +97,11 @@ module _ (f : File) (good : ProtocolsFit f) where
   flat_more (Shows p x) r i = i
 
   -- The choreography of a block without fault is typed
-  pub block_typed : (b : Block) (scope : Scope) (e : Environment) → IsFaultless f scope e b → (d : Context) → Stands f scope e d → Both d (tree_of b)
+  pub block_typed : (b : Block) (scope : Scope) (e : Environment) → IsFaultless f scope e b → (d : Context) → Stands f scope e d → Both d (choreography_of b)
   block_typed (Then place s next) scope e (names, rule, rest) d t =
       let w = statement_typed scope e d t s names rule in
       let r = block_typed next (scope_with scope s) (after_statement f e s) rest (after (kind_in f) d (node_of s)) w.stands in
-      (flat_more s (tree_of next) r.0, (w.known, w.typed, r.1))
+      (flat_more s (choreography_of next) r.0, (w.known, w.typed, r.1))
   block_typed (Either place p x first second) scope e (names, rule, one, other) d t =
       let r = block_typed first scope e one d t in
       let s = block_typed second scope e other d t in
@@ -129,10 +130,10 @@ module _ (f : File) (good : ProtocolsFit f) where
   body_typed keep e h k ps ss c is w =
       let proper = keep.proper h w.procedure w.is in
       let both = block_typed (block_at f w.procedure.body) (scope_of_procedure w.procedure) (at_procedure w.procedure) (keep.bodies h w.procedure w.is) (base f e h k ps ss w proper) (base_stands f e h k ps ss w proper) in
-      let tree = tree_of (block_at f w.procedure.body) in
+      let tree = choreography_of (block_at f w.procedure.body) in
       let inst = instance_of (suc k) (bound_all (suc k) (map (λ q. q.name.name) w.procedure.params) ps) (bound_all (suc k) (map (λ q. q.name.name) w.procedure.sessions) ss) in
       let at = ap (λ o. body_of o k ps ss) (sym (named_same f.tree.nodes f.procs h w.procedure w.is)) ∙ is in
-      let same : inst tree ≡ c = ap inst (sym (tree_at f.tree.nodes w.procedure.body)) ∙ some_is at in
+      let same : inst tree ≡ c = ap inst (sym (choreography_at f.tree.nodes w.procedure.body)) ∙ some_is at in
       subst (IsTypedThere f e) same
       (instance_typed f (suc k) (bound_all (suc k) (map (λ q. q.name.name) w.procedure.params) ps) (bound_all (suc k) (map (λ q. q.name.name) w.procedure.sessions) ss)
       (base f e h k ps ss w proper) e (base_names f e h k ps ss w proper) (base_deep f e h k ps ss w proper) (base_held f e h k ps ss w proper) tree both.0 both.1)
