@@ -1,6 +1,7 @@
 -- A run of the network after which each process has ended is one of the choreography after which nothing is left to happen.
 use Rattle.std.proofs.Common.{◌≡◌, ◌≤◌, ℕ, zero, suc, List, [], ◌∷◌, length, sym, ap, ◌∙◌, Some, Option, true}
 use Rattle.std.specs.Prelude.{slice_get}
+use Rattle.std.proofs.lemmas.Bool.{and_parts}
 use Rattle.chor_base.specs.declared.names.NameId.{NameId}
 use Rattle.chor_base.specs.declared.event.Event.{Event}
 use Rattle.chor_base.specs.Meaning.{Hosts}
@@ -13,7 +14,6 @@ use Rattle.endpoint_code.specs.Network.{Machine, NetworkState, first_state, chan
 use Rattle.endpoint_code.specs.NetworkRuns.{IsNetworkRun, has_ended, all_ended}
 use Rattle.well_formed.specs.Linear.{ParameterSets}
 use Rattle.well_formed.specs.Holders.{ListedHolders}
-use Rattle.typed_runs.proofs.Small.{both_true}
 use Rattle.typed_sources.proofs.Checked.{some_is}
 use Rattle.both_ways.specs.Premises.{Realizes}
 use Rattle.both_ways.proofs.FromSources.{all_bodies, bodies_renamed}
@@ -24,8 +24,8 @@ use Rattle.both_ways.proofs.Ended.{ended_terminated}
 
 each_ended : (e : Endpoints) (ms : List Machine) → all_ended e ms ≡ true → (p : ℕ) (m : Machine) → slice_get ms p ≡ Some m → has_ended e m ≡ true
 each_ended e [] h p m i = absurd cc
-each_ended e (x ∷ xs) h zero m i = ap (has_ended e) (sym (some_is x m i)) ∙ (both_true _ _ h).0
-each_ended e (x ∷ xs) h (suc p) m i = each_ended e xs (both_true _ _ h).1 p m i
+each_ended e (x ∷ xs) h zero m i = ap (has_ended e) (sym (some_is x m i)) ∙ (and_parts _ _ h).0
+each_ended e (x ∷ xs) h (suc p) m i = each_ended e xs (and_parts _ _ h).1 p m i
 
 pub ended_run : (f : File) (e : Endpoints) (sets : NameId → ParameterSets) (lists : ListedHolders) → Realizes e f sets lists → (hosts : Hosts) (cap : Option ℕ) (h : List Event) (last : NetworkState)
     → ((a : NameId) (k : Channel) → channel_of e.channels a ≡ Some k → 1 ≤ length k.active) → IsNetworkRun e hosts cap h last → all_ended e last.machines ≡ true → IsEndedRun f hosts cap h

@@ -2,7 +2,7 @@
 use Rattle.std.proofs.Common.{◌≡◌, ◌<◌, ◌==◌, ℕ, zero, suc, Bool, true, false, List, [], ◌∷◌, map, length, refl, sym, subst, Some, if◌then◌else◌, arith}
 use Rattle.std.specs.Prelude.{Contains, slice_get, bytes_eq, not, nat_lt}
 use Rattle.std.specs.List.{list_any, list_all}
-use Rattle.std.proofs.lemmas.Bool.{ltb-true}
+use Rattle.std.proofs.lemmas.Bool.{ltb-true, and_parts}
 use Rattle.std.proofs.lemmas.Option.{slice_get-get_or}
 use Rattle.chor_base.specs.declared.names.NameId.{NameId}
 use Rattle.chor_base.specs.declared.fault.Fault.{Fault}
@@ -28,7 +28,6 @@ use Rattle.chor_semantics.specs.Steps.{procedure_named}
 use Rattle.source_blocks.specs.Blocks.{choreography_of}
 use Rattle.source_blocks.proofs.Blocks.{block_choreography}
 use Rattle.well_formed.specs.Asked.{CanAnswer, AllAsked, IsAnswered}
-use Rattle.typed_runs.proofs.Small.{both_true}
 use Rattle.typed_sources.proofs.Calls.{all_of}
 use Rattle.typed_sources.proofs.Resolved.{no_items, both_empty}
 use Rattle.typed_sources.proofs.ProcedureHeads.{no_fault_at}
@@ -78,14 +77,14 @@ module _ (f : File) (functions : List Function) (distinct : AllDistinct f.names)
   at_node scope p (form.Give a b k given next) there h rest = rest next (only next [])
   at_node scope p (form.Set q y x next) there h rest = rest next (only next [])
   at_node scope p (form.Host q y g x z next) there h rest =
-      (known g (both_true _ _ (both_true _ _ (both_true _ _ there).0).0).1 (both_empty (unknown_process scope q) (unknown_function f words g) h).1, rest next (only next []))
+      (known g (and_parts _ _ (and_parts _ _ (and_parts _ _ there).0).0).1 (both_empty (unknown_process scope q) (unknown_function f words g) h).1, rest next (only next []))
   at_node scope p (form.Show q x next) there h rest = rest next (only next [])
   at_node scope p (form.If q x first second) there h rest = (rest first (only first (second ∷ [])), rest second (other first second []))
   at_node scope p (form.Call g ps ks) there h rest = tt
   at_node scope p form.End there h rest = tt
 
   nodes_there : list_all (λ (o : Node). form_there (has_name f.names) (has_text f.texts) o.form) f.tree.nodes ≡ true
-  nodes_there = (both_true _ _ f.kept.numbered).1
+  nodes_there = (and_parts _ _ f.kept.numbered).1
 
   body_answered : (fuel : ℕ) (scope : Scope) (id : NodeId) → id.0 < fuel → id.0 < length f.tree.nodes → ((x : Fault) → IsBodyFault f words x scope id → ⊥) → Answered (body_of f id)
   body_answered zero scope id l there clean = absurd (omega (arith, l))
@@ -108,7 +107,7 @@ module _ (f : File) (functions : List Function) (distinct : AllDistinct f.names)
       → (x : NameId) (p : Procedure) → procedure_named (map (procedure_from f.tree.nodes) hs) x ≡ Some p → AllAsked (CanAnswer hosts) p.body
   procedure_answered [] there clean x p is = absurd cc
   procedure_answered (h ∷ hs) there clean x p is =
-      let t = both_true _ _ there in
+      let t = and_parts _ _ there in
       go (h.name.name.0 == x.0) is (tree_answered (scope_of_procedure h) h.body t.0 (clean h (only h hs)))
       (procedure_answered hs t.1 (λ q m. clean q (suc m.0, (let k : m.0 < length hs = m.1 in omega (arith, k)), m.2)) x p)
     where
@@ -119,7 +118,7 @@ module _ (f : File) (functions : List Function) (distinct : AllDistinct f.names)
 
   pub file_answered : ((x : Fault) → IsNameFault f words x → ⊥) → IsAnswered f hosts
   file_answered clean =
-      let b = both_true _ _ f.kept.begin in
+      let b = and_parts _ _ f.kept.begin in
       record {
         main = tree_answered (scope_of_main f) f.body b.0 (λ x h. clean x (in_main h));
         procedures = procedure_answered f.procs b.1 (λ p m x h. clean x (in_a_procedure m h));

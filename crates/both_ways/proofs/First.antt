@@ -4,6 +4,7 @@ use Rattle.std.specs.Prelude.{map, slice_get}
 use Rattle.std.proofs.lemmas.Bool.Decides.{nat_tests}
 use Rattle.std.proofs.lemmas.List.{length-map}
 use Rattle.std.specs.FinMap as fin
+use Rattle.std.proofs.lemmas.Bool.{eqb-true, eqb-false}
 use Rattle.chor_base.specs.declared.names.NameId.{NameId}
 use Rattle.chor_tree.specs.declared.file.File.{File}
 use Rattle.chor_tree.specs.declared.file.Named.{Named as Written}
@@ -20,7 +21,7 @@ use Rattle.correspondence.specs.Corresponds.{session_map, live_scope, Correspond
 use Rattle.well_formed.proofs.References.{clash, differ_ref, self_ref}
 use Rattle.correspondence.proofs.Alone.{plain_empty}
 use Rattle.both_ways.proofs.OwnedInstances.{owned_instance, never_instance}
-use Rattle.well_formed.proofs.Instances.{same_named, Stands, number, not_number, fits_instance}
+use Rattle.well_formed.proofs.Instances.{same_named, Stands, fits_instance}
 use Rattle.well_formed.proofs.InstancesLinear.{linear_instance}
 use Rattle.well_formed.proofs.InstancesGuarded.{source_empty}
 use Rattle.both_ways.specs.Premises.{Begins}
@@ -50,14 +51,14 @@ numbered_in n (p ∷ ps) y h = go (p.name.0 == y) refl (numbered_in (suc n) ps y
 
     go : (b : Bool) → (p.name.0 == y) ≡ b → (among (Named y 0) (names_in_scope (map (λ p. p.name) ps)) ≡ true → (i : ℕ) × (numbered (suc n) ps y ≡ Live (suc n + i)) × (i < length ps)) → (i : ℕ) × ((if b then Live n else numbered (suc n) ps y) ≡ Live (n + i)) × (i < suc (length ps))
     go true e ih = (0, ap Live (sum0 n), pos' (length ps))
-    go false e ih = let z = ih (other (ref_eq (Named y 0) (Named p.name.0 0)) (differ_ref (Named y 0) (Named p.name.0 0) (λ v. not_number p.name.0 y e (sym (plain v)))) h) in (suc z.0, z.1 ∙ ap Live (sum1 n z.0), less z.0 (length ps) z.2)
+    go false e ih = let z = ih (other (ref_eq (Named y 0) (Named p.name.0 0)) (differ_ref (Named y 0) (Named p.name.0 0) (λ v. eqb-false p.name.0 y e (sym (plain v)))) h) in (suc z.0, z.1 ∙ ap Live (sum1 n z.0), less z.0 (length ps) z.2)
 
 pub numbered_apart : (n : ℕ) (ps : List Written) (x y : ℕ) → among (Named x 0) (names_in_scope (map (λ p. p.name) ps)) ≡ true → among (Named y 0) (names_in_scope (map (λ p. p.name) ps)) ≡ true → (x == y) ≡ false → ref_eq (numbered n ps x) (numbered n ps y) ≡ false
 numbered_apart n [] x y h k e = absurd cc
 numbered_apart n (p ∷ ps) x y h k e = go (p.name.0 == x) refl (p.name.0 == y) refl (numbered_apart (suc n) ps x y)
   where
     rest : (w : ℕ) → (p.name.0 == w) ≡ false → among (Named w 0) (names_in_scope (map (λ p. p.name) (p ∷ ps))) ≡ true → among (Named w 0) (names_in_scope (map (λ p. p.name) ps)) ≡ true
-    rest w i j = other (ref_eq (Named w 0) (Named p.name.0 0)) (differ_ref (Named w 0) (Named p.name.0 0) (λ v. not_number p.name.0 w i (sym (plain v)))) j
+    rest w i j = other (ref_eq (Named w 0) (Named p.name.0 0)) (differ_ref (Named w 0) (Named p.name.0 0) (λ v. eqb-false p.name.0 w i (sym (plain v)))) j
       where
         plain : Named w 0 ≡ Named p.name.0 0 → w ≡ p.name.0
         plain v = cc
@@ -76,7 +77,7 @@ numbered_apart n (p ∷ ps) x y h k e = go (p.name.0 == x) refl (p.name.0 == y) 
     flip a b h = differ_ref b a (λ v. clash (ap (ref_eq a) v ∙ self_ref a) h)
 
     go : (a : Bool) → (p.name.0 == x) ≡ a → (b : Bool) → (p.name.0 == y) ≡ b → (among (Named x 0) (names_in_scope (map (λ p. p.name) ps)) ≡ true → among (Named y 0) (names_in_scope (map (λ p. p.name) ps)) ≡ true → (x == y) ≡ false → ref_eq (numbered (suc n) ps x) (numbered (suc n) ps y) ≡ false) → ref_eq (if a then Live n else numbered (suc n) ps x) (if b then Live n else numbered (suc n) ps y) ≡ false
-    go true i true j ih = absurd (not_number x y e (sym (number p.name.0 x i) ∙ number p.name.0 y j))
+    go true i true j ih = absurd (eqb-false x y e (sym (eqb-true p.name.0 x i) ∙ eqb-true p.name.0 y j))
     go true i false j ih = later y (rest y j k) (numbered (suc n) ps y) refl
     go false i true j ih = flip (Live n) (numbered (suc n) ps x) (later x (rest x i h) (numbered (suc n) ps x) refl)
     go false i false j ih = ih (rest x i h) (rest y j k) e

@@ -1,6 +1,7 @@
 -- What a source keeps, the bodies of its calls keep; and a renamed call's body is the renamed body.
 use Rattle.std.proofs.Common.{◌≡◌, inl, ℕ, suc, ◌≤◌, Bool, true, false, List, [], ◌∷◌, length, Option, Some, None, refl, sym, ap, ◌∙◌, subst, if◌then◌else◌, ◌==◌, ◌||◌}
 use Rattle.std.specs.Prelude.{map}
+use Rattle.std.proofs.lemmas.Bool.{eqb-false}
 use Rattle.chor_base.specs.declared.names.NameId.{NameId}
 use Rattle.chor_base.specs.Events.{Triple}
 use Rattle.chor_semantics.specs.Choreography.{Ref, Live, Named, ref_eq, among, Content, OfValue, OfLabel, OfPart, Starts, Communicates, InTransit, Alone, Choreography, Then, Either, Calls, Ends, put, put_content, put_part, bound, bound_served, named_by, instance_of}
@@ -20,7 +21,7 @@ use Rattle.well_formed.specs.SourceTrees.{IsName, AreNames, AreParts, IsContent,
 use Rattle.well_formed.proofs.References.{differ_ref, clash}
 use Rattle.starts.proofs.Renamed.{put_body, BodiesRenamed}
 use Rattle.both_ways.proofs.OwnedBodies.{owned_bodies}
-use Rattle.well_formed.proofs.Instances.{not_number, arg_among, called, body_is, fit_bodies, none_deeper}
+use Rattle.well_formed.proofs.Instances.{arg_among, called, body_is, fit_bodies, none_deeper}
 use Rattle.well_formed.proofs.InstancesGuarded.{absent_instance, source_empty, guarded_instance}
 use Rattle.well_formed.proofs.InstancesLinear.{linear_instance, given_args, given_names}
 use Rattle.both_ways.specs.Premises.{IsSound}
@@ -35,7 +36,7 @@ module _ (ks : List Channel) (procs : List Procedure) (f g : Ref → Ref) (d : �
   after_more h fixed F F' bs0 y a x k = go (y == x) refl
     where
       rest : (y == x) ≡ false → among (Named x 0) bs0 ≡ true
-      rest e = other (ref_eq (Named x 0) (Named y 0)) (differ_ref (Named x 0) (Named y 0) (λ v. not_number y x e (sym (plain v)))) k
+      rest e = other (ref_eq (Named x 0) (Named y 0)) (differ_ref (Named x 0) (Named y 0) (λ v. eqb-false y x e (sym (plain v)))) k
         where
           plain : Named x 0 ≡ Named y 0 → x ≡ y
           plain v = cc
@@ -115,7 +116,7 @@ args_put dd f (y ∷ xs) (r ∷ rs) x l h = go (y.0 == x) refl (args_put dd f xs
 
     go : (b : Bool) → (y.0 == x) ≡ b → (among (Named x 0) (names_in_scope xs) ≡ true → bound_all dd xs (map f rs) x ≡ f (bound_all dd xs rs x)) → (if b then f r else bound_all dd xs (map f rs) x) ≡ f (if b then r else bound_all dd xs rs x)
     go true e ih = refl
-    go false e ih = ih (other (ref_eq (Named x 0) (Named y.0 0)) (differ_ref (Named x 0) (Named y.0 0) (λ z. not_number y.0 x e (sym (plain z)))) h)
+    go false e ih = ih (other (ref_eq (Named x 0) (Named y.0 0)) (differ_ref (Named x 0) (Named y.0 0) (λ z. eqb-false y.0 x e (sym (plain z)))) h)
 
 pub bodies_renamed : (ks : List Channel) (procs : List Procedure) → AllSources procs → AllFit ks procs → BodiesRenamed ks procs
 bodies_renamed ks procs sources fit f g sc sc' r s h d ps ss w = go (procedure_named procs h) refl

@@ -1,6 +1,7 @@
 -- Whoever uses a role in the body of a call is its holder.
 use Rattle.std.proofs.Common.{◌≡◌, inr, ℕ, zero, suc, Bool, true, false, List, [], ◌∷◌, Option, Some, None, refl, sym, ap, ◌∙◌, subst, if◌then◌else◌, ◌==◌, ◌&&◌}
 use Rattle.std.specs.Prelude.{slice_get}
+use Rattle.std.proofs.lemmas.Bool.{eqb-true}
 use Rattle.chor_base.specs.declared.names.NameId.{NameId}
 use Rattle.chor_semantics.specs.Choreography.{Ref, Live, Named, ref_eq, among, Choreography, instance_of}
 use Rattle.chor_semantics.specs.Sources.{Procedure}
@@ -10,7 +11,7 @@ use Rattle.well_formed.specs.WellFormed.{Scope, IsIn, AreNoDeeper, names_in_scop
 use Rattle.well_formed.specs.Holders.{named_param, listed_param, declared_holder, ListsFit, AllHoldersFit, ListedHolders, PassedHeld, HoldersFit}
 use Rattle.well_formed.specs.SourceTrees.{AllSources}
 use Rattle.well_formed.proofs.References.{or_left, or_rights, clash, self_ref, differ_ref}
-use Rattle.well_formed.proofs.Instances.{number, called, Called, arg_among, in_list, none_deeper}
+use Rattle.well_formed.proofs.Instances.{called, Called, arg_among, in_list, none_deeper}
 use Rattle.both_ways.proofs.OwnedInstances.{SameName, SameFresh, NameInHolder, owned_instance, never_instance, passed_at, none_declared}
 
 module _ (ks : List Channel) (procs : List Procedure) (lists : ListedHolders) (sources : AllSources procs) (fit : AllFit ks procs) (fits : ListsFit lists procs) (owned : AllHoldersFit lists procs) where
@@ -57,7 +58,7 @@ module _ (ks : List Channel) (procs : List Procedure) (lists : ListedHolders) (s
           same y known is z k = go (y == z) refl
             where
               go : (v : Bool) → (y == z) ≡ v → ref_eq u (bound_all (suc d) i.procedure.sessions ss z) ≡ (y == z)
-              go true q = ap (λ w. ref_eq w (bound_all (suc d) i.procedure.sessions ss z)) (sym is) ∙ ap (λ w. ref_eq (bound_all (suc d) i.procedure.sessions ss w) (bound_all (suc d) i.procedure.sessions ss z)) (number y z q) ∙ self_ref (bound_all (suc d) i.procedure.sessions ss z) ∙ sym q
+              go true q = ap (λ w. ref_eq w (bound_all (suc d) i.procedure.sessions ss z)) (sym is) ∙ ap (λ w. ref_eq (bound_all (suc d) i.procedure.sessions ss w) (bound_all (suc d) i.procedure.sessions ss z)) (eqb-true y z q) ∙ self_ref (bound_all (suc d) i.procedure.sessions ss z) ∙ sym q
               go false q = ap (λ w. ref_eq w (bound_all (suc d) i.procedure.sessions ss z)) (sym is) ∙ i.sessions.apart y z known k q ∙ sym q
 
           fresh : (y : ℕ) → among (Named y 0) (names_in_scope i.procedure.sessions) ≡ true → SameFresh (suc d) (names_in_scope i.procedure.sessions) u y
@@ -65,7 +66,7 @@ module _ (ks : List Channel) (procs : List Procedure) (lists : ListedHolders) (s
             where
               differ : (v : Bool) → (y == z) ≡ v → (y == z) ≡ false
               differ false q = q
-              differ true q = absurd (clash (ap (λ t. among (Named t 0) (names_in_scope i.procedure.sessions)) (sym (number y z q)) ∙ known) k)
+              differ true q = absurd (clash (ap (λ t. among (Named t 0) (names_in_scope i.procedure.sessions)) (sym (eqb-true y z q)) ∙ known) k)
       by false e = other u refl
         where
           -- a parameter stands for what is passed
@@ -95,14 +96,14 @@ module _ (ks : List Channel) (procs : List Procedure) (lists : ListedHolders) (s
                     where
                       differ : (y : Bool) → (x == z) ≡ y → (x == z) ≡ false
                       differ false q = q
-                      differ true q = absurd (clash (ap (λ y. among (Named y 0) (names_in_scope i.procedure.sessions)) (sym (number x z q)) ∙ t) k)
+                      differ true q = absurd (clash (ap (λ y. among (Named y 0) (names_in_scope i.procedure.sessions)) (sym (eqb-true x z q)) ∙ t) k)
               go false t true v =
                   owned_instance (suc d) lists ks procs r u x (λ g p k m j z. fits g p k m r j z) (bound_all (suc d) i.procedure.params ps) (bound_all (suc d) i.procedure.sessions ss) (names_in_scope i.procedure.params) (names_in_scope i.procedure.sessions)
                   (λ z k. never z k ∙ sym (differ z k (x == z) refl)) (λ z k. ap (λ y. ref_eq y (Named z (suc d))) q ∙ bound_here z) i.procedure.body (sources f i.procedure i.declared) (fit f i.procedure i.declared).body (declared_holder (lists f) i.procedure.params 0 i.procedure.sessions x r) o (name_in (lists f) i.procedure.params 0 i.procedure.sessions x r d u) (inr (none_declared (lists f) i.procedure.params r x 0 i.procedure.sessions t)) (owned f i.procedure i.declared x r)
                 where
                   differ : (z : ℕ) → among (Named z 0) (names_in_scope i.procedure.sessions) ≡ true → (y : Bool) → (x == z) ≡ y → (x == z) ≡ false
                   differ z k false q = q
-                  differ z k true q = absurd (clash (ap (λ y. among (Named y 0) (names_in_scope i.procedure.sessions)) (number x z q) ∙ k) t)
+                  differ z k true q = absurd (clash (ap (λ y. among (Named y 0) (names_in_scope i.procedure.sessions)) (eqb-true x z q) ∙ k) t)
 
                   bound_here : (z : ℕ) → ((x == z) && (n == suc d)) ≡ (x == z)
                   bound_here z = ap (λ y. (x == z) && y) v ∙ all (x == z)

@@ -1,6 +1,7 @@
 -- Whoever uses a role in a source is its holder; so it is in an instance.
 use Rattle.std.proofs.Common.{◌≡◌, ◌⊎◌, inl, inr, ℕ, zero, suc, ◌<◌, Bool, true, false, List, [], ◌∷◌, ◌++◌, length, Option, Some, None, refl, sym, ap, ◌∙◌, subst, if◌then◌else◌, ◌==◌, ◌||◌, ◌&&◌, arith}
 use Rattle.std.specs.Prelude.{map, slice_get}
+use Rattle.std.proofs.lemmas.Bool.{eqb-true, eqb-false}
 use Rattle.chor_base.specs.declared.names.NameId.{NameId}
 use Rattle.chor_semantics.specs.Choreography.{Ref, Live, Named, ref_eq, among, Content, OfValue, OfLabel, OfPart, Starts, Communicates, InTransit, Alone, Choreography, Then, Either, Calls, Ends, put_content, put_part, bound, bound_served, named_by, instance_of}
 use Rattle.chor_semantics.specs.Sources.{Procedure}
@@ -11,7 +12,7 @@ use Rattle.well_formed.specs.Holders.{named_param, listed_param, declared_holder
 use Rattle.well_formed.specs.SourceTrees.{IsName, AreNames, AreParts, IsContent, IsSource}
 use Rattle.well_formed.proofs.References.{left_or, right_or, or_left, or_rights, clash, self_ref, same_ref, differ_ref, true_eq}
 use Rattle.starts.proofs.Roles.{put_holder}
-use Rattle.well_formed.proofs.Instances.{number, not_number, same_named}
+use Rattle.well_formed.proofs.Instances.{same_named}
 use Rattle.well_formed.proofs.InstancesLinear.{old_name}
 
 -- a source's session name and what stands for it: y is, among names, what u is among what stands for them
@@ -55,14 +56,14 @@ module _ (d : ℕ) (lists : ListedHolders) (ks : List Channel) (procs : List Pro
       plain v = cc
 
       rest : (k == z) ≡ false → among (Named z 0) bs0 ≡ true
-      rest e = other (ref_eq (Named z 0) (Named k 0)) (differ_ref (Named z 0) (Named k 0) (λ v. not_number k z e (sym (plain v)))) h
+      rest e = other (ref_eq (Named z 0) (Named k 0)) (differ_ref (Named z 0) (Named k 0) (λ v. eqb-false k z e (sym (plain v)))) h
         where
           other : (b : Bool) → b ≡ false → (b || among (Named z 0) bs0) ≡ true → among (Named z 0) bs0 ≡ true
           other false i j = j
           other true i j = absurd cc
 
       go : (b : Bool) → (k == z) ≡ b → ref_eq u (if b then Named k d else G z) ≡ (y == z)
-      go true e = f k fresh ∙ ap (λ v. y == v) (number k z e)
+      go true e = f k fresh ∙ ap (λ v. y == v) (eqb-true k z e)
       go false e = j z (rest e)
 
   more_fresh : (bs0 : List Ref) (k : ℕ) → SameFresh d bs0 u y → SameFresh d (Named k 0 ∷ bs0) u y
@@ -221,7 +222,7 @@ module _ (d : ℕ) (lists : ListedHolders) (ks : List Channel) (procs : List Pro
       plain v = cc
 
       rest : (k == z) ≡ false → among (Named z 0) bs0 ≡ true
-      rest e = other (ref_eq (Named z 0) (Named k 0)) (differ_ref (Named z 0) (Named k 0) (λ v. not_number k z e (sym (plain v)))) h
+      rest e = other (ref_eq (Named z 0) (Named k 0)) (differ_ref (Named z 0) (Named k 0) (λ v. eqb-false k z e (sym (plain v)))) h
         where
           other : (b : Bool) → b ≡ false → (b || among (Named z 0) bs0) ≡ true → among (Named z 0) bs0 ≡ true
           other false i j = j
@@ -272,7 +273,7 @@ argument_at dd (z ∷ xs) (q ∷ rs) (suc j) x l t h =
 
     off : (b : Bool) → (z.0 == x.0) ≡ b → (z.0 == x.0) ≡ false
     off false e = e
-    off true e = absurd (clash (ap (λ w. among (Named w 0) (names_in_scope xs)) (number z.0 x.0 e) ∙ listed xs j h) t.0)
+    off true e = absurd (clash (ap (λ w. among (Named w 0) (names_in_scope xs)) (eqb-true z.0 x.0 e) ∙ listed xs j h) t.0)
 
 listed_holder : (dd : ℕ) → (xs : List NameId) (ps : List Ref) → length ps ≡ length xs → AreDistinctRefs (names_in_scope xs) → (x : Option ℕ) (o : Option Ref) → HeldBy x ps o → HolderIs (bound_all dd xs ps) (listed_param xs x) o
 listed_holder dd xs ps l t None o h = inr refl
@@ -316,7 +317,7 @@ passed_at dd ls xs ps l t r u o i (z ∷ zs) (s ∷ ss) m n h k = go (ref_eq u s
       where
         differ : (x : ℕ) (b : Bool) → (z.0 == x) ≡ b → among (Named x 0) (names_in_scope zs) ≡ true → (z.0 == x) ≡ false
         differ x false e j = e
-        differ x true e j = absurd (clash (ap (λ w. among (Named w 0) (names_in_scope zs)) (number z.0 x e) ∙ j) n.0)
+        differ x true e j = absurd (clash (ap (λ w. among (Named w 0) (names_in_scope zs)) (eqb-true z.0 x e) ∙ j) n.0)
 
 pub none_declared : (ls : ℕ → NameId → Option ℕ) (xs : List NameId) (r : NameId) (y : ℕ) (i : ℕ) (zs : List NameId) → among (Named y 0) (names_in_scope zs) ≡ false → declared_holder ls xs i zs y r ≡ None
 none_declared ls xs r y i [] h = refl
@@ -324,4 +325,4 @@ none_declared ls xs r y i (z ∷ zs) h = ap (λ b. if b then listed_param xs (ls
   where
     off : (b : Bool) → (z.0 == y) ≡ b → (z.0 == y) ≡ false
     off false e = e
-    off true e = absurd (clash (ap (λ w. ref_eq (Named w 0) (Named z.0 0)) (sym (number z.0 y e)) ∙ self_ref (Named z.0 0)) (left_or _ _ h))
+    off true e = absurd (clash (ap (λ w. ref_eq (Named w 0) (Named z.0 0)) (sym (eqb-true z.0 y e)) ∙ self_ref (Named z.0 0)) (left_or _ _ h))

@@ -2,6 +2,7 @@
 use Rattle.std.proofs.Common.{◌≡◌, ℕ, suc, ◌≤◌, ◌+◌, List, [], ◌∷◌, ◌++◌, map, length, refl, sym, ap, ◌∙◌, subst, Some, None, Option, Bool, true, false, ◌==◌, ◌||◌, inl, inr, arith, length-append, if◌then◌else◌}
 use Rattle.std.proofs.Math.ListN.{get_or-append}
 use Rattle.std.specs.FinMap as fin
+use Rattle.std.proofs.lemmas.Bool.{eqb-true}
 use Rattle.chor_base.specs.declared.names.NameId.{NameId}
 use Rattle.chor_base.specs.declared.value.Sort.{Sort}
 use Rattle.chor_base.specs.declared.value.Value.TheVariants.{Int, Bool as Truth, Text, Part as Endpoint}
@@ -24,7 +25,6 @@ use Rattle.typed_runs.specs.Told.{Told, of_sort, of_label, of_endpoint, puts, ge
 use Rattle.typed_runs.specs.Typing.{HasProtocol, AllKnown, AtCalls, IsTypedIn, AllEnded, HasEnded, Reaches, IsOnOnePath}
 use Rattle.typed_runs.specs.Changes.{Change, changed, change_of, event_acts, load_hand, lives, started, IsChangeBy, HoldersInScope}
 use Rattle.typed_runs.proofs.SortedValues.{Agrees}
-use Rattle.typed_runs.proofs.Small.{eq_same}
 use Rattle.typed_runs.proofs.StepsKept.{is_start, kept, change_same}
 use Rattle.typed_runs.proofs.OnePath.{one_path}
 use Rattle.typed_starts.specs.Renames.{Renames, Stays}
@@ -42,7 +42,7 @@ module _ (m : Ref → Bool) (n : ℕ) (off : m (Live n) ≡ false) where
     where
       go : (b : Bool) → (p.1 == n) ≡ b → fresh_vars (ps ++ rest) n ≡ fresh_vars rest n → (if b then fin.empty ∷ fresh_vars (ps ++ rest) (suc n) else fresh_vars (ps ++ rest) n) ≡ fresh_vars rest n
       go false i ih = ih
-      go true i ih = absurd (not_both (m (Live n)) (subst (λ x. m (Live x) ≡ true) (eq_same p.1 n i) a.0) off)
+      go true i ih = absurd (not_both (m (Live n)) (subst (λ x. m (Live x) ≡ true) (eqb-true p.1 n i) a.0) off)
 
 fresh_new : (serve : List (ℕ × NameId)) (n : ℕ) → length (fresh_vars (new_parts serve n) n) ≡ length serve
 fresh_new [] n = refl
@@ -54,7 +54,7 @@ later_new (s ∷ ss) n m l = go (m == n) refl (later_new ss (suc n) m (omega (ar
   where
     go : (b : Bool) → (m == n) ≡ b → among (Live m) (pids (new_parts ss (suc n))) ≡ false → (b || among (Live m) (pids (new_parts ss (suc n)))) ≡ false
     go false i k = k
-    go true i k = let e = eq_same m n i in absurd (omega (arith, l, e))
+    go true i k = let e = eqb-true m n i in absurd (omega (arith, l, e))
 
 later_known : (k : Ref → Bool) (m : ℕ) → k (Live m) ≡ false → (ps : List (NameId × ℕ)) → AllKnown k (pids ps) → among (Live m) (pids ps) ≡ false
 later_known k m off [] a = refl

@@ -6,6 +6,7 @@ use Rattle.std.proofs.lemmas.Cmp.{nat_cmp_total}
 use Rattle.std.specs.Prelude.{slice_set}
 use Rattle.std.specs.Ordering.{eq_by_cmp, nat_cmp}
 use Rattle.std.specs.FinMap as fin
+use Rattle.std.proofs.lemmas.Bool.{eqb-true}
 use Rattle.chor_base.specs.declared.names.NameId.{NameId}
 use Rattle.chor_base.specs.declared.value.Sort.{Sort}
 use Rattle.chor_base.specs.declared.value.Value.{Value}
@@ -22,7 +23,7 @@ use Rattle.typed_runs.specs.Typing.{HasProtocol}
 use Rattle.typed_runs.specs.Changes.{Change, changed, effect_setting, IsHandBy, IsSettingBy, IsChangeBy, HoldersInScope, NumbersAreNew}
 use Rattle.typed_runs.proofs.SortedValues.{Agrees}
 use Rattle.typed_runs.proofs.PastNodes.{role_same, setting_out}
-use Rattle.typed_runs.proofs.Small.{eq_same, on_or_off}
+use Rattle.typed_runs.proofs.Small.{on_or_off}
 use Rattle.typed_runs.proofs.StepsKept.{is_start}
 use Rattle.typed_starts.proofs.Started.{some_same, not_both}
 
@@ -41,7 +42,7 @@ none_some o h i = cc
 -- ---- variables
 
 vars_same : (vars : List Variables) (p q : ℕ) (m : Variables) → p < length vars → (q == p) ≡ true → vars_of (slice_set vars p m) q ≡ m
-vars_same vars p q m l h = ap (vars_of (slice_set vars p m)) (eq_same q p h) ∙ get_or-set_same vars p m fin.empty l
+vars_same vars p q m l h = ap (vars_of (slice_set vars p m)) (eqb-true q p h) ∙ get_or-set_same vars p m fin.empty l
 
 vars_other : (vars : List Variables) (p q : ℕ) (m : Variables) → (q == p) ≡ false → vars_of (slice_set vars p m) q ≡ vars_of vars q
 vars_other vars p q m h = get_or-set_other vars p q m fin.empty (λ e. not_both (q == p) (ap (λ z. z == p) e ∙ true_eq p) h)
@@ -154,6 +155,6 @@ agrees_after vars e p l (Assigns r x v) by a q = go (subst (λ y. y < length var
     go : r < length vars → (b : Bool) → (q == r) ≡ b → Agrees (vars_of (slice_set vars r m) q) (if b then put_sort x (sort_of_value v) (e.sorts (Live q)) else e.sorts (Live q))
     go k false i = subst (λ y. Agrees y (e.sorts (Live q))) (sym (vars_other vars r q m i)) (a q)
     go k true i =
-        let same : r ≡ q = sym (eq_same q r i) in
+        let same : r ≡ q = sym (eqb-true q r i) in
         subst (λ y. Agrees y (put_sort x (sort_of_value v) (e.sorts (Live q)))) (sym (vars_same vars r q m k i))
         (subst (λ y. Agrees m (put_sort x (sort_of_value v) (e.sorts (Live y)))) same (agrees_set (vars_of vars r) (e.sorts (Live r)) x v (a r)))

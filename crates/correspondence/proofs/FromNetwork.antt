@@ -4,6 +4,7 @@ use Rattle.std.proofs.Common.{◌≡◌, ℕ, Bool, true, false, List, [], ◌�
 use Rattle.std.specs.Prelude.{map, slice_get, slice_set}
 use Rattle.std.proofs.lemmas.Bool.Decides.{nat_tests}
 use Rattle.std.specs.FinMap as fin
+use Rattle.std.proofs.lemmas.Bool.{eqb-true}
 use Rattle.chor_base.specs.declared.names.NameId.{NameId}
 use Rattle.chor_base.specs.declared.expr.Expr.{Expr}
 use Rattle.chor_base.specs.declared.value.Value.{Value}
@@ -41,13 +42,10 @@ use Rattle.correspondence.proofs.Alone.{plain_vars, Moved, after, kept_alone}
 
 same_triple : (t u : Triple) → triple_eq t u ≡ true → t ≡ u
 same_triple t u h =
-    let i : t.0 ≡ u.0 = number t.0 u.0 (and_first _ _ h) in
+    let i : t.0 ≡ u.0 = eqb-true t.0 u.0 (and_first _ _ h) in
     let j = same_name t.1 u.1 (and_first _ _ (and_second _ _ h)) in
     let k = same_name t.2 u.2 (and_second _ _ (and_second _ _ h)) in
     λ z. (i z, j z, k z)
-  where
-    number : (x y : ℕ) → (x == y) ≡ true → x ≡ y
-    number x y e = grind (arith, nat_tests)
 
 turned : (t u : Triple) → triple_eq t u ≡ false → triple_eq u t ≡ false
 turned t u h = grind (arith, nat_tests)

@@ -4,13 +4,11 @@ use Rattle.std.specs.Prelude.{Option, if◌then◌else◌}
 use Rattle.std.specs.List.{filter}
 use Rattle.std.specs.Option.{option_eq}
 use Rattle.std.proofs.lemmas.Bool.Decides.{nat_tests}
+use Rattle.std.proofs.lemmas.Bool.{eqb-true}
 use Rattle.chor_base.specs.declared.names.NameId.{NameId}
 use Rattle.endpoint_code.specs.Faults.{without}
 use Rattle.endpoint_names.specs.declared.key.Key.{Key}
 use Rattle.endpoint_names.specs.Keys.{same_key}
-
-pub same_number : (m n : ℕ) → (m == n) ≡ true → m ≡ n
-same_number m n h = grind (arith, nat_tests)
 
 pub number_turned : (m n : ℕ) → (m == n) ≡ (n == m)
 number_turned m n = grind (arith, nat_tests)
@@ -19,7 +17,7 @@ pub number_itself : (n : ℕ) → (n == n) ≡ true
 number_itself n = grind (arith, nat_tests)
 
 pub same_name : (x y : NameId) → (x.0 == y.0) ≡ true → x ≡ y
-same_name x y h = let e = same_number x.0 y.0 h in let name : ℕ → NameId = λ n. record { 0 = n } in ap name e
+same_name x y h = let e = eqb-true x.0 y.0 h in let name : ℕ → NameId = λ n. record { 0 = n } in ap name e
 
 pub left_true : (a b : Bool) → (a && b) ≡ true → a ≡ true
 left_true true b h = refl

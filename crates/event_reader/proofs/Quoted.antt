@@ -4,6 +4,7 @@ use Rattle.std.specs.Prelude.{slice_get, if◌then◌else◌}
 use Rattle.std.proofs.lemmas.Bool.Decides.{Decides-eqb}
 use Rattle.std.proofs.lemmas.List.{append-nil}
 use Rattle.std.proofs.lemmas.Option.{slice_get_within, slice_get-get_or}
+use Rattle.std.proofs.lemmas.Bool.{eqb-false}
 use Rattle.chor_base.specs.Words.{Lacks}
 use Rattle.chor_base.specs.Writing.{escaped, escaped_byte, literal, literal_in}
 use Rattle.chor_base.proofs.WordTables.{put_absent, put_present}
@@ -15,15 +16,12 @@ pub data Spells (b : ℕ) : List ℕ → Type 0 where
   feed : b ≡ 10 → Spells b (92 ∷ 110 ∷ [])
   itself : b ≢ 34 → b ≢ 92 → b ≢ 10 → Spells b (b ∷ [])
 
-eqb_not : (b k : ℕ) → (b == k) ≡ false → b ≢ k
-eqb_not b k e q = let yes : (b == k) ≡ true = (Decides-eqb b k).1 q in absurd cc
-
 pub spells : (b : ℕ) → Spells b (escaped_byte b)
 spells b = first (b == 34) refl
   where
     third : (v : Bool) → (b == 10) ≡ v → (b == 34) ≡ false → (b == 92) ≡ false → Spells b (if v then 92 ∷ 110 ∷ [] else b ∷ [])
     third true e f g = feed ((Decides-eqb b 10).0 e)
-    third false e f g = itself (eqb_not b 34 f) (eqb_not b 92 g) (eqb_not b 10 e)
+    third false e f g = itself (eqb-false b 34 f) (eqb-false b 92 g) (eqb-false b 10 e)
 
     second : (v : Bool) → (b == 92) ≡ v → (b == 34) ≡ false → Spells b (if v then 92 ∷ 92 ∷ [] else (if b == 10 then 92 ∷ 110 ∷ [] else b ∷ []))
     second true e f = backslash ((Decides-eqb b 92).0 e)
@@ -39,9 +37,6 @@ pub record SameByte (b c : ℕ) (r s : List ℕ) : Type 0 where
   pub rest : r ≡ s
 
 -- two bytes
-differ : (m n : ℕ) → (m == n) ≡ false → m ≡ n → ⊥
-differ m n e h = eqb_not m n e h
-
 one_spelled : (b c : ℕ) (v w r s : List ℕ) → Spells b v → Spells c w → v ++ r ≡ w ++ s → SameByte b c r s
 one_spelled b c v w r s (quote p) (quote q) e = record { byte = p ∙ sym q; rest = cc }
 one_spelled b c v w r s (backslash p) (backslash q) e = record { byte = p ∙ sym q; rest = cc }
@@ -53,12 +48,12 @@ one_spelled b c v w r s (itself x y z) (feed q) e = let h : b ≡ 92 = cc in abs
 one_spelled b c v w r s (quote q) (itself x y z) e = let h : c ≡ 92 = cc in absurd (y h)
 one_spelled b c v w r s (backslash q) (itself x y z) e = let h : c ≡ 92 = cc in absurd (y h)
 one_spelled b c v w r s (feed q) (itself x y z) e = let h : c ≡ 92 = cc in absurd (y h)
-one_spelled b c v w r s (quote p) (backslash q) e = let h : 34 ≡ 92 = cc in absurd (differ 34 92 refl h)
-one_spelled b c v w r s (quote p) (feed q) e = let h : 34 ≡ 110 = cc in absurd (differ 34 110 refl h)
-one_spelled b c v w r s (backslash p) (quote q) e = let h : 92 ≡ 34 = cc in absurd (differ 92 34 refl h)
-one_spelled b c v w r s (backslash p) (feed q) e = let h : 92 ≡ 110 = cc in absurd (differ 92 110 refl h)
-one_spelled b c v w r s (feed p) (quote q) e = let h : 110 ≡ 34 = cc in absurd (differ 110 34 refl h)
-one_spelled b c v w r s (feed p) (backslash q) e = let h : 110 ≡ 92 = cc in absurd (differ 110 92 refl h)
+one_spelled b c v w r s (quote p) (backslash q) e = let h : 34 ≡ 92 = cc in absurd (eqb-false 34 92 refl h)
+one_spelled b c v w r s (quote p) (feed q) e = let h : 34 ≡ 110 = cc in absurd (eqb-false 34 110 refl h)
+one_spelled b c v w r s (backslash p) (quote q) e = let h : 92 ≡ 34 = cc in absurd (eqb-false 92 34 refl h)
+one_spelled b c v w r s (backslash p) (feed q) e = let h : 92 ≡ 110 = cc in absurd (eqb-false 92 110 refl h)
+one_spelled b c v w r s (feed p) (quote q) e = let h : 110 ≡ 34 = cc in absurd (eqb-false 110 34 refl h)
+one_spelled b c v w r s (feed p) (backslash q) e = let h : 110 ≡ 92 = cc in absurd (eqb-false 110 92 refl h)
 
 pub one_byte : (b c : ℕ) (r s : List ℕ) → escaped_byte b ++ r ≡ escaped_byte c ++ s → SameByte b c r s
 one_byte b c r s e = one_spelled b c (escaped_byte b) (escaped_byte c) r s (spells b) (spells c) e

@@ -2,6 +2,7 @@
 use Rattle.std.proofs.Common.{◌≡◌, ℕ, Bool, true, false, ◌&&◌, List, [], ◌∷◌, refl, sym, ◌∙◌, subst}
 use Rattle.std.specs.Prelude.{◌↔◌, IsTrue}
 use Rattle.std.specs.List.{AllByRecursion, list_all}
+use Rattle.std.proofs.lemmas.Bool.{and_parts}
 use Rattle.chor_lexer.specs.Lexeme.{Symbol, word, is_letter, is_word_byte, IsLexeme, is_word, is_number, is_text, is_mark}
 
 abbrev HasWordBytes : List ℕ → Type 0
@@ -17,13 +18,9 @@ word_bytes s w v e (is_mark h) = absurd cc
 pub no_bytes : (w : List ℕ) → w ≡ [] → IsLexeme (word w) w → ⊥
 no_bytes w e l = subst HasWordBytes e (word_bytes (word w) w w refl l)
 
-both : (a b : Bool) → (a && b) ≡ true → (a ≡ true) × (b ≡ true)
-both true b e = (refl, e)
-both false b e = absurd cc
-
 each : (bs : List ℕ) → list_all is_word_byte bs ≡ true → AllByRecursion (λ b. is_word_byte b ≡ true) bs
 each [] h = tt
-each (b ∷ bs) h = let p = both (is_word_byte b) (list_all is_word_byte bs) h in (p.0, each bs p.1)
+each (b ∷ bs) h = let p = and_parts (is_word_byte b) (list_all is_word_byte bs) h in (p.0, each bs p.1)
 
 every : (bs : List ℕ) → AllByRecursion (λ b. is_word_byte b ≡ true) bs → list_all is_word_byte bs ≡ true
 every [] h = refl

@@ -4,6 +4,7 @@ use Rattle.std.specs.Prelude.{Option, slice_index_or, if◌then◌else◌}
 use Rattle.std.specs.List.{flat_map}
 use Rattle.std.proofs.lemmas.List.{length-map}
 use Rattle.std.proofs.Math.ListN.{get_or-map}
+use Rattle.std.proofs.lemmas.Bool.{eqb-true}
 use Rattle.chor_base.specs.declared.names.NameId.{NameId}
 use Rattle.chor_base.specs.declared.rule.Place.{Place}
 use Rattle.endpoint_reader.specs.declared.input.Named.{Named}
@@ -30,7 +31,7 @@ use Rattle.endpoint_names.specs.Faults.{fault_at, names_in, repeated, channel_of
 use Rattle.endpoint_names.proofs.Keys.{number_turned}
 use Rattle.endpoint_making.specs.Codes.{code_id, action_of, code_of, arms_of}
 use Rattle.endpoint_making.specs.Making.{channel_made, procedure_made, IsMadeOf}
-use Rattle.faultless_endpoints.proofs.Lists.{nothing_of_two, no_fault, is_so, same_count}
+use Rattle.faultless_endpoints.proofs.Lists.{nothing_of_two, no_fault, is_so}
 use Rattle.faultless_endpoints.proofs.Once.{keys_in, AreOnce, once, same_alone, distinct_names}
 
 -- ---- what is declared
@@ -74,7 +75,7 @@ there (Some k) p h = (k, refl)
 
 fits : (o : Option Procedure) (c : Signature) → wrong_call o c ≡ [] → (q : Procedure) × (o ≡ Some q) × (length c.sessions ≡ length q.signature.sessions)
 fits None c h = absurd cc
-fits (Some q) c h = (q, refl, same_count (length c.sessions) (length q.signature.sessions) (is_so _ (no_fault _ c.name.place h)))
+fits (Some q) c h = (q, refl, eqb-true (length c.sessions) (length q.signature.sessions) (is_so _ (no_fault _ c.name.place h)))
 
 -- ---- sessions
 

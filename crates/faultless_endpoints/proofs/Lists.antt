@@ -4,6 +4,7 @@ use Rattle.std.specs.Prelude.{All}
 use Rattle.std.specs.List.{flat_map}
 use Rattle.std.proofs.lemmas.List.Elements.{All-nil, All-cons, All-head, All-tail}
 use Rattle.std.proofs.lemmas.Bool.Decides.{nat_tests}
+use Rattle.std.proofs.lemmas.Bool.{eqb-true}
 use Rattle.chor_base.specs.declared.rule.Place.{Place}
 use Rattle.endpoint_names.specs.Faults.{fault_at}
 
@@ -22,9 +23,6 @@ no_fault true p h = absurd cc
 pub is_so : (b : Bool) → not b ≡ false → b ≡ true
 is_so true h = refl
 is_so false h = absurd cc
-
-pub same_count : (m n : ℕ) → (m == n) ≡ true → m ≡ n
-same_count m n h = grind (arith, nat_tests)
 
 -- ---- back
 

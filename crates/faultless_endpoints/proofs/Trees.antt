@@ -4,6 +4,7 @@ use Rattle.std.proofs.Math.ListN.{get_or-map}
 use Rattle.std.specs.Prelude.{bytes_eq, slice_get, slice_index_or}
 use Rattle.std.proofs.lemmas.Slice.Eq.{bytes_eq-Decides}
 use Rattle.std.proofs.lemmas.Option.{slice_get-get_or}
+use Rattle.std.proofs.lemmas.Bool.{eqb-true}
 use Rattle.node_table.proofs.Tables.{trees_alike}
 use Rattle.chor_base.specs.declared.names.NameId.{NameId}
 use Rattle.chor_base.specs.Words.{AllDistinct}
@@ -15,7 +16,6 @@ use Rattle.endpoint_reader.specs.declared.lines.Line.{Line}
 use Rattle.endpoint_reader.specs.declared.lines.Line.TheVariants as line
 use Rattle.endpoint_reader.specs.Lines as lines
 use Rattle.endpoint_names.specs.Bodies.{Body, Ends, body_in, arms_in, line_body, bodies_of, body_at}
-use Rattle.endpoint_names.proofs.Keys.{same_number}
 use Rattle.faultless_endpoints.proofs.Lists.{count_same}
 use Rattle.faultless_endpoints.specs.Reading.{written_body, written_arms}
 
@@ -49,7 +49,7 @@ names_words names x y distinct a b = go (x.0 == y.0) (bytes_eq (name_in names x)
   go true true e f = refl
   go false false e f = refl
   go true false e f =
-      let same : name_in names x ≡ name_in names y = ap (λ n. slice_index_or names n []) (same_number x.0 y.0 e) in
+      let same : name_in names x ≡ name_in names y = ap (λ n. slice_index_or names n []) (eqb-true x.0 y.0 e) in
       let t : bytes_eq (name_in names x) (name_in names y) ≡ true = (bytes_eq-Decides (name_in names x) (name_in names y)).1 same in cc
   go false true e f =
       let same : name_in names x ≡ name_in names y = (bytes_eq-Decides (name_in names x) (name_in names y)).0 f in

@@ -1,6 +1,7 @@
 -- Along a block without fault a process uses the sessions in which it holds a role.
 use Rattle.std.proofs.Common.{◌≡◌, List, [], ◌∷◌, ◌++◌, map, length, refl, sym, ap, ◌∙◌, subst, inl, inr, suc, Some, None, Option, Bool, true, false, if◌then◌else◌, ◌==◌, ◌&&◌}
 use Rattle.std.specs.Prelude.{Result, Ok, Err}
+use Rattle.std.proofs.lemmas.Bool.{and_parts}
 use Rattle.chor_base.specs.declared.names.NameId.{NameId}
 use Rattle.chor_base.specs.declared.rule.Place.{Place}
 use Rattle.chor_base.specs.declared.rule.Rule.{Rule}
@@ -28,7 +29,6 @@ use Rattle.typing_rules.specs.Environment.{Environment, step_at}
 use Rattle.typing_rules.specs.Allowed.{value_sent, labels_sent, arm_in, endpoint_sent}
 use Rattle.typing_rules.specs.Checks.{sort_at, value_checks, label_checks, endpoint_checks, statement_checks, holds_as, sessions_fit, arguments_fit, rest_ended, rule_at}
 use Rattle.typing_rules.specs.After.{with_value, with_state, with_endpoint, with_sort, after_statement}
-use Rattle.typed_runs.proofs.Small.{both_true}
 use Rattle.typed_sources.proofs.Checked.{first_passes, asked, holder_is}
 use Rattle.typed_sources.proofs.Opened.{IsNamedStart, eq_flip, holder_other, holder_new}
 use Rattle.source_blocks.specs.Blocks.{node_of, choreography_of}
@@ -237,8 +237,8 @@ module _ (ep : Endpoints) (fs : List Proc) (r : NameId) where
     sessions_held x qs ps od i [] ss h = tt
     sessions_held x qs ps od i (k ∷ ks) [] h = tt
     sessions_held x qs ps od i (k ∷ ks) (s ∷ ss) h =
-        let w = both_true _ _ h in (
-          λ j. (let l = listed_role (λ c z. holds_as e s.name c z qs ps) x k.holders j (both_true _ _ w.0).1 in knows.there s.name l.role (passed_holds e s.name l.role r x qs ps od i l.holds_of)),
+        let w = and_parts _ _ h in (
+          λ j. (let l = listed_role (λ c z. holds_as e s.name c z qs ps) x k.holders j (and_parts _ _ w.0).1 in knows.there s.name l.role (passed_holds e s.name l.role r x qs ps od i l.holds_of)),
           sessions_held x qs ps od i ks ss w.1,
         )
 
@@ -256,7 +256,7 @@ module _ (ep : Endpoints) (fs : List Proc) (r : NameId) where
         (passes (param_for r w.procedure.params (map name_ref ps)) refl)
       where
         ks_differ : all_differ (names_in ks) ≡ true
-        ks_differ = (both_true (all_differ (names_in ps)) (all_differ (names_in ks)) (asked (all_differ (names_in ps) && all_differ (names_in ks)) T7 (first_passes (ask (all_differ (names_in ps) && all_differ (names_in ks)) T7) (arguments_fit e (procedure_of f c.name) ps ks ++ ask (rest_ended f e (names_in ks)) T6 ∷ []) h).0)).1
+        ks_differ = (and_parts (all_differ (names_in ps)) (all_differ (names_in ks)) (asked (all_differ (names_in ps) && all_differ (names_in ks)) T7 (first_passes (ask (all_differ (names_in ps) && all_differ (names_in ks)) T7) (arguments_fit e (procedure_of f c.name) ps ks ++ ask (rest_ended f e (names_in ks)) T6 ∷ []) h).0)).1
 
         passes : (o : Option NameId) → param_for r w.procedure.params (map name_ref ps) ≡ o → PassesFor g w.procedure (map name_ref ks) o
         passes None i = tt

@@ -2,6 +2,7 @@
 use Rattle.std.proofs.Common.{◌≡◌, List, [], ◌∷◌, ◌++◌, map, refl, ap, ◌∙◌, ◌⊎◌, inl, inr, Some, Bool, true, false, if◌then◌else◌, ◌==◌, ◌&&◌, ◌||◌}
 use Rattle.std.specs.Prelude.{not}
 use Rattle.std.specs.List.{AllByRecursion}
+use Rattle.std.proofs.lemmas.Bool.{and_parts}
 use Rattle.chor_base.specs.declared.names.NameId.{NameId}
 use Rattle.chor_tree.specs.declared.file.Named.{Named as Written}
 use Rattle.chor_tree.specs.declared.file.Proc.{Proc}
@@ -13,7 +14,6 @@ use Rattle.delegation.specs.declared.held.Held.{Held as Entry}
 use Rattle.delegation.specs.Owners.{held as entry, holder_of}
 use Rattle.delegation.specs.Checks.{all_differ}
 use Rattle.typing_rules.specs.Environment.{at_procedure}
-use Rattle.typed_runs.proofs.Small.{both_true}
 use Rattle.typed_sources.proofs.Checked.{some_is}
 use Rattle.typed_sources.proofs.Opened.{eq_flip}
 use Rattle.typed_sources.proofs.Arguments.{owners_of, holder_elsewhere}
@@ -63,7 +63,7 @@ own_role n [] rest y p same od h = absurd cc
 own_role n (x ∷ xs) rest y p same od h = go (x.1.name.0 == p.0) refl h (own_role n xs rest y p same w.1)
   where
     w : (not (is_in (map (λ h. h.0.name) xs) x.0.name) ≡ true) × (all_differ (map (λ h. h.0.name) xs) ≡ true)
-    w = both_true _ _ od
+    w = and_parts _ _ od
 
     tested : (a : NameId) (b : Bool) → (x.0.name.0 == a.0) ≡ b → holder_of (entries n (x ∷ xs) ++ rest) y a ≡ (if b then Some x.1.name else holder_of (entries n xs ++ rest) y a)
     tested a b i = ap (λ c. if c && (x.0.name.0 == a.0) then Some x.1.name else holder_of (entries n xs ++ rest) y a) same ∙ ap (λ c. if c then Some x.1.name else holder_of (entries n xs ++ rest) y a) i
@@ -93,7 +93,7 @@ listed_back p [] od each k h = absurd cc
 listed_back p (x ∷ xs) od each k h = go (holds p x.holders) refl h (λ m. listed_back p xs w.1 each.1 k m)
   where
     w : (not (is_in (map (λ k. k.name.name) xs) x.name.name) ≡ true) × (all_differ (map (λ k. k.name.name) xs) ≡ true)
-    w = both_true _ _ od
+    w = and_parts _ _ od
 
     off : is_among k (sessions_for p xs) ≡ true → (b : Bool) → (x.name.name.0 == k.0) ≡ b → (x.name.name.0 == k.0) ≡ false
     off i false j = j

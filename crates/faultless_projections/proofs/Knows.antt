@@ -1,6 +1,7 @@
 -- What a process knows of the sessions in which it holds a role, and what a file says of roles and parameters.
 use Rattle.std.proofs.Common.{◌≡◌, List, [], ◌∷◌, ◌++◌, map, sym, ap, ◌∙◌, subst, refl, Some, true, ◌&&◌}
 use Rattle.std.specs.Prelude.{not}
+use Rattle.std.proofs.lemmas.Bool.{and_parts}
 use Rattle.chor_base.specs.declared.names.NameId.{NameId}
 use Rattle.chor_base.specs.declared.rule.Rule.TheVariants.{N3}
 use Rattle.chor_tree.specs.declared.file.File.{File}
@@ -17,7 +18,6 @@ use Rattle.delegation.specs.declared.held.Held.{Held as Entry}
 use Rattle.delegation.specs.Owners.{holder_of}
 use Rattle.delegation.specs.Checks.{all_differ}
 use Rattle.typing_rules.specs.Environment.{Environment}
-use Rattle.typed_runs.proofs.Small.{both_true}
 use Rattle.typed_sources.proofs.ProcedureHeads.{no_fault_at, not_true}
 use Rattle.held_sessions.specs.Held.{Held}
 use Rattle.file_trees.proofs.Channels.{channel_from, StartsIn}
@@ -55,7 +55,7 @@ pub start_roles : (f : File) (c : Written) (s : Service) (active serve : List Pa
 start_roles f c s active serve is h = record { active_roles = same_names (map (λ q. q.role.name) active) (names_in s.active) w.0; serve_roles = same_names (map (λ q. q.role.name) serve) (names_in s.serve) w.1 }
   where
     w : (are_same (map (λ q. q.role.name) active) (names_in s.active) ≡ true) × (are_same (map (λ q. q.role.name) serve) (names_in s.serve) ≡ true)
-    w = both_true _ _ (not_true _ (no_fault_at (not (are_same (map (λ q. q.role.name) active) (names_in s.active) && are_same (map (λ q. q.role.name) serve) (names_in s.serve))) N3 c (subst (λ o. wrong_parts o c active serve ≡ []) is h)))
+    w = and_parts _ _ (not_true _ (no_fault_at (not (are_same (map (λ q. q.role.name) active) (names_in s.active) && are_same (map (λ q. q.role.name) serve) (names_in s.serve))) N3 c (subst (λ o. wrong_parts o c active serve ≡ []) is h)))
 
 pub parts_apart : (f : File) → DiffersThere f → (c : NameId) (s : Service) (active serve : List Part) → channel_of f c ≡ Some s → HasRoles s active serve → AreDistinctRoles (map (λ q. q.role.name) (active ++ serve))
 parts_apart f d c s active serve is h = subst AreDistinctRoles (sym (roles_append active serve ∙ ap (λ l. l ++ map (λ q. q.role.name) serve) h.active_roles ∙ ap (λ l. names_in s.active ++ l) h.serve_roles)) (d.roles c s is)

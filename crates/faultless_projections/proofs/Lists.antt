@@ -3,6 +3,7 @@ use Rattle.std.proofs.Common.{◌≡◌, suc, ◌<◌, List, [], ◌∷◌, ◌+
 use Rattle.std.specs.Prelude.{Contains, not}
 use Rattle.std.specs.List.{AllByRecursion, AllZip, filter}
 use Rattle.std.proofs.lemmas.Bool.Decides.{nat_tests}
+use Rattle.std.proofs.lemmas.Bool.{and_parts}
 use Rattle.chor_base.specs.declared.names.NameId.{NameId}
 use Rattle.chor_tree.specs.declared.file.Named.{Named as Written}
 use Rattle.chor_tree.specs.declared.file.Proc.{Proc}
@@ -17,7 +18,6 @@ use Rattle.endpoint_code.specs.Faults.{is_among, AreDistinct, no_name, one_more,
 use Rattle.endpoint_code.specs.Network.{procedure_of, channel_of}
 use Rattle.well_formed.proofs.References.{same_name, clash, true_eq, or_rights, or_left, left_or, right_or, or_false}
 use Rattle.delegation.specs.Checks.{all_differ}
-use Rattle.typed_runs.proofs.Small.{both_true}
 use Rattle.typed_sources.proofs.Opened.{not_is}
 use Rattle.projection.specs.Codes.{holds, sessions_for}
 use Rattle.projection.specs.Projects.{names_of, channel_from, parameters_of, service_roles}
@@ -161,12 +161,12 @@ pairs_apart [] od each = tt
 pairs_apart (h ∷ hs) od each = along h.params each.0 (pairs_apart hs w.1 each.1)
   where
     w : (not (is_in (map (λ h. h.name.name) hs) h.name.name) ≡ true) × (all_differ (map (λ h. h.name.name) hs) ≡ true)
-    w = both_true _ _ od
+    w = and_parts _ _ od
 
     along : (qs : List ProcParam) → all_differ (map (λ q. q.name.name) qs) ≡ true → ArePairsApart (parameters_of hs) → ArePairsApart (map (λ q. (h, q)) qs ++ parameters_of hs)
     along [] d rest = rest
     along (q ∷ qs) d rest =
-        let v = both_true _ _ d in
+        let v = and_parts _ _ d in
         (pair_more h.name.name q.name.name (map (λ q. (h, q)) qs) (parameters_of hs) (pair_in h.name.name q.name.name h qs (not_is _ v.0)) (pair_later h.name.name q.name.name hs (not_is _ w.0)), along qs v.1 rest)
 
 -- units that have the names of these pairs, and no other

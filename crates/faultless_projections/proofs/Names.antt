@@ -1,6 +1,7 @@
 -- Names that differ, in the words of sources and of endpoints; and the roles of a start.
 use Rattle.std.proofs.Common.{◌≡◌, suc, zero, ◌<◌, List, [], ◌∷◌, ◌++◌, map, length, refl, sym, ap, ◌∙◌, Some, Bool, true, false, if◌then◌else◌, ◌==◌, ◌&&◌, ◌||◌, arith}
 use Rattle.std.specs.Prelude.{Contains}
+use Rattle.std.proofs.lemmas.Bool.{and_parts}
 use Rattle.chor_base.specs.declared.names.NameId.{NameId}
 use Rattle.chor_tree.specs.declared.tree.Part.{Part}
 use Rattle.chor_tree.specs.Names.{is_among as is_in}
@@ -10,7 +11,6 @@ use Rattle.well_formed.specs.WellFormed.{role_among, AreDistinctRoles}
 use Rattle.well_formed.proofs.References.{same_name, clash, true_eq, or_rights}
 use Rattle.delegation.specs.Owners.{holder_of, started}
 use Rattle.delegation.specs.Checks.{all_differ}
-use Rattle.typed_runs.proofs.Small.{both_true}
 use Rattle.typed_sources.proofs.Checked.{some_is}
 use Rattle.typed_sources.proofs.Opened.{eq_flip}
 use Rattle.typed_sources.proofs.Opened.{not_is}
@@ -26,7 +26,7 @@ among_in x (y ∷ ys) = ap (λ b. b || is_among x ys) (eq_flip x.0 y.0) ∙ ap (
 -- so no name stands twice
 pub distinct_names : (xs : List NameId) → all_differ xs ≡ true → AreDistinct xs
 distinct_names [] h = no_name
-distinct_names (x ∷ xs) h = let w = both_true _ _ h in one_more (among_in x xs ∙ not_is _ w.0) (distinct_names xs w.1)
+distinct_names (x ∷ xs) h = let w = and_parts _ _ h in one_more (among_in x xs ∙ not_is _ w.0) (distinct_names xs w.1)
 
 among_roles : (x : NameId) (ys : List NameId) → is_among x ys ≡ role_among x ys
 among_roles x [] = refl

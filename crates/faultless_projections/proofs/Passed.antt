@@ -1,5 +1,6 @@
 -- A role is handed over: in which sessions the giver, the taker and everybody else hold a role after it.
 use Rattle.std.proofs.Common.{◌≡◌, List, sym, ap, ◌∙◌, refl, Some, Bool, true, false, if◌then◌else◌, ◌==◌, ◌&&◌}
+use Rattle.std.proofs.lemmas.Bool.{and_parts}
 use Rattle.chor_base.specs.declared.names.NameId.{NameId}
 use Rattle.chor_tree.specs.declared.file.File.{File}
 use Rattle.chor_tree.specs.declared.file.Named.{Named as Written}
@@ -9,7 +10,6 @@ use Rattle.well_formed.proofs.References.{same_name, clash, true_eq}
 use Rattle.delegation.specs.declared.held.Held.{Held as Entry}
 use Rattle.delegation.specs.Owners.{holder_of, holds_some, passed}
 use Rattle.typing_rules.specs.Environment.{Environment}
-use Rattle.typed_runs.proofs.Small.{both_true}
 use Rattle.typed_sources.proofs.Checked.{some_is}
 use Rattle.typed_sources.proofs.Moved.{passed_other, passed_this, holds_one}
 use Rattle.held_sessions.specs.Held.{Held, with_held}
@@ -33,11 +33,11 @@ module _ (r : NameId) (f : File) (scope : Scope) (e : Environment) (t : KeepsOwn
   -- the taker is the new holder
   new_is : (s c : NameId) → here_is s c ≡ true → holder_of P s c ≡ Some b.process.name
   new_is s c i =
-      let v = both_true _ _ i in
+      let v = and_parts _ _ i in
       ap (λ x. holder_of P x c) (same_name s given.name v.0) ∙ ap (holder_of P given.name) (same_name c role v.1) ∙ passed_this f scope e.owners given.name role b.process.name a.process.name is
 
   old_is : (s c : NameId) → here_is s c ≡ true → holder_of e.owners s c ≡ Some a.process.name
-  old_is s c i = let v = both_true _ _ i in ap (λ x. holder_of e.owners x c) (same_name s given.name v.0) ∙ ap (holder_of e.owners given.name) (same_name c role v.1) ∙ is
+  old_is s c i = let v = and_parts _ _ i in ap (λ x. holder_of e.owners x c) (same_name s given.name v.0) ∙ ap (holder_of e.owners given.name) (same_name c role v.1) ∙ is
 
   -- the taker held none in the session before
   none_before : (c : NameId) → (r.0 == b.process.name.0) ≡ true → holder_of e.owners given.name c ≡ Some r → ⊥

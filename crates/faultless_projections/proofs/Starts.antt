@@ -2,6 +2,7 @@
 use Rattle.std.proofs.Common.{◌≡◌, zero, suc, ◌<◌, List, [], ◌∷◌, ◌++◌, map, length, refl, sym, ap, ◌∙◌, subst, inl, inr, Some, None, Bool, true, false, if◌then◌else◌, ◌==◌, ◌||◌, arith}
 use Rattle.std.specs.Prelude.{Contains}
 use Rattle.std.specs.List.{AllByRecursion, list_all}
+use Rattle.std.proofs.lemmas.Bool.{and_parts}
 use Rattle.chor_base.specs.declared.names.NameId.{NameId}
 use Rattle.chor_tree.specs.declared.file.File.{File}
 use Rattle.chor_tree.specs.declared.file.Named.{Named as Written}
@@ -17,7 +18,6 @@ use Rattle.delegation.specs.Checks.{first_failed}
 use Rattle.typing_rules.specs.Environment.{Environment}
 use Rattle.typing_rules.specs.Checks.{statement_checks}
 use Rattle.typing_rules.specs.After.{after_statement}
-use Rattle.typed_runs.proofs.Small.{both_true}
 use Rattle.typed_sources.proofs.Checked.{some_is}
 use Rattle.typed_sources.proofs.Opened.{IsNamedStart, among_more, eq_flip, holder_other, holder_new}
 use Rattle.source_blocks.specs.Blocks.{node_of, choreography_of}
@@ -50,7 +50,7 @@ still_out xs k a i j = among_more xs (k ∷ []) a ∙ ap (λ b. (b || false) || 
 
 refs_other : (xs : List NameId) (a : NameId) (ks : List Written) → list_all (λ x. is_in xs x.name) ks ≡ true → is_in xs a ≡ false → AreOther a (map name_ref ks)
 refs_other xs a [] h out = tt
-refs_other xs a (k ∷ ks) h out = let w = both_true _ _ h in (other_name xs k.name a w.0 out, refs_other xs a ks w.1 out)
+refs_other xs a (k ∷ ks) h out = let w = and_parts _ _ h in (other_name xs k.name a w.0 out, refs_other xs a ks w.1 out)
 
 module _ (f : File) (a : NameId) (known : is_in (channels_of f) a ≡ true) where
   -- a session is no channel

@@ -1,6 +1,7 @@
 -- Along a block without fault a process holds each role that it plays.
 use Rattle.std.proofs.Common.{◌≡◌, ℕ, List, [], ◌∷◌, ◌++◌, map, refl, sym, ap, ◌∙◌, subst, Some, None, Option, Bool, true, false, if◌then◌else◌, ◌==◌, ◌&&◌}
 use Rattle.std.specs.Prelude.{Result, Ok, Err}
+use Rattle.std.proofs.lemmas.Bool.{and_parts}
 use Rattle.chor_base.specs.declared.names.NameId.{NameId}
 use Rattle.chor_base.specs.declared.rule.Place.{Place}
 use Rattle.chor_base.specs.declared.rule.Rule.{Rule}
@@ -26,7 +27,6 @@ use Rattle.typing_rules.specs.Environment.{Environment, step_at}
 use Rattle.typing_rules.specs.Allowed.{value_sent, labels_sent, arm_in, endpoint_sent}
 use Rattle.typing_rules.specs.Checks.{sort_at, value_checks, label_checks, endpoint_checks, statement_checks, holds_as, sessions_fit, rule_at}
 use Rattle.typing_rules.specs.After.{with_value, with_state, with_endpoint, with_sort, after_statement}
-use Rattle.typed_runs.proofs.Small.{both_true}
 use Rattle.typed_sources.proofs.Checked.{first_passes, asked, holder_is, some_is}
 use Rattle.typed_sources.proofs.Moved.{passed_other, passed_this, holds_one}
 use Rattle.typed_sources.proofs.Opened.{IsNamedStart, holder_other, holder_new}
@@ -127,7 +127,7 @@ module _ (fs : List Proc) (r : NameId) where
               where
                 step : (x : Bool) → ((s.0 == given.process.name.0) && (c.0 == given.role.name.0)) ≡ x → holder_of P s c ≡ Some r → g' s.0 ≡ Some c
                 step true j h =
-                    let v = both_true _ _ j in
+                    let v = and_parts _ _ j in
                     let ss = same_name s given.process.name v.0 in
                     let cs = same_name c given.role.name v.1 in
                     this s c (some_is _ _ (sym (passed_this f scope e.owners given.process.name given.role.name b.process.name a.process.name is) ∙ sym (ap (λ x. holder_of P x c) ss ∙ ap (holder_of P given.process.name) cs) ∙ h)) cs ss
@@ -217,8 +217,8 @@ module _ (fs : List Proc) (r : NameId) where
     sessions_hold x qs ps od i [] ss h = tt
     sessions_hold x qs ps od i (k ∷ ks) [] h = tt
     sessions_hold x qs ps od i (k ∷ ks) (s ∷ ss) h =
-        let w = both_true _ _ h in (
-          λ j. (let l = listed_role (λ c z. holds_as e s.name c z qs ps) x k.holders j (both_true _ _ w.0).1 in knows s.name l.role (passed_holds e s.name l.role r x qs ps od i l.holds_of) ∙ sym l.is),
+        let w = and_parts _ _ h in (
+          λ j. (let l = listed_role (λ c z. holds_as e s.name c z qs ps) x k.holders j (and_parts _ _ w.0).1 in knows s.name l.role (passed_holds e s.name l.role r x qs ps od i l.holds_of) ∙ sym l.is),
           sessions_hold x qs ps od i ks ss w.1,
         )
 

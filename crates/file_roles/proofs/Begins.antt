@@ -2,6 +2,7 @@
 use Rattle.std.proofs.Common.{◌≡◌, ℕ, zero, suc, ◌<◌, List, [], ◌∷◌, ◌++◌, map, length, refl, sym, ap, ◌∙◌, subst, Some, None, Bool, true, false, if◌then◌else◌, ◌==◌, ◌||◌, arith}
 use Rattle.std.specs.Prelude.{Contains, slice_get, not}
 use Rattle.std.specs.List.{flat_map}
+use Rattle.std.proofs.lemmas.Bool.{and_parts}
 use Rattle.chor_base.specs.declared.names.NameId.{NameId}
 use Rattle.chor_base.specs.declared.rule.Place.{Place}
 use Rattle.chor_base.specs.declared.rule.Rule.{Rule}
@@ -23,7 +24,6 @@ use Rattle.typing_rules.specs.Environment.{Environment, at_main, at_procedure}
 use Rattle.typing_rules.specs.Checks.{statement_checks}
 use Rattle.typing_rules.specs.TypeFaults.{holder_fault}
 use Rattle.typing_rules.specs.After.{after_statement}
-use Rattle.typed_runs.proofs.Small.{both_true}
 use Rattle.typed_sources.proofs.Checked.{first_passes, asked, some_is}
 use Rattle.typed_sources.proofs.Opened.{IsNamedStart, holder_other, holder_new}
 use Rattle.typed_sources.proofs.Arguments.{owners_of, holder_elsewhere, no_owner}
@@ -57,7 +57,7 @@ head_knows [] od h p k a i = absurd cc
 head_knows (x ∷ xs) od h p k a i = go (x.name.name.0 == k.0) refl (λ j. head_knows xs w.1 fine.1 p k a j)
   where
     w : (not (is_among (map (λ k. k.name.name) xs) x.name.name) ≡ true) × (all_differ (map (λ k. k.name.name) xs) ≡ true)
-    w = both_true _ _ od
+    w = and_parts _ _ od
 
     fine : (holder_fault x ≡ []) × (flat_map holder_fault xs ≡ [])
     fine = both_empty (holder_fault x) (flat_map holder_fault xs) h

@@ -2,6 +2,7 @@
 use Rattle.std.proofs.Common.{◌≡◌, suc, zero, List, [], ◌∷◌, ◌++◌, map, refl, sym, ap, ◌∙◌, subst, Some, Bool, true, false, if◌then◌else◌, ◌==◌, ◌&&◌, ◌||◌, arith}
 use Rattle.std.specs.Prelude.{Contains, not}
 use Rattle.std.specs.List.{list_all}
+use Rattle.std.proofs.lemmas.Bool.{and_parts}
 use Rattle.chor_base.specs.declared.names.NameId.{NameId}
 use Rattle.chor_tree.specs.declared.file.Named.{Named as Written}
 use Rattle.chor_tree.specs.declared.file.Proc.{Proc}
@@ -15,7 +16,6 @@ use Rattle.delegation.specs.Owners.{held as entry, holder_of, holds, started}
 use Rattle.delegation.specs.Checks.{all_differ}
 use Rattle.typing_rules.specs.Environment.{Environment}
 use Rattle.typing_rules.specs.Checks.{holds_as}
-use Rattle.typed_runs.proofs.Small.{both_true}
 use Rattle.typed_sources.proofs.Checked.{some_is, holder_is}
 use Rattle.projection.specs.Codes.{role_in, proc_named, param_for, holds as is_listed}
 use Rattle.projection_follows.specs.Roles.{holder_role}
@@ -30,7 +30,7 @@ part_role k (x ∷ xs) od q m a h = go (x.role.name.0 == a.0) refl (subst (λ z.
     (λ n i. part_role k xs w.1 q n a i)
   where
     w : (not (is_among (map (λ q. q.process.name) xs) x.process.name) ≡ true) × (all_differ (map (λ q. q.process.name) xs) ≡ true)
-    w = both_true _ _ od
+    w = and_parts _ _ od
 
     among_here : (ys : List Part) → Contains ys q → is_among (map (λ q. q.process.name) ys) q.process.name ≡ true
     among_here [] (i, l, e) = absurd (omega (arith, l))
@@ -61,7 +61,7 @@ active_role k r (x ∷ xs) serve od off a h =
     (active_role k r xs serve w.1 off a)
   where
     w : (not (is_among (map (λ q. q.process.name) (xs ++ serve)) x.process.name) ≡ true) × (all_differ (map (λ q. q.process.name) (xs ++ serve)) ≡ true)
-    w = both_true _ _ od
+    w = and_parts _ _ od
 
     go : (b c : Bool) → (x.role.name.0 == a.0) ≡ b → (r.0 == x.process.name.0) ≡ c → (if b then Some x.process.name else holder_of (started k (xs ++ serve)) k a) ≡ Some r
         → (holder_of (started k (xs ++ serve)) k a ≡ Some r → role_in r (parts_of xs) ≡ Some a) → (if c then Some x.role.name else role_in r (parts_of xs)) ≡ Some a
@@ -92,7 +92,7 @@ passed_holds e k c r x (q ∷ qs) [] od i h = absurd cc
 passed_holds e k c r x (q ∷ qs) (p ∷ ps) od i h = go (r.0 == p.name.0) refl i (q.name.name.0 == x.0) refl h (passed_holds e k c r x qs ps w.1)
   where
     w : (not (is_among (map (λ q. q.name.name) qs) q.name.name) ≡ true) × (all_differ (map (λ q. q.name.name) qs) ≡ true)
-    w = both_true _ _ od
+    w = and_parts _ _ od
 
     go : (b : Bool) → (r.0 == p.name.0) ≡ b → (if b then Some q.name.name else param_for r qs (map name_ref ps)) ≡ Some x → (d : Bool) → (q.name.name.0 == x.0) ≡ d → (if d then holds e.owners k c p.name else holds_as e k c x qs ps) ≡ true
         → (param_for r qs (map name_ref ps) ≡ Some x → holds_as e k c x qs ps ≡ true → holder_of e.owners k c ≡ Some r) → holder_of e.owners k c ≡ Some r
@@ -112,7 +112,7 @@ listed_role P x [] i h = absurd cc
 listed_role P x (y ∷ ys) i h = go (y.1.name.0 == x.0) refl i (listed_role P x ys)
   where
     w : (P y.0.name y.1.name ≡ true) × (list_all (λ h. P h.0.name h.1.name) ys ≡ true)
-    w = both_true _ _ h
+    w = and_parts _ _ h
 
     go : (b : Bool) → (y.1.name.0 == x.0) ≡ b → (b || is_listed x ys) ≡ true → (is_listed x ys ≡ true → list_all (λ h. P h.0.name h.1.name) ys ≡ true → IsListedFor P x ys) → IsListedFor P x (y ∷ ys)
     go true t i ih = record { role = y.0.name; is = ap (λ (b : Bool). if b then Some y.0.name else holder_role x ys) t; holds_of = ap (P y.0.name) (sym (same_name y.1.name x t)) ∙ w.0 }
@@ -129,7 +129,7 @@ head_role n (x ∷ xs) rest y a p on od out h =
     (head_role n xs rest y a p on w.1 out)
   where
     w : (not (is_among (map (λ h. h.1.name) xs) x.1.name) ≡ true) × (all_differ (map (λ h. h.1.name) xs) ≡ true)
-    w = both_true _ _ od
+    w = and_parts _ _ od
 
     among_entries : (hs : List (Written × Written)) → holder_of (map (λ h. entry n h.0.name h.1.name) hs ++ rest) y a ≡ Some p → is_among (map (λ h. h.1.name) hs) p ≡ true
     among_entries [] h = absurd (out h)

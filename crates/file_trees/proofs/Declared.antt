@@ -2,6 +2,7 @@
 use Rattle.std.proofs.Common.{◌≡◌, ◌+◌, ℕ, zero, suc, List, [], ◌∷◌, ◌++◌, map, length, ◌<◌, refl, sym, ap, ◌∙◌, subst, Some, None, Option, Bool, true, false, if◌then◌else◌, ◌==◌, ◌&&◌, ◌||◌, arith}
 use Rattle.std.specs.Prelude.{slice_get, Contains}
 use Rattle.std.specs.List.{flat_map}
+use Rattle.std.proofs.lemmas.Bool.{and_parts}
 use Rattle.chor_base.specs.declared.names.NameId.{NameId}
 use Rattle.chor_tree.specs.declared.file.File.{File}
 use Rattle.chor_tree.specs.declared.file.Named.{Named as Written}
@@ -18,7 +19,6 @@ use Rattle.delegation.specs.declared.held.Held.{Held}
 use Rattle.delegation.specs.Owners.{held as entry, holder_of}
 use Rattle.delegation.specs.Checks.{all_differ}
 use Rattle.typing_rules.specs.Environment.{standing_of, stands, at_main, at_procedure}
-use Rattle.typed_runs.proofs.Small.{both_true}
 use Rattle.typed_sources.specs.Stands.{holder_at}
 use Rattle.typed_sources.proofs.Arguments.{named, owners_of, standings_of, holder_elsewhere, no_owner}
 use Rattle.typed_sources.proofs.Begins.{IsProper}
@@ -77,7 +77,7 @@ module _ (qs : List ProcParam) (y : ℕ) (r : NameId) where
   declared_same : (ks : List SessionParam) → all_differ (map (λ k. k.name.name) ks) ≡ true → ArePlaced qs ks → (L : ℕ → NameId → Option ℕ) (i : ℕ) → ((j : ℕ) → L (i + j) r ≡ listed_in qs (slice_get ks j) r)
       → declared_holder L (map (λ q. q.name.name) qs) i (map (λ k. k.name.name) ks) y r ≡ holder_at (holder_of (owners_of ks) (named y) r)
   declared_same [] od known L i m = refl
-  declared_same (k ∷ ks) od known L i m = go (k.name.name.0 == y) refl (declared_same ks (both_true _ _ od).1 known.1 L (suc i) (λ j. ap (λ z. L z r) (shift i j) ∙ m (suc j)))
+  declared_same (k ∷ ks) od known L i m = go (k.name.name.0 == y) refl (declared_same ks (and_parts _ _ od).1 known.1 L (suc i) (λ j. ap (λ z. L z r) (shift i j) ∙ m (suc j)))
     where
       plus : (i : ℕ) → i + 0 ≡ i
       plus i = omega arith
@@ -87,7 +87,7 @@ module _ (qs : List ProcParam) (y : ℕ) (r : NameId) where
 
       none : (o : Option NameId) → holder_of (owners_of ks) (named y) r ≡ o → (k.name.name.0 == y) ≡ true → holder_of (owners_of ks) (named y) r ≡ None
       none None p on = p
-      none (Some q) p on = absurd (no_owner ks (named y) r q (subst (λ z. is_among (map (λ k. k.name.name) ks) z ≡ false) (same_name k.name.name (named y) on) (not_is _ (both_true _ _ od).0)) p)
+      none (Some q) p on = absurd (no_owner ks (named y) r q (subst (λ z. is_among (map (λ k. k.name.name) ks) z ≡ false) (same_name k.name.name (named y) on) (not_is _ (and_parts _ _ od).0)) p)
 
       go : (b : Bool) → (k.name.name.0 == y) ≡ b → declared_holder L (map (λ q. q.name.name) qs) (suc i) (map (λ k. k.name.name) ks) y r ≡ holder_at (holder_of (owners_of ks) (named y) r)
           → (if b then listed_param (map (λ q. q.name.name) qs) (L i r) else declared_holder L (map (λ q. q.name.name) qs) (suc i) (map (λ k. k.name.name) ks) y r)

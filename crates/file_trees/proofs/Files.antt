@@ -3,6 +3,7 @@
 use Rattle.std.proofs.Common.{◌≡◌, ℕ, zero, suc, ◌<◌, List, [], ◌∷◌, ◌++◌, map, length, refl, sym, ap, ◌∙◌, subst, Some, Bool, true, false, if◌then◌else◌, ◌==◌, ◌||◌, arith}
 use Rattle.std.specs.Prelude.{Contains, not}
 use Rattle.std.specs.List.{flat_map}
+use Rattle.std.proofs.lemmas.Bool.{and_parts}
 use Rattle.chor_base.specs.declared.names.NameId.{NameId}
 use Rattle.chor_base.specs.declared.rule.Rule.TheVariants.{N2, N3}
 use Rattle.chor_base.specs.declared.fault.Fault.{Fault}
@@ -22,7 +23,6 @@ use Rattle.well_formed.specs.WellFormed.{AreDistinctRoles, AreDistinctRefs, name
 use Rattle.well_formed.proofs.References.{true_eq, same_name, clash}
 use Rattle.delegation.specs.Checks.{all_differ}
 use Rattle.typing_rules.specs.Environment.{at_main, at_procedure}
-use Rattle.typed_runs.proofs.Small.{both_true}
 use Rattle.typed_sources.proofs.Calls.{all_of}
 use Rattle.typed_sources.specs.Laws.{IsAccepted}
 use Rattle.source_blocks.specs.Blocks.{choreography_of}
@@ -66,7 +66,7 @@ first_of (q ∷ qs) od p (zero, l, e) = go (q.name.name.0 == p.name.name.0) (ap 
 first_of (q ∷ qs) od p (suc i, l, e) = go (q.name.name.0 == p.name.name.0) refl (first_of qs w.1 p (i, omega (arith, l), e))
   where
     w : (not (is_among (map (λ q. q.name.name) qs) q.name.name) ≡ true) × (all_differ (map (λ q. q.name.name) qs) ≡ true)
-    w = both_true _ _ od
+    w = and_parts _ _ od
 
     go : (b : Bool) → (q.name.name.0 == p.name.name.0) ≡ b → first_named (λ q. q.name) qs p.name.name ≡ Some p → (if b then Some q else first_named (λ q. q.name) qs p.name.name) ≡ Some p
     go false i ih = ih
@@ -79,7 +79,7 @@ module _ (f : File) (words : List (List ℕ)) (ok : IsAccepted f words) where
   pub active_there : (wanted : Service → Bool) (c : NameId) (k : Channel) → channel_in (channels_from wanted f) c ≡ Some k → 0 < length k.active
   active_there wanted c k h =
       let s = channel_back wanted f.services c k h in
-      let filled = all_of (λ (z : Service). has_items z.active) f.services (both_true _ _ (both_true _ _ f.kept.filled).0).0 s.0 s.1 in
+      let filled = all_of (λ (z : Service). has_items z.active) f.services (and_parts _ _ (and_parts _ _ f.kept.filled).0).0 s.0 s.1 in
       subst (λ (z : Channel). 0 < length z.active) s.2 (longer s.0.active (has_one s.0.active filled))
     where
       longer : (xs : List Written) → 0 < length xs → 0 < length (names_in xs)
@@ -128,12 +128,12 @@ module _ (f : File) (words : List (List ℕ)) (ok : IsAccepted f words) where
   pub main_named : AreNamed f (scope_of_main f) (body_of f f.body)
   main_named =
       body_named f words ok.names ok.protocols (suc f.body.0) (scope_of_main f) f.body (omega arith)
-      (less f words ok.names ok.protocols ok.types f.body.0 (length f.tree.nodes) (both_true _ _ (bodies_there f words ok.names ok.protocols ok.types)).0) (λ x h. ok.names x (in_main h))
+      (less f words ok.names ok.protocols ok.types f.body.0 (length f.tree.nodes) (and_parts _ _ (bodies_there f words ok.names ok.protocols ok.types)).0) (λ x h. ok.names x (in_main h))
 
   pub procedure_named : (p : Proc) → Contains f.procs p → AreNamed f (scope_of_procedure p) (body_of f p.body)
   procedure_named p m =
       body_named f words ok.names ok.protocols (suc p.body.0) (scope_of_procedure p) p.body (omega arith)
-      (less f words ok.names ok.protocols ok.types p.body.0 (length f.tree.nodes) (procs_there f words ok.names ok.protocols ok.types f.procs (both_true _ _ (bodies_there f words ok.names ok.protocols ok.types)).1 p m)) (λ x b. ok.names x (in_a_procedure m b))
+      (less f words ok.names ok.protocols ok.types p.body.0 (length f.tree.nodes) (procs_there f words ok.names ok.protocols ok.types f.procs (and_parts _ _ (bodies_there f words ok.names ok.protocols ok.types)).1 p m)) (λ x b. ok.names x (in_a_procedure m b))
 
   -- the names of a procedure's parameters and sessions differ
   pub head_apart : (p : Proc) → Contains f.procs p → all_differ (names_in (map (λ q. q.name) p.params) ++ names_in (map (λ k. k.name) p.sessions)) ≡ true

@@ -2,6 +2,7 @@
 use Rattle.std.proofs.Common.{◌≡◌, ℕ, List, [], ◌∷◌, ◌++◌, map, length, refl, sym, ap, ◌∙◌, subst, Some, None, Option, Bool, true, false, ◌==◌, ◌&&◌, inl, inr}
 use Rattle.std.specs.Prelude.{not, is_some}
 use Rattle.std.specs.List.{list_all}
+use Rattle.std.proofs.lemmas.Bool.{and_parts}
 use Rattle.chor_base.specs.declared.names.NameId.{NameId}
 use Rattle.chor_base.specs.declared.rule.Place.{Place}
 use Rattle.chor_base.specs.declared.rule.Rule.TheVariants.{N3, T3, T4, T6, T7, T9}
@@ -29,7 +30,6 @@ use Rattle.typing_rules.specs.Environment.{Environment, step_at}
 use Rattle.typing_rules.specs.Allowed.{value_sent, labels_sent, arm_of, endpoint_sent}
 use Rattle.typing_rules.specs.Checks.{has_sort, is_sort, sort_at, value_checks, label_checks, endpoint_checks, rest_ended, arguments_fit, statement_checks, rule_at}
 use Rattle.typing_rules.specs.After.{after_statement}
-use Rattle.typed_runs.proofs.Small.{both_true}
 use Rattle.typed_sources.proofs.Checked.{first_passes, asked, holder_is, has_step, value_allowed, label_allowed, endpoint_allowed}
 use Rattle.typed_sources.proofs.Moved.{at_is}
 use Rattle.typed_sources.proofs.Statements.{ProtocolsFit, is_own}
@@ -141,7 +141,7 @@ module _ (f : File) (good : ProtocolsFit f) (wanted : Service → Bool) where
     }
       where
         parts : (are_same (map (λ q. q.role.name) active) (names_in w.service.active) ≡ true) × (are_same (map (λ q. q.role.name) serve) (names_in w.service.serve) ≡ true)
-        parts = both_true _ _ (not_true _ (no_fault_at (not (are_same (map (λ q. q.role.name) active) (names_in w.service.active) && are_same (map (λ q. q.role.name) serve) (names_in w.service.serve))) N3 c
+        parts = and_parts _ _ (not_true _ (no_fault_at (not (are_same (map (λ q. q.role.name) active) (names_in w.service.active) && are_same (map (λ q. q.role.name) serve) (names_in w.service.serve))) N3 c
             (subst (λ o. wrong_parts o c active serve ≡ []) w.is_channel m.parts)))
 
         differ : all_differ (map (λ q. q.process.name) (active ++ serve)) ≡ true
@@ -189,7 +189,7 @@ module _ (f : File) (good : ProtocolsFit f) (wanted : Service → Bool) where
     }
       where
         differ : (all_differ (names_in ps) ≡ true) × (all_differ (names_in kk) ≡ true)
-        differ = both_true _ _ (asked (all_differ (names_in ps) && all_differ (names_in kk)) T7
+        differ = and_parts _ _ (asked (all_differ (names_in ps) && all_differ (names_in kk)) T7
             (first_passes (ask (all_differ (names_in ps) && all_differ (names_in kk)) T7) (arguments_fit e (procedure_of f g.name) ps kk ++ ask (rest_ended f e (names_in kk)) T6 ∷ []) h).0)
 
   -- ---- blocks

@@ -1,6 +1,7 @@
 -- In a block without fault whoever uses a role of a session holds it, as what is known at the block says.
 use Rattle.std.proofs.Common.{◌≡◌, ◌+◌, ℕ, zero, suc, List, [], ◌∷◌, ◌++◌, map, length, refl, sym, ap, ◌∙◌, subst, Some, None, Option, Bool, true, false, if◌then◌else◌, ◌==◌, ◌&&◌, arith}
 use Rattle.std.specs.Prelude.{slice_get, not, Result, Ok, Err}
+use Rattle.std.proofs.lemmas.Bool.{and_parts}
 use Rattle.chor_base.specs.declared.names.NameId.{NameId}
 use Rattle.chor_base.specs.declared.rule.Place.{Place}
 use Rattle.chor_base.specs.declared.rule.Rule.{Rule}
@@ -26,7 +27,6 @@ use Rattle.typing_rules.specs.Environment.{Environment, standing_of, step_at, mo
 use Rattle.typing_rules.specs.Allowed.{value_sent, labels_sent, arm_in, endpoint_sent}
 use Rattle.typing_rules.specs.Checks.{parties, sort_at, value_checks, label_checks, is_endpoint, endpoint_checks, rest_ended, params_are_set, holds_as, session_fits, sessions_fit, arguments_fit, statement_checks, rule_at}
 use Rattle.typing_rules.specs.After.{with_value, with_state as in_state, with_endpoint, with_sort, after_statement}
-use Rattle.typed_runs.proofs.Small.{both_true}
 use Rattle.typed_sources.specs.Stands.{at, holder_at}
 use Rattle.typed_sources.proofs.Checked.{first_passes, asked, holder_is, some_is}
 use Rattle.typed_sources.proofs.Moved.{at_same, at_is, passed_other, passed_this, holds_one}
@@ -60,7 +60,7 @@ two_parties e k a b cs h =
 -- a party holds its role
 party : (hs : List Held) (k a p : Written) → holds hs k.name a.name p.name ≡ true → (y : ℕ) (r : NameId) → is_role (Named y 0) r (name_ref k) a.name ≡ true → holder_in hs y r ≡ Some (name_ref p)
 party hs k a p h y r i =
-    let w = both_true _ _ i in
+    let w = and_parts _ _ i in
     let s : named y ≡ k.name = at_is (named y) k.name (same_ref (at (named y)) (at k.name) w.0) in
     ap (λ z. holder_at (holder_of hs z r)) s ∙ ap (λ z. holder_at (holder_of hs k.name z)) (same_name r a.name w.1) ∙ ap holder_at (holder_is hs k.name a.name p.name h)
 
@@ -122,7 +122,7 @@ module _ (f : File) (scope : Scope) (e : Environment) (t : KeepsOwners scope e) 
           ap (λ (z : Bool). if z then Some (name_ref b.process) else holder_in e.owners y r) i
           ∙ ap holder_at (sym (passed_other f scope e.owners given.process.name given.role.name b.process.name (named y) r (role_is y r false i)))
       changed y r true i is =
-          let w = both_true _ _ (role_is y r true i) in
+          let w = and_parts _ _ (role_is y r true i) in
           let s : named y ≡ given.process.name = same_name (named y) given.process.name w.0 in
           let q : r ≡ given.role.name = same_name r given.role.name w.1 in
           let P = passed e.owners given.process.name given.role.name b.process.name in
@@ -218,7 +218,7 @@ module _ (f : File) (e : Environment) where
     one_held qs ps q k w same (Some j) i =
         let x = placed qs (listed_for q.holders r) j i in
         let h = listed_there q.holders r x.0 x.1 in
-        let all = all_of (λ (h : Written × Written). holds_as e k.name h.0.name h.1.name qs ps) q.holders (both_true _ _ w).1 h.0 h.1 in
+        let all = all_of (λ (h : Written × Written). holds_as e k.name h.0.name h.1.name qs ps) q.holders (and_parts _ _ w).1 h.0 h.1 in
         let s : named y ≡ k.name = at_is (named y) k.name (same_ref (at (named y)) (at k.name) same) in
         let place : place_of qs h.0.1.name ≡ Some j = ap (place_of qs) h.3 ∙ x.2 in
         ap (λ z. holder_at (holder_of e.owners z r)) s ∙ ap (λ z. holder_at (holder_of e.owners k.name z)) (sym h.2) ∙ held_as k.name h.0.0.name h.0.1.name qs ps j place all
@@ -228,7 +228,7 @@ module _ (f : File) (e : Environment) where
     all_held L qs ps rs [] i l a m = tt
     all_held L qs ps [] (k ∷ ks) i l a m = absurd (omega (arith, l))
     all_held L qs ps (q ∷ rs) (k ∷ ks) i l a m =
-        let w = both_true _ _ a in (
+        let w = and_parts _ _ a in (
           λ same. one_held qs ps q k w.0 same (L i r) (sym (m 0) ∙ ap (λ z. L z r) (plus i)),
           all_held L qs ps rs ks (suc i) (omega (arith, l)) w.1 (λ j. ap (λ z. L z r) (shift i j) ∙ m (suc j)),
         )

@@ -2,6 +2,7 @@
 -- isn't in scope has no holders, and holders are in scope.
 use Rattle.std.proofs.Common.{◌≡◌, List, [], ◌∷◌, ◌++◌, map, refl, sym, ap, ◌∙◌, subst, Some, None, Option, Bool, true, false, if◌then◌else◌, ◌==◌, ◌&&◌, ◌||◌}
 use Rattle.std.specs.List.{list_all}
+use Rattle.std.proofs.lemmas.Bool.{and_parts}
 use Rattle.chor_base.specs.declared.names.NameId.{NameId}
 use Rattle.chor_tree.specs.declared.file.File.{File}
 use Rattle.chor_tree.specs.declared.tree.Part.{Part}
@@ -12,7 +13,6 @@ use Rattle.delegation.specs.Owners.{holder_of, holds_some, started, passed}
 use Rattle.delegation.specs.Checks.{all_differ}
 use Rattle.typing_rules.specs.declared.standings.Standing.{Standing}
 use Rattle.typing_rules.specs.Environment.{standing_of, moved}
-use Rattle.typed_runs.proofs.Small.{both_true}
 use Rattle.typed_sources.proofs.Checked.{some_is}
 use Rattle.typed_sources.proofs.Moved.{standing_moved, with_state, passed_other, passed_this, holds_one}
 use Rattle.typed_sources.proofs.Opened.{standing_more, standing_new, holder_other, holder_new, one_part}
@@ -50,7 +50,7 @@ module _ (f : File) (scope : Scope) where
       gone : (s a : NameId) (b : Bool) → ((s.0 == h.0) && (a.0 == r.0)) ≡ b → standing_of ss s ≡ None → holder_of (passed hs h r q) s a ≡ None
       gone s a false i j = passed_other f scope hs h r q s a i ∙ t.held s a j
       gone s a true i j =
-          let w = both_true _ _ i in
+          let w = and_parts _ _ i in
           absurd (nothing (ap (λ x. holder_of hs x r) (sym (same_name s h w.0)) ∙ t.held s r j) is)
 
       now_is : (s a z : NameId) → s ≡ h → a ≡ r → holder_of (passed hs h r q) s a ≡ Some z → z ≡ q
@@ -59,7 +59,7 @@ module _ (f : File) (scope : Scope) where
 
       in_there : (s a z : NameId) (b : Bool) → ((s.0 == h.0) && (a.0 == r.0)) ≡ b → holder_of (passed hs h r q) s a ≡ Some z → is_among ps z ≡ true
       in_there s a z false i j = t.in_scope s a z (sym (passed_other f scope hs h r q s a i) ∙ j)
-      in_there s a z true i j = let w = both_true _ _ i in ap (is_among ps) (now_is s a z (same_name s h w.0) (same_name a r w.1) j) ∙ there
+      in_there s a z true i j = let w = and_parts _ _ i in ap (is_among ps) (now_is s a z (same_name s h w.0) (same_name a r w.1) j) ∙ there
 
       mixed : (s a b z : NameId) → s ≡ h → a ≡ r → holder_of (passed hs h r q) s a ≡ Some z → holder_of hs s b ≡ Some z → ⊥
       mixed s a b z same role i j =
@@ -68,9 +68,9 @@ module _ (f : File) (scope : Scope) where
 
       one : (s a b z : NameId) (x y : Bool) → ((s.0 == h.0) && (a.0 == r.0)) ≡ x → ((s.0 == h.0) && (b.0 == r.0)) ≡ y → holder_of (passed hs h r q) s a ≡ Some z → holder_of (passed hs h r q) s b ≡ Some z → a ≡ b
       one s a b z false false i j k l = t.one_role s a b z (sym (passed_other f scope hs h r q s a i) ∙ k) (sym (passed_other f scope hs h r q s b j) ∙ l)
-      one s a b z true true i j k l = same_name a r (both_true _ _ i).1 ∙ sym (same_name b r (both_true _ _ j).1)
-      one s a b z true false i j k l = let w = both_true _ _ i in absurd (mixed s a b z (same_name s h w.0) (same_name a r w.1) k (sym (passed_other f scope hs h r q s b j) ∙ l))
-      one s a b z false true i j k l = let w = both_true _ _ j in absurd (mixed s b a z (same_name s h w.0) (same_name b r w.1) l (sym (passed_other f scope hs h r q s a i) ∙ k))
+      one s a b z true true i j k l = same_name a r (and_parts _ _ i).1 ∙ sym (same_name b r (and_parts _ _ j).1)
+      one s a b z true false i j k l = let w = and_parts _ _ i in absurd (mixed s a b z (same_name s h w.0) (same_name a r w.1) k (sym (passed_other f scope hs h r q s b j) ∙ l))
+      one s a b z false true i j k l = let w = and_parts _ _ j in absurd (mixed s b a z (same_name s h w.0) (same_name b r w.1) l (sym (passed_other f scope hs h r q s a i) ∙ k))
 
 -- who has a part in a start is in scope after it
 part_there : (ps : List NameId) (active serve : List Part) (p : NameId) → list_all (λ q. is_among ps q.process.name) active ≡ true → is_among (map (λ q. q.process.name) (active ++ serve)) p ≡ true → is_among (ps ++ map (λ q. q.process.name) serve) p ≡ true
@@ -82,7 +82,7 @@ part_there ps [] serve p k h = behind ps h
 part_there ps (q ∷ qs) serve p k h = go (q.process.name.0 == p.0) refl h (part_there ps qs serve p w.1)
   where
     w : (is_among ps q.process.name ≡ true) × (list_all (λ z. is_among ps z.process.name) qs ≡ true)
-    w = both_true _ _ k
+    w = and_parts _ _ k
 
     go : (b : Bool) → (q.process.name.0 == p.0) ≡ b → (b || is_among (map (λ z. z.process.name) (qs ++ serve)) p) ≡ true → (is_among (map (λ z. z.process.name) (qs ++ serve)) p ≡ true → is_among (ps ++ map (λ z. z.process.name) serve) p ≡ true)
         → is_among (ps ++ map (λ z. z.process.name) serve) p ≡ true

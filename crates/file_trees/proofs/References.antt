@@ -2,6 +2,7 @@
 use Rattle.std.proofs.Common.{◌≡◌, ℕ, suc, List, [], ◌∷◌, ◌++◌, map, length, refl, sym, ap, ◌∙◌, Bool, true, false, ◌==◌, ◌&&◌, ◌||◌, arith}
 use Rattle.std.specs.Prelude.{not}
 use Rattle.std.specs.List.{list_all}
+use Rattle.std.proofs.lemmas.Bool.{and_parts}
 use Rattle.chor_base.specs.declared.names.NameId.{NameId}
 use Rattle.chor_tree.specs.declared.file.Named.{Named as Written}
 use Rattle.chor_tree.specs.declared.tree.Part.{Part}
@@ -11,7 +12,6 @@ use Rattle.chor_semantics.specs.Sources.{name_ref, parts_of, served_of}
 use Rattle.well_formed.specs.WellFormed.{AllIn, AreDistinctRefs, AreNoDeeper, entered, firsts, names_in_scope}
 use Rattle.well_formed.proofs.References.{clash}
 use Rattle.delegation.specs.Checks.{all_differ}
-use Rattle.typed_runs.proofs.Small.{both_true}
 use Rattle.typed_sources.proofs.Opened.{eq_flip}
 use Rattle.typed_sources.proofs.Arguments.{named}
 use Rattle.typed_sources.proofs.Opened.{not_is}
@@ -30,11 +30,11 @@ among_named (z ∷ zs) x = ap (λ b. b || among (Named x 0) (names_in_scope zs))
 
 pub distinct_refs : (xs : List NameId) → all_differ xs ≡ true → AreDistinctRefs (names_in_scope xs)
 distinct_refs [] h = tt
-distinct_refs (x ∷ xs) h = let w = both_true _ _ h in (among_named xs x.0 ∙ not_is (is_among xs x) w.0, distinct_refs xs w.1)
+distinct_refs (x ∷ xs) h = let w = and_parts _ _ h in (among_named xs x.0 ∙ not_is (is_among xs x) w.0, distinct_refs xs w.1)
 
 pub all_in : (n : ℕ) (bs : List Ref) (scope : List NameId) → ((x : ℕ) → among (Named x 0) bs ≡ is_among scope (named x)) → (xs : List NameId) → list_all (λ x. is_among scope x) xs ≡ true → AllIn n bs (names_in_scope xs)
 all_in n bs scope a [] h = tt
-all_in n bs scope a (x ∷ xs) h = let w = both_true _ _ h in (a x.0 ∙ w.0, all_in n bs scope a xs w.1)
+all_in n bs scope a (x ∷ xs) h = let w = and_parts _ _ h in (a x.0 ∙ w.0, all_in n bs scope a xs w.1)
 
 pub refs_same : (ps : List Written) → map name_ref ps ≡ names_in_scope (names_in ps)
 refs_same [] = refl
@@ -54,7 +54,7 @@ served_roles (p ∷ ps) = ap (λ l. p.role.name ∷ l) (served_roles ps)
 
 pub list_of : {A : Type 0} (nm : A → NameId) (scope : List NameId) (xs : List A) → list_all (λ x. is_among scope (nm x)) xs ≡ true → list_all (λ x. is_among scope x) (map nm xs) ≡ true
 list_of nm scope [] h = refl
-list_of nm scope (x ∷ xs) h = let w = both_true _ _ h in ap (λ b. b && list_all (λ x. is_among scope x) (map nm xs)) w.0 ∙ list_of nm scope xs w.1
+list_of nm scope (x ∷ xs) h = let w = and_parts _ _ h in ap (λ b. b && list_all (λ x. is_among scope x) (map nm xs)) w.0 ∙ list_of nm scope xs w.1
 
 pub no_deeper : (xs : List NameId) → AreNoDeeper 0 (names_in_scope xs)
 no_deeper [] = tt
@@ -66,7 +66,7 @@ length_map g (x ∷ xs) = ap suc (length_map g xs)
 
 pub front_differ : (xs ys : List NameId) → all_differ (xs ++ ys) ≡ true → all_differ xs ≡ true
 front_differ [] ys h = refl
-front_differ (x ∷ xs) ys h = let w = both_true _ _ h in both (is_among xs x) (is_among (xs ++ ys) x) (among_front xs ys x) w.0 (front_differ xs ys w.1)
+front_differ (x ∷ xs) ys h = let w = and_parts _ _ h in both (is_among xs x) (is_among (xs ++ ys) x) (among_front xs ys x) w.0 (front_differ xs ys w.1)
   where
     both : (a b : Bool) → (a ≡ true → b ≡ true) → not b ≡ true → all_differ xs ≡ true → (not a && all_differ xs) ≡ true
     both true b i n d = absurd (clash (i refl) (not_is b n))

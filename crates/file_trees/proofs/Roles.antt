@@ -2,27 +2,27 @@
 use Rattle.std.proofs.Common.{◌≡◌, ◌+◌, ℕ, ◌<◌, List, [], ◌∷◌, ◌++◌, refl, sym, ap, ◌∙◌, subst, Bool, true, false, if◌then◌else◌, ◌==◌, ◌||◌, arith}
 use Rattle.std.specs.List.{list_all, count_by}
 use Rattle.std.proofs.lemmas.List.Recursion.{is_count_by}
+use Rattle.std.proofs.lemmas.Bool.{eqb-true, and_parts}
 use Rattle.chor_base.specs.declared.names.NameId.{NameId}
 use Rattle.chor_tree.specs.Names.{has_each_once, is_among}
 use Rattle.well_formed.specs.WellFormed.{role_among, AreDistinctRoles}
 use Rattle.well_formed.proofs.References.{same_name, clash, true_eq, or_rights}
-use Rattle.typed_runs.proofs.Small.{both_true, eq_same}
 
 among_of : (ns xs : List NameId) → list_all (is_among ns) xs ≡ true → (x : NameId) → role_among x xs ≡ true → is_among ns x ≡ true
 among_of ns [] h x m = absurd cc
-among_of ns (y ∷ ys) h x m = go (x.0 == y.0) refl m (among_of ns ys (both_true _ _ h).1 x)
+among_of ns (y ∷ ys) h x m = go (x.0 == y.0) refl m (among_of ns ys (and_parts _ _ h).1 x)
   where
     go : (b : Bool) → (x.0 == y.0) ≡ b → (b || role_among x ys) ≡ true → (role_among x ys ≡ true → is_among ns x ≡ true) → is_among ns x ≡ true
-    go true e i ih = subst (λ z. is_among ns z ≡ true) (sym (same_name x y e)) (both_true _ _ h).0
+    go true e i ih = subst (λ z. is_among ns z ≡ true) (sym (same_name x y e)) (and_parts _ _ h).0
     go false e i ih = ih i
 
 -- each name that is counted stands once
 counted : (ns xs : List NameId) → list_all (λ r. count_by (λ x. x.0 == r.0) xs == 1) ns ≡ true → (x : NameId) → is_among ns x ≡ true → (count_by (λ y. y.0 == x.0) xs == 1) ≡ true
 counted [] xs h x m = absurd cc
-counted (n ∷ ns) xs h x m = go (n.0 == x.0) refl m (counted ns xs (both_true _ _ h).1 x)
+counted (n ∷ ns) xs h x m = go (n.0 == x.0) refl m (counted ns xs (and_parts _ _ h).1 x)
   where
     go : (b : Bool) → (n.0 == x.0) ≡ b → (b || is_among ns x) ≡ true → (is_among ns x ≡ true → (count_by (λ y. y.0 == x.0) xs == 1) ≡ true) → (count_by (λ y. y.0 == x.0) xs == 1) ≡ true
-    go true e i ih = subst (λ z. (count_by (λ y. y.0 == z.0) xs == 1) ≡ true) (same_name n x e) (both_true _ _ h).0
+    go true e i ih = subst (λ z. (count_by (λ y. y.0 == z.0) xs == 1) ≡ true) (same_name n x e) (and_parts _ _ h).0
     go false e i ih = ih i
 
 abbrev tally : NameId → List NameId → ℕ
@@ -49,7 +49,7 @@ counted_apart (x ∷ xs) h = (off (role_among x xs) refl, counted_apart xs (λ z
     here = h x (ap (λ b. b || role_among x xs) (true_eq x.0))
 
     one_more : (b : Bool) → (x.0 == x.0) ≡ b → b ≡ true → (n : ℕ) → ((if b then 1 + n else n) == 1) ≡ true → n ≡ 0
-    one_more true e i n j = let k : 1 + n ≡ 1 = eq_same (1 + n) 1 j in omega (arith, k)
+    one_more true e i n j = let k : 1 + n ≡ 1 = eqb-true (1 + n) 1 j in omega (arith, k)
     one_more false e i n j = absurd cc
 
     off : (b : Bool) → role_among x xs ≡ b → role_among x xs ≡ false
@@ -81,5 +81,5 @@ back_apart (x ∷ xs) ys h = back_apart xs ys h.1
 -- Where a list has each of these names once and no other, none stands twice
 pub once_apart : (ns xs : List NameId) → has_each_once ns xs ≡ true → AreDistinctRoles xs
 once_apart ns xs h =
-    let w = both_true _ _ h in
+    let w = and_parts _ _ h in
     counted_apart xs (λ x m. ap (λ n. n == 1) (tally_is x xs) ∙ counted ns xs w.0 x (among_of ns xs w.1 x m))

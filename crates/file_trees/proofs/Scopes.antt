@@ -1,6 +1,7 @@
 -- What is in scope at a block and at its choreography; new processes are new in both.
 use Rattle.std.proofs.Common.{◌≡◌, ℕ, List, [], ◌∷◌, ◌++◌, map, refl, sym, ap, ◌∙◌, subst, Bool, true, false, ◌==◌, ◌||◌, arith}
 use Rattle.std.specs.Prelude.{not}
+use Rattle.std.proofs.lemmas.Bool.{and_parts}
 use Rattle.chor_base.specs.declared.names.NameId.{NameId}
 use Rattle.chor_tree.specs.declared.tree.Part.{Part}
 use Rattle.chor_tree.specs.Names.{Scope, is_among, are_same}
@@ -9,7 +10,6 @@ use Rattle.chor_semantics.specs.Choreography.{Ref, Named, among}
 use Rattle.chor_semantics.specs.Sources.{served_of}
 use Rattle.well_formed.specs.WellFormed.{Scope as RunScope, AreNoDeeper, AllNew, scope_after as run_scope_after, declared_scope}
 use Rattle.well_formed.proofs.References.{same_name, clash, true_eq, or_rights}
-use Rattle.typed_runs.proofs.Small.{both_true}
 use Rattle.typed_sources.proofs.Opened.{AreNew, among_more}
 use Rattle.typed_sources.proofs.Arguments.{named}
 use Rattle.source_blocks.specs.Blocks.{node_of}
@@ -74,4 +74,4 @@ pub same_names : (xs ys : List NameId) → are_same xs ys ≡ true → xs ≡ ys
 same_names [] [] h = refl
 same_names [] (y ∷ ys) h = absurd cc
 same_names (x ∷ xs) [] h = absurd cc
-same_names (x ∷ xs) (y ∷ ys) h = let w = both_true _ _ h in ap (λ z. z ∷ xs) (same_name x y w.0) ∙ ap (λ l. y ∷ l) (same_names xs ys w.1)
+same_names (x ∷ xs) (y ∷ ys) h = let w = and_parts _ _ h in ap (λ z. z ∷ xs) (same_name x y w.0) ∙ ap (λ l. y ∷ l) (same_names xs ys w.1)

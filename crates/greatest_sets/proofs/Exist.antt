@@ -3,6 +3,7 @@ use Rattle.std.proofs.Common.{◌≡◌, ◌+◌, ◌<◌, ◌≤◌, ℕ, zero,
 use Rattle.std.proofs.lemmas.Bool.Decides.{nat_tests}
 use Rattle.std.proofs.lemmas.List.Elements.{All-nil, All-cons}
 use Rattle.std.specs.Prelude.{All, Contains}
+use Rattle.std.proofs.lemmas.Bool.{and_parts}
 use Rattle.chor_base.specs.declared.names.NameId.{NameId}
 use Rattle.chor_semantics.specs.Choreography.{Ref, Choreography, Then, Either, Calls, Ends}
 use Rattle.chor_semantics.specs.Sources.{Procedure}
@@ -127,14 +128,10 @@ module _ (a : NameId) where
   stays sets dep (Calls f k ps ss) = passes dep ps (sets f)
   stays sets dep Ends = true
 
-  both : (x y : Bool) → (x && y) ≡ true → (x ≡ true) × (y ≡ true)
-  both true y h = (refl, h)
-  both false y h = absurd cc
-
   -- where it takes nothing, the calls pass members
   stays_passed : (c : Choreography) (sets : ParameterSets) (dep : Members) → stays sets dep c ≡ true → ArePassed a sets dep c
   stays_passed (Then n rest) sets dep h = stays_passed rest sets (members_after a dep n) h
-  stays_passed (Either p e c d) sets dep h = let w = both (stays sets dep c) (stays sets dep d) h in (stays_passed c sets dep w.0, stays_passed d sets dep w.1)
+  stays_passed (Either p e c d) sets dep h = let w = and_parts (stays sets dep c) (stays sets dep d) h in (stays_passed c sets dep w.0, stays_passed d sets dep w.1)
   stays_passed (Calls f k ps ss) sets dep h = sym (passes_same dep ps (sets f)) ∙ h
   stays_passed Ends sets dep h = tt
 

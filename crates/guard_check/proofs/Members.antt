@@ -4,20 +4,18 @@ use Rattle.std.specs.Prelude.{map, not, slice_index_or, Contains}
 use Rattle.std.proofs.lemmas.Bool.Decides.{nat_tests}
 use Rattle.std.proofs.lemmas.List.{map-append}
 use Rattle.std.proofs.lemmas.List.Folds.{list_any-append}
+use Rattle.std.proofs.lemmas.Bool.{eqb-true}
 use Rattle.chor_base.specs.declared.names.NameId.{NameId}
 use Rattle.chor_base.proofs.Members.{nowhere, at_head, at_tail, head_or_tail}
 use Rattle.chor_tree.specs.declared.tree.Part.{Part}
 use Rattle.chor_tree.specs.declared.file.ProcParam.{ProcParam}
 use Rattle.chor_tree.specs.Names.{is_among}
 
-same_number : (m n : ℕ) → (m == n) ≡ true → m ≡ n
-same_number m n h = grind (arith, nat_tests)
-
 pub number_itself : (n : ℕ) → (n == n) ≡ true
 number_itself n = grind (arith, nat_tests)
 
 pub same_name : (x y : NameId) → (x.0 == y.0) ≡ true → x ≡ y
-same_name x y h = let e = same_number x.0 y.0 h in let name : ℕ → NameId = λ n. record { 0 = n } in ap name e
+same_name x y h = let e = eqb-true x.0 y.0 h in let name : ℕ → NameId = λ n. record { 0 = n } in ap name e
 
 -- the processes of two lists of parts
 pub among_parts : (xs ys : List Part) (p : NameId) → is_among (map (λ q. q.process.name) (xs ++ ys)) p ≡ (is_among (map (λ q. q.process.name) xs) p || is_among (map (λ q. q.process.name) ys) p)

@@ -4,6 +4,7 @@ use Rattle.std.specs.List.{list_any}
 use Rattle.std.proofs.lemmas.List.{drop_all}
 use Rattle.std.proofs.lemmas.Bool.Decides.{nat_tests}
 use Rattle.std.specs.Prelude.{Option, Some, None, Contains, slice_get, slice_index_or, not}
+use Rattle.std.proofs.lemmas.Bool.{and_parts}
 use Rattle.chor_base.specs.declared.names.NameId.{NameId}
 use Rattle.chor_base.specs.declared.rule.Rule.TheVariants.{U1}
 use Rattle.chor_base.specs.declared.rule.Place.{Place}
@@ -61,10 +62,6 @@ both_true : (a b : Bool) → a ≡ true → b ≡ true → (a && b) ≡ true
 both_true true b h k = k
 both_true false b h k = absurd cc
 
-parts_true : (a b : Bool) → (a && b) ≡ true → (a ≡ true) × (b ≡ true)
-parts_true true b h = (refl, h)
-parts_true false b h = absurd cc
-
 not_true : (b : Bool) → not b ≡ true → b ≡ false
 not_true true h = absurd cc
 not_true false h = refl
@@ -82,7 +79,7 @@ block_first : (ps left : List NameId) (b : Block) (o : Option Fault) → AreUnna
 block_first ps left b o are none h = first_along (IsUnguardedAfter left (tails_of b)) (IsUnguardedIn ps b) o h there back where
   there : (x : Fault) → IsUnguardedAfter left (tails_of b) x → IsUnguardedIn ps b x
   there x (next, m, (p, a, u)) =
-      let parts = parts_true (is_among ps p) (not (is_among (named_by b) p)) (sym (are p) ∙ a) in (p, parts.0, further (not_true (is_among (named_by b) p) parts.1) m u)
+      let parts = and_parts (is_among ps p) (not (is_among (named_by b) p)) (sym (are p) ∙ a) in (p, parts.0, further (not_true (is_among (named_by b) p) parts.1) m u)
 
   back : (x : Fault) → IsUnguardedIn ps b x → IsUnguardedAfter left (tails_of b) x
   back x (p, a, here pass e) = let t : list_any (is_among ps) (passed_by b) ≡ true = passed_any ps (passed_by b) p a pass in absurd cc

@@ -2,6 +2,7 @@
 use Rattle.std.proofs.Common.{◌≡◌, Bool, true, false, not, ◌&&◌, ℕ, ◌<◌, ◌==◌, List, [], ◌∷◌, ◌++◌, length, sym, ap, ◌∙◌, subst, arith, length-append, Result, Ok, Err, refl}
 use Rattle.std.specs.Prelude.{IfOk, OnErr}
 use Rattle.std.proofs.lemmas.Bool.Decides.{nat_tests}
+use Rattle.std.proofs.lemmas.Bool.{and_parts}
 use Rattle.endpoint_code.specs.declared.code.Code.{Code}
 use Rattle.endpoint_code.specs.declared.code.CodeId.{CodeId}
 use Rattle.endpoint_code.specs.declared.code.CodeNode.{CodeNode}
@@ -9,10 +10,6 @@ use Rattle.endpoint_code.specs.Trees.{CodeTree, Does, Offers, Tests, Calls, Ends
 use Rattle.endpoint_code.specs.Labels.{HasDistinctLabels, AreDistinctArms, has_label}
 use Rattle.endpoint_code.proofs.CodeTables.{code_at-kept, code_at-pushed}
 use Rattle.merging_tests.specs.Labels.{is_distinct, are_distinct, AllDistinct}
-
-both : (b c : Bool) → (b && c) ≡ true → (b ≡ true) × (c ≡ true)
-both true c h = (refl, h)
-both false c h = absurd cc
 
 and : (b c : Bool) → b ≡ true → c ≡ true → (b && c) ≡ true
 and b c h g = ap (λ t. t && c) h ∙ g
@@ -25,15 +22,15 @@ mutual
   pub to_labels : (q : CodeTree) → is_distinct q ≡ true → HasDistinctLabels q
   to_labels (Does a rest) h = to_labels rest h
   to_labels (Offers k a arms) h = to_arms arms h
-  to_labels (Tests e first second) h = let b = both (is_distinct first) (is_distinct second) h in (to_labels first b.0, to_labels second b.1)
+  to_labels (Tests e first second) h = let b = and_parts (is_distinct first) (is_distinct second) h in (to_labels first b.0, to_labels second b.1)
   to_labels (Calls f p ss) h = tt
   to_labels Ends h = tt
 
   to_arms : (arms : Arms) → are_distinct arms ≡ true → AreDistinctArms arms
   to_arms NoArms h = tt
   to_arms (Arm l c rest) h =
-      let b = both (not (has_label l rest)) (is_distinct c && are_distinct rest) h in
-      let d = both (is_distinct c) (are_distinct rest) b.1 in
+      let b = and_parts (not (has_label l rest)) (is_distinct c && are_distinct rest) h in
+      let d = and_parts (is_distinct c) (are_distinct rest) b.1 in
       (unless (has_label l rest) b.0, to_labels c d.0, to_arms rest d.1)
 
 mutual

@@ -3,6 +3,7 @@ use Rattle.std.proofs.Common.{◌≡◌, ◌≢◌, ℕ, zero, suc, ◌==◌, Bo
 use Rattle.std.specs.Prelude.{slice_get, slice_set, not}
 use Rattle.std.proofs.lemmas.List.{map-append, append-nil}
 use Rattle.std.proofs.lemmas.Bool.Decides.{nat_tests}
+use Rattle.std.proofs.lemmas.Bool.{eqb-true, eqb-false}
 use Rattle.chor_base.specs.declared.value.Load.{Load}
 use Rattle.chor_base.specs.declared.names.NameId.{NameId}
 use Rattle.chor_base.specs.declared.event.Why.TheVariants.{Empty, Wrong, Full, Absent}
@@ -74,21 +75,15 @@ post_other ds p q d h = ap (λ o. post_of_desk o) (get-set_other ds p q d h)
     post_of_desk None = Busy
     post_of_desk (Some d) = d.post
 
-pub same_number : (a b : ℕ) → (a == b) ≡ true → a ≡ b
-same_number a b h = grind (arith, nat_tests)
-
-pub other_number : (a b : ℕ) → (a == b) ≡ false → a ≢ b
-other_number a b h = grind (arith, nat_tests)
-
 pub posts_after : (e : Endpoints) (n m : NetworkState) (x : Event) (p : ℕ) (ds : List Desk) → ActsAlone p x n m → ((q : ℕ) → q ≢ p → StaysFirst e n m (slice_get n.machines q)) → ((q : ℕ) → IsTrueIn e n q (post_at ds q)) → (q : ℕ) → IsTrueIn e m q (post_at (made_busy (p ∷ []) ds) q)
 posts_after e n m x p ds alone first posts q = go (q == p) refl
   where
     go : (b : Bool) → (q == p) ≡ b → IsTrueIn e m q (post_at (made_busy (p ∷ []) ds) q)
     go true h =
-        let own : post_at (made_busy (p ∷ []) ds) q ≡ Busy = subst (λ i. post_at (made_busy (p ∷ []) ds) i ≡ Busy) (sym (same_number q p h)) (busy_own ds p (joined_at ds p)) in
+        let own : post_at (made_busy (p ∷ []) ds) q ≡ Busy = subst (λ i. post_at (made_busy (p ∷ []) ds) i ≡ Busy) (sym (eqb-true q p h)) (busy_own ds p (joined_at ds p)) in
         subst (λ (w : Post). IsTrueIn e m q w) (sym own) (busy_true e m (slice_get m.machines q))
     go false h =
-        let apart = other_number q p h in
+        let apart = eqb-false q p h in
         subst (λ (w : Post). IsTrueIn e m q w) (sym (post_other ds p q _ apart))
         (subst (λ (o : Option Machine). IsPostOf e m o (post_at ds q)) (sym (alone.others q apart)) (post_stays e n m (slice_get n.machines q) (post_at ds q) (first q apart) (posts q)))
 

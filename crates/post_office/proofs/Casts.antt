@@ -4,6 +4,7 @@ use Rattle.std.specs.Prelude.{map}
 use Rattle.std.proofs.lemmas.List.{drop_more}
 use Rattle.std.proofs.lemmas.List.Elements.{All-cons, All-nil}
 use Rattle.std.proofs.lemmas.Bool.Decides.{nat_tests}
+use Rattle.std.proofs.lemmas.Bool.{and_parts}
 use Rattle.chor_base.specs.declared.names.NameId.{NameId}
 use Rattle.endpoint_code.specs.Network.{paired, one_pair}
 use Rattle.post_office.specs.declared.desk.Desk.{Desk}
@@ -12,10 +13,6 @@ use Rattle.post_office.specs.Starts.{joins_as, least_posted, partner_for, first_
 
 pub name_same : (a b : NameId) → (a.0 == b.0) ≡ true → a ≡ b
 name_same a b h = let e : a.0 ≡ b.0 = grind (arith, nat_tests) in ap (λ (n : ℕ). let r : NameId = record { 0 = n } in r) e
-
-pub both_true : (a b : Bool) → (a && b) ≡ true → (a ≡ true) × (b ≡ true)
-both_true true b h = (refl, h)
-both_true false b h = absurd cc
 
 -- ---- going through the board and the roles
 

@@ -5,6 +5,7 @@ use Rattle.std.specs.FinMap as fin
 use Rattle.std.specs.Ordering.{nat_cmp, eq_by_cmp}
 use Rattle.std.proofs.lemmas.Cmp.{nat_cmp_total}
 use Rattle.std.proofs.lemmas.Bool.Decides.{nat_tests}
+use Rattle.std.proofs.lemmas.Bool.{eqb-true, eqb-false}
 use Rattle.chor_base.specs.declared.names.NameId.{NameId}
 use Rattle.chor_base.specs.declared.value.Value.TheVariants.{Part as Endpoint}
 use Rattle.chor_base.specs.declared.value.Load.{Load}
@@ -15,7 +16,6 @@ use Rattle.endpoint_code.specs.Network.{Sessions, Machine, NetworkState, queue_o
 use Rattle.endpoint_code.proofs.Fifo.{same_triple}
 use Rattle.endpoint_code.proofs.Queues.{loads-same, loads-other}
 use Rattle.post_office.proofs.Steps.{get-set_other}
-use Rattle.post_office.proofs.Acting.{same_number, other_number}
 
 -- ---- sessions by names
 
@@ -27,15 +27,15 @@ pub get_bound : (ss : Sessions) (k : ℕ) (v : ℕ × NameId) (q : ℕ) (w : ℕ
 get_bound ss k v q w h = go (q == k) refl (sym (fin.get-insert nat_cmp_total ss k v q ∙ ap (λ b. cond b (Some v) (fin.get ss q)) (keyed q k)) ∙ h)
   where
     go : (b : Bool) → (q == k) ≡ b → cond (q == k) (Some v) (fin.get ss q) ≡ Some w → ((q ≡ k) × (v ≡ w)) ⊎ ((q ≢ k) × (fin.get ss q ≡ Some w))
-    go true e i = (let j : Some v ≡ Some w = sym (ap (λ b. cond b (Some v) (fin.get ss q)) e) ∙ i in inl (same_number q k e, cc))
-    go false e i = inr (other_number q k e, sym (ap (λ b. cond b (Some v) (fin.get ss q)) e) ∙ i)
+    go true e i = (let j : Some v ≡ Some w = sym (ap (λ b. cond b (Some v) (fin.get ss q)) e) ∙ i in inl (eqb-true q k e, cc))
+    go false e i = inr (eqb-false q k e, sym (ap (λ b. cond b (Some v) (fin.get ss q)) e) ∙ i)
 
 pub get_unbound : (ss : Sessions) (k q : ℕ) (w : ℕ × NameId) → fin.get (fin.remove ss k) q ≡ Some w → (q ≢ k) × (fin.get ss q ≡ Some w)
 get_unbound ss k q w h = go (q == k) refl (sym (fin.get-remove nat_cmp_total ss k q ∙ ap (λ b. cond b None (fin.get ss q)) (keyed q k)) ∙ h)
   where
     go : (b : Bool) → (q == k) ≡ b → cond (q == k) None (fin.get ss q) ≡ Some w → (q ≢ k) × (fin.get ss q ≡ Some w)
     go true e i = (let j : None ≡ Some w = sym (ap (λ b. cond b None (fin.get ss q)) e) ∙ i in absurd cc)
-    go false e i = (other_number q k e, sym (ap (λ b. cond b None (fin.get ss q)) e) ∙ i)
+    go false e i = (eqb-false q k e, sym (ap (λ b. cond b None (fin.get ss q)) e) ∙ i)
 
 -- no two names stand for one role
 abbrev pub AreOnce : Sessions → Type 0
@@ -170,10 +170,10 @@ module _ (n : NetworkState) (p : ℕ) (w m : Machine) (there : slice_get n.machi
     where
       go : (b : Bool) → (q == p) ≡ b → (o : Holder) × HoldsAt n v o
       go true e =
-          let own = own_held k v (subst (λ x. held_by (slice_get replaced.machines x) k ≡ Some v) (same_number q p e) h) in
+          let own = own_held k v (subst (λ x. held_by (slice_get replaced.machines x) k ≡ Some v) (eqb-true q p e) h) in
           let old = from k v own in
           (Process p old.0, ap (λ (o : Option Machine). held_by o old.0) there ∙ old.1)
-      go false e = (Process q k, other_held q k v (other_number q p e) h)
+      go false e = (Process q k, other_held q k v (eqb-false q p e) h)
 
   pub replaced_unique : AreFrom m.sessions w.sessions → AreOnce m.sessions → IsUnique n → IsUnique replaced
   replaced_unique from once unique v (Transit t i) (Transit u j) a b = unique v (Transit t i) (Transit u j) a b
@@ -181,40 +181,40 @@ module _ (n : NetworkState) (p : ℕ) (w m : Machine) (there : slice_get n.machi
     where
       go : (r : Bool) → (q == p) ≡ r → Transit t i ≡ Process q k
       go true e =
-          let own = own_held k v (subst (λ x. held_by (slice_get replaced.machines x) k ≡ Some v) (same_number q p e) b) in
+          let own = own_held k v (subst (λ x. held_by (slice_get replaced.machines x) k ≡ Some v) (eqb-true q p e) b) in
           let old = from k v own in
           let clash : Transit t i ≡ Process p old.0 = unique v (Transit t i) (Process p old.0) a (ap (λ (o : Option Machine). held_by o old.0) there ∙ old.1) in
           absurd cc
-      go false e = unique v (Transit t i) (Process q k) a (other_held q k v (other_number q p e) b)
+      go false e = unique v (Transit t i) (Process q k) a (other_held q k v (eqb-false q p e) b)
   replaced_unique from once unique v (Process q k) (Transit t i) b a = go (q == p) refl
     where
       go : (r : Bool) → (q == p) ≡ r → Process q k ≡ Transit t i
       go true e =
-          let own = own_held k v (subst (λ x. held_by (slice_get replaced.machines x) k ≡ Some v) (same_number q p e) b) in
+          let own = own_held k v (subst (λ x. held_by (slice_get replaced.machines x) k ≡ Some v) (eqb-true q p e) b) in
           let old = from k v own in
           let clash : Transit t i ≡ Process p old.0 = unique v (Transit t i) (Process p old.0) a (ap (λ (o : Option Machine). held_by o old.0) there ∙ old.1) in
           absurd cc
-      go false e = unique v (Process q k) (Transit t i) (other_held q k v (other_number q p e) b) a
+      go false e = unique v (Process q k) (Transit t i) (other_held q k v (eqb-false q p e) b) a
   replaced_unique from once unique v (Process q k) (Process r j) a b = go (q == p) refl (r == p) refl
     where
       own : (x y : ℕ) → (x == p) ≡ true → held_by (slice_get replaced.machines x) y ≡ Some v → fin.get m.sessions y ≡ Some v
-      own x y e h = own_held y v (subst (λ z. held_by (slice_get replaced.machines z) y ≡ Some v) (same_number x p e) h)
+      own x y e h = own_held y v (subst (λ z. held_by (slice_get replaced.machines z) y ≡ Some v) (eqb-true x p e) h)
 
       clash : (x y z : ℕ) → (x == p) ≡ false → held_by (slice_get replaced.machines x) y ≡ Some v → fin.get m.sessions z ≡ Some v → ⊥
       clash x y z e h g =
           let old = from z v g in
-          let same = process_same p x old.0 y (unique v (Process p old.0) (Process x y) (ap (λ (o : Option Machine). held_by o old.0) there ∙ old.1) (other_held x y v (other_number x p e) h)) in
-          other_number x p e (sym same.0)
+          let same = process_same p x old.0 y (unique v (Process p old.0) (Process x y) (ap (λ (o : Option Machine). held_by o old.0) there ∙ old.1) (other_held x y v (eqb-false x p e) h)) in
+          eqb-false x p e (sym same.0)
 
       go : (s : Bool) → (q == p) ≡ s → (t : Bool) → (r == p) ≡ t → Process q k ≡ Process r j
       go true e true f =
           let same : k ≡ j = once k j v (own q k e a) (own r j f b) in
-          let one : q ≡ p = same_number q p e in
-          let two : r ≡ p = same_number r p f in
+          let one : q ≡ p = eqb-true q p e in
+          let two : r ≡ p = eqb-true r p f in
           cc
       go true e false f = absurd (clash r j k f b (own q k e a))
       go false e true f = absurd (clash q k j e a (own r j f b))
-      go false e false f = unique v (Process q k) (Process r j) (other_held q k v (other_number q p e) a) (other_held r j v (other_number r p f) b)
+      go false e false f = unique v (Process q k) (Process r j) (other_held q k v (eqb-false q p e) a) (other_held r j v (eqb-false r p f) b)
 
 -- ---- queues
 

@@ -2,13 +2,14 @@
 use Rattle.std.proofs.Common.{◌≡◌, ℕ, zero, suc, ◌<◌, ◌==◌, ◌^◌, ◌⊎◌, inl, inr, Bool, true, false, List, [], ◌∷◌, length, refl, sym, ap, ◌∙◌, subst, None}
 use Rattle.std.specs.Prelude.{slice_get, slice_set}
 use Rattle.std.proofs.lemmas.List.{length-set}
+use Rattle.std.proofs.lemmas.Bool.{eqb-true, eqb-false}
 use Rattle.post_office.specs.declared.desk.Desk.{Desk}
 use Rattle.post_office.specs.declared.post.Post.{Post}
 use Rattle.post_office.specs.declared.post.Post.TheVariants.{Busy}
 use Rattle.post_office.specs.Views.{OfficeView, post_at}
 use Rattle.post_office.specs.Posts.{IsTrueIn}
 use Rattle.post_office.specs.Kept.{IsKept, CanPost}
-use Rattle.post_office.proofs.Acting.{busy_true, post_other, same_number, other_number}
+use Rattle.post_office.proofs.Acting.{busy_true, post_other}
 
 own_post : (ds : List Desk) (p : ℕ) (d : Desk) → (post_at (slice_set ds p d) p ≡ d.post) ⊎ (post_at (slice_set ds p d) p ≡ Busy)
 own_post [] p d = inr refl
@@ -44,5 +45,5 @@ module _ {v : OfficeView} (kept : IsKept v) (p : ℕ) (post : Post) (can : CanPo
           ]
 
           go : (b : Bool) → (q == p) ≡ b → IsTrueIn v.endpoints kept.state q (post_at (slice_set v.desks p desk) q)
-          go true h = subst (λ i. IsTrueIn v.endpoints kept.state i (post_at (slice_set v.desks p desk) i)) (sym (same_number q p h)) own
-          go false h = subst (λ (w : Post). IsTrueIn v.endpoints kept.state q w) (sym (post_other v.desks p q desk (other_number q p h))) (kept.posts q)
+          go true h = subst (λ i. IsTrueIn v.endpoints kept.state i (post_at (slice_set v.desks p desk) i)) (sym (eqb-true q p h)) own
+          go false h = subst (λ (w : Post). IsTrueIn v.endpoints kept.state q w) (sym (post_other v.desks p q desk (eqb-false q p h))) (kept.posts q)

@@ -4,6 +4,7 @@ use Rattle.std.specs.Prelude.{slice_get, slice_set, All}
 use Rattle.std.specs.FinMap as fin
 use Rattle.std.proofs.lemmas.List.Elements.{All-head, All-tail}
 use Rattle.std.proofs.lemmas.Bool.Decides.{nat_tests}
+use Rattle.std.proofs.lemmas.Bool.{eqb-true, eqb-false}
 use Rattle.chor_base.specs.declared.names.NameId.{NameId}
 use Rattle.chor_base.specs.declared.value.Value.TheVariants.{Int, Bool as Truth, Text, Part as Endpoint}
 use Rattle.chor_base.specs.declared.value.Load.{Load}
@@ -24,7 +25,6 @@ use Rattle.endpoint_code.specs.Network.{Sessions, Machine, NetworkState, Place, 
 use Rattle.endpoint_code.specs.NetworkRuns.{NetworkLeads, IsNetworkRun, joins_there}
 use Rattle.post_office.proofs.Casts.{name_same}
 use Rattle.post_office.proofs.Steps.{get-set_other}
-use Rattle.post_office.proofs.Acting.{same_number, other_number}
 use Rattle.post_office.proofs.Scoped.{IsSomewhere, IsNext, IsPlaced, next_somewhere, is_placed, place_active}
 
 -- ---- one process goes on
@@ -121,9 +121,9 @@ module _ (e : Endpoints) where
     where
       go : (b : Bool) → (q == p) ≡ b → IsSomewhere e w.at
       go true i =
-          let here : slice_get (slice_set ms p m) p ≡ Some w = subst (λ j. slice_get (slice_set ms p m) j ≡ Some w) (same_number q p i) h in
+          let here : slice_get (slice_set ms p m) p ≡ Some w = subst (λ j. slice_get (slice_set ms p m) j ≡ Some w) (eqb-true q p i) h in
           subst (λ (x : Machine). IsSomewhere e x.at) (get-set_own ms p m w here) one
-      go false i = all q w (sym (get-set_other ms p q m (other_number q p i)) ∙ h)
+      go false i = all q w (sym (get-set_other ms p q m (eqb-false q p i)) ∙ h)
 
   append_somewhere : (ms ns : List Machine) → AreSomewhere e ms → AreSomewhere e ns → AreSomewhere e (ms ++ ns)
   append_somewhere [] ns a b p m h = b p m h

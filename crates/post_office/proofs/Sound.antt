@@ -3,6 +3,7 @@ use Rattle.std.proofs.Common.{◌≡◌, ℕ, ◌<◌, ◌==◌, ◌&&◌, ◌�
 use Rattle.std.specs.Prelude.{slice_get, slice_set, unwrap_or, pos}
 use Rattle.std.specs.FinMap as fin
 use Rattle.std.proofs.lemmas.Cmp.{nat_cmp_total}
+use Rattle.std.proofs.lemmas.Bool.{eqb-true, eqb-false, and_parts}
 use Rattle.chor_base.specs.declared.names.NameId.{NameId}
 use Rattle.chor_base.specs.declared.value.Value.{Value}
 use Rattle.chor_base.specs.declared.value.Value.TheVariants.{Int, Bool as Truth, Text, Part as Endpoint}
@@ -21,7 +22,6 @@ use Rattle.endpoint_code.specs.declared.code.CodeNode.{CodeNode}
 use Rattle.endpoint_code.specs.declared.code.CodeNode.TheVariants.{Join, Send, Recv, Pick, Branch, Throw, Catch, Set, Show, Host, If, Call, End}
 use Rattle.endpoint_code.specs.Kept.{value_there, term_there, node_there}
 use Rattle.endpoint_code.specs.Network.{Sessions, Machine, NetworkState, Makes, Taking, Goes, arm_at, in_arm, moved, with_queue, put_if, puts, part_load, has_room, queue_of, takes, takes_from, went, takes_value, takes_label, takes_part, node_makes}
-use Rattle.post_office.proofs.Acting.{same_number, other_number}
 use Rattle.post_office.proofs.Steps.{get-set_other}
 use Rattle.post_office.proofs.Reached.{get-set_own}
 use Rattle.post_office.proofs.Held.{keyed, get_bound, get_unbound, AreOnce, AreFrom, Holder, Process, Transit, held_by, HoldsAt, IsUnique, IsNowhere, fewer_unique, added_unique, own_held, held_own, other_held, was_held, replaced_unique, put, put_split, before, taken_before, taken_unique, taken_nowhere}
@@ -79,10 +79,6 @@ value_plain n t (Binary op e f) vars h all = binary_plain op (value_of e vars) (
 plain_apart : (v : Value) (w : ℕ × NameId) → is_plain v ≡ true → Carries v ≡ Carries (Endpoint w.0 w.1) → ⊥
 plain_apart v w h e = (let is : v ≡ Endpoint w.0 w.1 = cc in let no : is_plain (Endpoint w.0 w.1) ≡ true = subst (λ (u : Value). is_plain u ≡ true) is h in cc)
 
-both : (a b : Bool) → (a && b) ≡ true → (a ≡ true) × (b ≡ true)
-both true b h = (refl, h)
-both false b h = absurd cc
-
 -- ---- states
 
 -- each role is held once, of a session that has started, and no variable has an endpoint
@@ -95,8 +91,8 @@ pub plain_set : (ms : List Machine) (p : ℕ) (m : Machine) → ((q : ℕ) (w : 
 plain_set ms p m all one q w h = go (q == p) refl
   where
     go : (b : Bool) → (q == p) ≡ b → ArePlain w.vars
-    go true e = subst (λ (x : Machine). ArePlain x.vars) (get-set_own ms p m w (subst (λ j. slice_get (slice_set ms p m) j ≡ Some w) (same_number q p e) h)) one
-    go false e = all q w (sym (get-set_other ms p q m (other_number q p e)) ∙ h)
+    go true e = subst (λ (x : Machine). ArePlain x.vars) (get-set_own ms p m w (subst (λ j. slice_get (slice_set ms p m) j ≡ Some w) (eqb-true q p e) h)) one
+    go false e = all q w (sym (get-set_other ms p q m (eqb-false q p e)) ∙ h)
 
 module _ (n : NetworkState) (p : ℕ) (w : Machine) (there : slice_get n.machines p ≡ Some w) (sound : IsSound n) where
   -- a process goes on, with names for sessions that it had
@@ -132,10 +128,10 @@ module _ (n : NetworkState) (p : ℕ) (w : Machine) (there : slice_get n.machine
       where
         go : (b : Bool) → (q == p) ≡ b → HoldsAt (moved n p at vars ss) v (Process q j)
         go true e =
-            let own = own_held n p w without_it there j v (subst (λ x. held_by (slice_get (moved n p at vars (fin.remove ss k)).machines x) j ≡ Some v) (same_number q p e) h) in
-            subst (λ x. held_by (slice_get (moved n p at vars ss).machines x) j ≡ Some v) (sym (same_number q p e)) (held_own n p w with_it there j v (get_unbound ss k j v own).1)
+            let own = own_held n p w without_it there j v (subst (λ x. held_by (slice_get (moved n p at vars (fin.remove ss k)).machines x) j ≡ Some v) (eqb-true q p e) h) in
+            subst (λ x. held_by (slice_get (moved n p at vars ss).machines x) j ≡ Some v) (sym (eqb-true q p e)) (held_own n p w with_it there j v (get_unbound ss k j v own).1)
         go false e =
-            ap (λ (o : Option Machine). held_by o j) (get-set_other n.machines p q with_it (other_number q p e)) ∙ other_held n p w without_it there q j v (other_number q p e) h
+            ap (λ (o : Option Machine). held_by o j) (get-set_other n.machines p q with_it (eqb-false q p e)) ∙ other_held n p w without_it there q j v (eqb-false q p e) h
 
     pub unbound_nowhere : IsNowhere (moved n p at vars (fin.remove ss k)) v
     unbound_nowhere l h =
@@ -189,13 +185,13 @@ bound_split n p w there at vars ss k v u q j h = go (q == p) refl
 
     go : (b : Bool) → (q == p) ≡ b → ((Process q j ≡ Process p k) × (v ≡ u)) ⊎ (held_by (slice_get (moved n p at vars ss).machines q) j ≡ Some u)
     go true e =
-        let same : q ≡ p = same_number q p e in
+        let same : q ≡ p = eqb-true q p e in
         let own = own_held n p w with_it there j u (subst (λ x. held_by (slice_get (moved n p at vars (fin.insert ss k v)).machines x) j ≡ Some u) same h) in
         elim (get_bound ss k v j u own) [
           | inl x ↦ inl ((let key : j ≡ k = x.0 in cc), x.1)
           | inr x ↦ inr (subst (λ y. held_by (slice_get (moved n p at vars ss).machines y) j ≡ Some u) (sym same) (held_own n p w without_it there j u x.1))
         ]
-    go false e = inr (ap (λ (o : Option Machine). held_by o j) (get-set_other n.machines p q without_it (other_number q p e)) ∙ other_held n p w with_it there q j u (other_number q p e) h)
+    go false e = inr (ap (λ (o : Option Machine). held_by o j) (get-set_other n.machines p q without_it (eqb-false q p e)) ∙ other_held n p w with_it there q j u (eqb-false q p e) h)
 
 -- ---- what a process does by itself
 
@@ -298,7 +294,7 @@ module _ (n : NetworkState) (p : ℕ) (w : Machine) (there : slice_get n.machine
 
   pub node_sound : (cap : Option ℕ) (v : ℤ) (node : CodeNode) (named : NameId → Bool) (texts : ℕ → Bool) → node_there named texts node ≡ true → (x : Event) (k : NetworkState) → node_makes cap n p v w.vars ss node ≡ Some (Makes x k) → IsSound k
   node_sound cap v (Send y b e next) named texts ok x k h =
-      let term = (both (named y && named b) (term_there named texts (term_of e)) ok).1 in
+      let term = (and_parts (named y && named b) (term_there named texts (term_of e)) ok).1 in
       put_sound cap (moved n p next w.vars ss) p b (fin.get ss y.0) (Carries (value_of (term_of e) w.vars)) x k
       (λ t. put_plain (moved n p next w.vars ss) t (Carries (value_of (term_of e) w.vars)) (λ u i. plain_apart (value_of (term_of e) w.vars) u (value_plain named texts (term_of e) w.vars term plain) i) (moved_sound n p w there sound next w.vars ss from once plain)) h
   node_sound cap v (Pick y b l next) named texts ok x k h =
@@ -308,7 +304,7 @@ module _ (n : NetworkState) (p : ℕ) (w : Machine) (there : slice_get n.machine
   node_sound cap v (Branch y a arms) named texts ok x k h = take_sound n p a (fin.get ss y.0) (takes_label arms w.vars ss) x k (after_label arms) h
   node_sound cap v (Catch y a g next) named texts ok x k h = take_sound n p a (fin.get ss y.0) (takes_part next w.vars ss g) x k (after_part next g) h
   node_sound cap v (Set y e next) named texts ok x k h =
-      let term = (both (named y) (term_there named texts (term_of e)) ok).1 in
+      let term = (and_parts (named y) (term_there named texts (term_of e)) ok).1 in
       let u = value_of (term_of e) w.vars in
       let is : moved n p next (fin.insert w.vars y.0 u) ss ≡ k = cc in
       subst IsSound is (moved_sound n p w there sound next (fin.insert w.vars y.0 u) ss from once (set_plain w.vars y.0 u plain (value_plain named texts (term_of e) w.vars term plain)))

@@ -5,6 +5,7 @@ use Rattle.std.proofs.Math.ListN.{replicate}
 use Rattle.std.proofs.lemmas.List.{length-set, length-replicate, map-append}
 use Rattle.std.proofs.lemmas.List.Elements.{All-head, All-tail}
 use Rattle.std.specs.FinMap as fin
+use Rattle.std.proofs.lemmas.Bool.{eqb-true, eqb-false, and_parts}
 use Rattle.chor_base.specs.declared.names.NameId.{NameId}
 use Rattle.chor_base.specs.declared.event.Entry.{Entry}
 use Rattle.chor_base.specs.declared.event.Event.{Event}
@@ -23,8 +24,8 @@ use Rattle.post_office.specs.Views.{OfficeView, post_at, idle, all_joined}
 use Rattle.post_office.specs.Posts.{IsPostOf, IsTrueIn}
 use Rattle.post_office.specs.Kept.{IsKept}
 use Rattle.post_office.specs.Starts.{joins_as, AllPosted, most_served}
-use Rattle.post_office.proofs.Acting.{busy_true, post_stays, busy_own, post_other, same_number, other_number, after_more}
-use Rattle.post_office.proofs.Casts.{name_same, both_true, parts_paired}
+use Rattle.post_office.proofs.Acting.{busy_true, post_stays, busy_own, post_other, after_more}
+use Rattle.post_office.proofs.Casts.{name_same, parts_paired}
 use Rattle.post_office.proofs.Steps.{get-set_other}
 
 -- ---- who is posted as joining joins
@@ -32,7 +33,7 @@ use Rattle.post_office.proofs.Steps.{get-set_other}
 pub post_joins : (e : Endpoints) (n : NetworkState) (o : Option Machine) (post : Post) (c r : NameId) → IsPostOf e n o post → joins_as post c r ≡ true → joins_there (place_at e o) c r ≡ true
 post_joins e n None (Joining d q) c r t h = absurd t
 post_joins e n (Some m) (Joining d q) c r t h =
-    let parts = both_true (d.0 == c.0) (q.0 == r.0) h in
+    let parts = and_parts (d.0 == c.0) (q.0 == r.0) h in
     subst (λ (x : NameId). joins_there (place_of e m) x r ≡ true) (name_same d c parts.0) (subst (λ (x : NameId). joins_there (place_of e m) d x ≡ true) (name_same q r parts.1) t)
 post_joins e n o Busy c r t h = absurd cc
 post_joins e n o (Waiting why) c r t h = absurd cc
@@ -139,8 +140,8 @@ joined_post s (q ∷ qs) ds i = go (i == q.1) refl (joined_post s qs (slice_set 
     go : (b : Bool) → (i == q.1) ≡ b → (post_at (all_joined s qs (slice_set ds q.1 desk)) i ≡ Busy) ⊎ ((post_at (all_joined s qs (slice_set ds q.1 desk)) i ≡ post_at (slice_set ds q.1 desk) i) × NotIn i (map (λ q. q.1) qs))
         → (post_at (all_joined s (q ∷ qs) ds) i ≡ Busy) ⊎ ((post_at (all_joined s (q ∷ qs) ds) i ≡ post_at ds i) × NotIn i (map (λ q. q.1) (q ∷ qs)))
     go b h (inl e) = inl e
-    go true h (inr e) = inl (e.0 ∙ subst (λ j. post_at (slice_set ds q.1 desk) j ≡ Busy) (sym (same_number i q.1 h)) (busy_own ds q.1 (Some s)))
-    go false h (inr e) = let apart = other_number i q.1 h in inr (e.0 ∙ post_other ds q.1 i desk apart, (apart, e.1))
+    go true h (inr e) = inl (e.0 ∙ subst (λ j. post_at (slice_set ds q.1 desk) j ≡ Busy) (sym (eqb-true i q.1 h)) (busy_own ds q.1 (Some s)))
+    go false h (inr e) = let apart = eqb-false i q.1 h in inr (e.0 ∙ post_other ds q.1 i desk apart, (apart, e.1))
 
 -- of a new process nothing is posted
 appended_post : (ds : List Desk) (n i : ℕ) → (post_at (ds ++ replicate n idle) i ≡ Busy) ⊎ ((post_at (ds ++ replicate n idle) i ≡ post_at ds i) × (i < length ds))

@@ -3,6 +3,7 @@ use Rattle.std.proofs.Common.{◌≡◌, ℕ, ◌==◌, ◌<◌, Bool, true, fal
 use Rattle.std.specs.Prelude.{All, map}
 use Rattle.std.proofs.lemmas.Bool.Decides.{nat_tests}
 use Rattle.std.proofs.lemmas.List.Elements.{All-head, All-tail}
+use Rattle.std.proofs.lemmas.Bool.{eqb-true}
 use Rattle.chor_base.specs.declared.names.NameId.{NameId}
 use Rattle.chor_base.specs.Expr.{Term}
 use Rattle.chor_tree.specs.declared.file.Proc.{Proc}
@@ -32,9 +33,6 @@ use Rattle.code_above.proofs.Nodes.{rest_above, arms_above, first_above, second_
 use Rattle.projection_follows.specs.Roles.{Roles, with_role, HoldsRole, GivesAway, roles_sent, roles_gained, TakesPart}
 use Rattle.projection_follows.proofs.Plays.{AreNames, IsNamedContent, OthersNew, Plays, TellsApart, Knows, IsOver, IsAlike}
 
-pub same_test : (x y : ℕ) → (x == y) ≡ true → x ≡ y
-same_test x y h = grind (arith, nat_tests)
-
 pub self_test : (x : ℕ) → (x == x) ≡ true
 self_test x = grind (arith, nat_tests)
 
@@ -51,7 +49,7 @@ module _ (r : NameId) (P : Ref) where
   bound_apart f x d apart n p y = go (x == y) refl
     where
       go : (b : Bool) → (x == y) ≡ b → ref_eq P (if x == y then Named x d else f y) ≡ (r.0 == y)
-      go true e = ap (λ b. ref_eq P (if b then Named x d else f y)) e ∙ p ∙ sym n ∙ ap (λ z. r.0 == z) (same_test x y e)
+      go true e = ap (λ b. ref_eq P (if b then Named x d else f y)) e ∙ p ∙ sym n ∙ ap (λ z. r.0 == z) (eqb-true x y e)
       go false e = ap (λ b. ref_eq P (if b then Named x d else f y)) e ∙ apart y
 
   served_apart : (f : ℕ → Ref) (d : ℕ) (srv : List (ℕ × NameId)) → IsAlike r P d → TellsApart r P f → OthersNew r srv → TellsApart r P (bound_served d srv f)
@@ -90,7 +88,7 @@ knows_gained g m s k a w y t = go (k == y) refl
     go true e h =
         let j : Some a ≡ Some t = sym (ap (λ b. if b then Some a else g y) e) ∙ h in
         let z : a ≡ t = cc in
-        let v : k ≡ y = same_test k y e in
+        let v : k ≡ y = eqb-true k y e in
         ap (λ b. if b then Some (s k, a) else m y) e ∙ ap (λ u. Some (s u, a)) v ∙ ap (λ u. Some (s y, u)) z
     go false e h = ap (λ b. if b then Some (s k, a) else m y) e ∙ w y t (sym (ap (λ b. if b then Some a else g y) e) ∙ h)
 

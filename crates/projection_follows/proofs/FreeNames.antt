@@ -1,6 +1,7 @@
 -- What a body's free names stand for.
 use Rattle.std.proofs.Common.{◌≡◌, ℕ, suc, ◌==◌, ◌&&◌, Bool, true, false, if◌then◌else◌, List, [], ◌∷◌, refl, sym, ap, ◌∙◌, arith}
 use Rattle.std.proofs.lemmas.Bool.Decides.{nat_tests}
+use Rattle.std.proofs.lemmas.Bool.{eqb-true}
 use Rattle.chor_base.specs.declared.names.NameId.{NameId}
 use Rattle.chor_semantics.specs.Choreography.{Ref, Live, Named, ref_eq}
 use Rattle.chor_semantics.specs.Steps.{bound_all}
@@ -9,9 +10,6 @@ use Rattle.projection_follows.proofs.Passed.{IsPassedAs}
 use Rattle.well_formed.proofs.Absent.{IsNoDeeper}
 use Rattle.projection_follows.specs.Roles.{has_name}
 
-same_test : (x y : ℕ) → (x == y) ≡ true → x ≡ y
-same_test x y h = grind (arith, nat_tests)
-
 pub shallow_apart : (P : Ref) (d y : ℕ) → IsNoDeeper d P → ref_eq P (Named y (suc d)) ≡ false
 shallow_apart (Live n) d y h = refl
 shallow_apart (Named x c) d y h = go (x == y) (c == suc d) refl
@@ -19,7 +17,7 @@ shallow_apart (Named x c) d y h = go (x == y) (c == suc d) refl
     go : (a b : Bool) → (c == suc d) ≡ b → (a && b) ≡ false
     go false b e = refl
     go true false e = refl
-    go true true e = let z : c ≡ suc d = same_test c (suc d) e in absurd (omega arith)
+    go true true e = let z : c ≡ suc d = eqb-true c (suc d) e in absurd (omega arith)
 
 -- with names of its own depth, a body tells its parameter apart from all its names
 pub own_apart : (P : Ref) (p : NameId) (d : ℕ) (xs : List NameId) (rs : List Ref) → IsNoDeeper d P → has_name p xs ≡ true → IsPassedAs P p xs rs → TellsApart p P (bound_all (suc d) xs rs)
@@ -31,8 +29,8 @@ own_apart P p d xs rs sh h w y = go xs rs w (p.0 == y) refl (λ e. h)
         at : (b : Bool) → (p.0 == x.0) ≡ b → has_name p xs ≡ true
         at false g = sym (ap (λ c. if c then true else has_name p xs) g) ∙ h
         at true g =
-            let a : p.0 ≡ y = same_test p.0 y e in
-            let b : p.0 ≡ x.0 = same_test p.0 x.0 g in
+            let a : p.0 ≡ y = eqb-true p.0 y e in
+            let b : p.0 ≡ x.0 = eqb-true p.0 x.0 g in
             let c : (x.0 == y) ≡ true = grind (arith, nat_tests) in absurd cc
 
     go : (xs : List NameId) (rs : List Ref) → IsPassedAs P p xs rs → (b : Bool) → (p.0 == y) ≡ b → ((p.0 == y) ≡ true → has_name p xs ≡ true) → ref_eq P (bound_all (suc d) xs rs y) ≡ (p.0 == y)
@@ -47,5 +45,5 @@ own_apart P p d xs rs sh h w y = go xs rs w (p.0 == y) refl (λ e. h)
     go (x ∷ xs) (r ∷ rs) w b e f = at (λ f'. go xs rs w.1 b e f') (x.0 == y) refl
       where
         at : (((p.0 == y) ≡ true → has_name p xs ≡ true) → ref_eq P (bound_all (suc d) xs rs y) ≡ (p.0 == y)) → (c : Bool) → (x.0 == y) ≡ c → ref_eq P (if x.0 == y then r else bound_all (suc d) xs rs y) ≡ (p.0 == y)
-        at more true g = ap (λ c. ref_eq P (if c then r else bound_all (suc d) xs rs y)) g ∙ w.0 ∙ ap (λ z. p.0 == z) (same_test x.0 y g)
+        at more true g = ap (λ c. ref_eq P (if c then r else bound_all (suc d) xs rs y)) g ∙ w.0 ∙ ap (λ z. p.0 == z) (eqb-true x.0 y g)
         at more false g = ap (λ c. ref_eq P (if c then r else bound_all (suc d) xs rs y)) g ∙ more (λ i. shifted x xs i g (f i))

@@ -1,5 +1,6 @@
 -- What follows a start has its session, and no session of the channel's name.
 use Rattle.std.proofs.Common.{◌≡◌, ℕ, ◌==◌, ◌&&◌, ◌||◌, Bool, true, false, List, [], ◌∷◌, refl, sym, ap, ◌∙◌}
+use Rattle.std.proofs.lemmas.Bool.{eqb-true}
 use Rattle.chor_base.specs.declared.names.NameId.{NameId}
 use Rattle.chor_semantics.specs.Choreography.{Ref, Live, Named, ref_eq, among, Content, OfValue, OfLabel, OfPart, Starts, Communicates, InTransit, Alone, Choreography, Then, Either, Calls, Ends}
 use Rattle.chor_semantics.specs.Sources.{Procedure}
@@ -7,7 +8,6 @@ use Rattle.endpoint_code.specs.declared.endpoints.Channel.{Channel}
 use Rattle.well_formed.specs.SourceTrees as source
 use Rattle.well_formed.specs.SourceTrees.{IsSource}
 use Rattle.well_formed.specs.WellFormed.{Scope, IsIn, AllIn, ContentFits, scope_after, IsWellFormed}
-use Rattle.projection_follows.proofs.AlongTrees.{same_test}
 use Rattle.projection.specs.Renamed.{IsOther, AreOther, IsOtherContent}
 use Rattle.projection_follows.specs.FreeSessions.{IsFree}
 use Rattle.projection_follows.specs.Premises.{BindsNo}
@@ -21,7 +21,7 @@ turned a h e = go (a == h) refl
   where
     go : (b : Bool) → (a == h) ≡ b → b ≡ false
     go false f = refl
-    go true f = let z : true ≡ false = sym f ∙ ap (λ v. v == h) (same_test a h f) ∙ sym (ap (λ v. h == v) (same_test a h f) ∙ refl) ∙ e in absurd cc
+    go true f = let z : true ≡ false = sym f ∙ ap (λ v. v == h) (eqb-true a h f) ∙ sym (ap (λ v. h == v) (eqb-true a h f) ∙ refl) ∙ e in absurd cc
 
 module _ (ks : List Channel) (procs : List Procedure) (k a : ℕ) where
   abbrev name : NameId
@@ -33,7 +33,7 @@ module _ (ks : List Channel) (procs : List Procedure) (k a : ℕ) where
     where
       go : (b : Bool) → (y == a) ≡ b → b ≡ false
       go false e = refl
-      go true e = let z : true ≡ false = sym i ∙ ap (λ v. among (Named y v) bs) s ∙ ap (λ v. among (Named v 0) bs) (same_test y a e) ∙ out in absurd cc
+      go true e = let z : true ≡ false = sym i ∙ ap (λ v. among (Named y v) bs) s ∙ ap (λ v. among (Named v 0) bs) (eqb-true y a e) ∙ out in absurd cc
 
   others : (n : ℕ) (bs : List Ref) → among (Named a 0) bs ≡ false → (us : List Ref) → source.AreNames us → AllIn n bs us → AreOther name us
   others n bs out [] s i = tt
@@ -53,7 +53,7 @@ module _ (ks : List Channel) (procs : List Procedure) (k a : ℕ) where
     where
       apart : (v : Bool) → (h == k) ≡ v → v ≡ false
       apart false f = refl
-      apart true f = let z : true ≡ false = sym i ∙ ap (λ v. among (Named v 0) sc.sessions) (sym (same_test h k f)) ∙ ap (λ v. among (Named h v) sc.sessions) (sym s.0.0) ∙ w.0.new_session in absurd cc
+      apart true f = let z : true ≡ false = sym i ∙ ap (λ v. among (Named v 0) sc.sessions) (sym (eqb-true h k f)) ∙ ap (λ v. among (Named h v) sc.sessions) (sym s.0.0) ∙ w.0.new_session in absurd cc
   free sc (Then (Communicates u p x q y v) rest) i out s w b =
       (other sc.sid sc.sessions out u s.0.0 w.0.session, content sc out v s.0.3 w.0.content, free sc rest i out s.1 w.1 b)
   free sc (Then (InTransit u x y m q) rest) i out s w b = absurd s.0

@@ -2,6 +2,7 @@
 use Rattle.std.proofs.Common.{◌≡◌, ℕ, suc, ◌==◌, ◌&&◌, ◌||◌, Bool, true, false, if◌then◌else◌, List, [], ◌∷◌, length, Option, Some, None, refl, sym, ap, ◌∙◌, subst, arith}
 use Rattle.std.specs.Prelude.{map}
 use Rattle.std.proofs.lemmas.Bool.Decides.{nat_tests}
+use Rattle.std.proofs.lemmas.Bool.{eqb-true}
 use Rattle.chor_base.specs.declared.names.NameId.{NameId}
 use Rattle.chor_tree.specs.declared.file.Proc.{Proc}
 use Rattle.chor_tree.specs.declared.file.ProcParam.{ProcParam}
@@ -14,7 +15,7 @@ use Rattle.projection.specs.Codes.{is_named, proc_named, param_for, role_in}
 use Rattle.well_formed.specs.SourceTrees as source
 use Rattle.well_formed.specs.SourceTrees.{IsSource}
 use Rattle.well_formed.specs.WellFormed.{Scope, AllNew, entered, scope_after, AreDistinctRefs, names_in_scope, CallFits, IsWellFormed, AllFit}
-use Rattle.projection_follows.proofs.AlongTrees.{same_test, self_test}
+use Rattle.projection_follows.proofs.AlongTrees.{self_test}
 use Rattle.projection_follows.proofs.Passing.{found_proc, param_in}
 use Rattle.projection_follows.proofs.ServicesFollow.{no_proc}
 use Rattle.projection_follows.specs.Roles.{has_name, Roles, with_role, roles_sent, roles_gained, TakesPart, HoldsPassed, HoldsPassedFor, HoldsAtCall, HoldsRoles}
@@ -58,7 +59,7 @@ module _ (r : NameId) where
     where
       go : (b : Bool) → (r.0 == s.0) ≡ b → (r.0 == s.0) ≡ false
       go false e = e
-      go true e = let z : true ≡ false = sym i ∙ ap (λ x. among (Named x 0) bs) (same_test r.0 s.0 e) ∙ h.0 in absurd cc
+      go true e = let z : true ≡ false = sym i ∙ ap (λ x. among (Named x 0) bs) (eqb-true r.0 s.0 e) ∙ h.0 in absurd cc
 
   pub still_in : (ss : List (ℕ × NameId)) (bs : List Ref) → among self bs ≡ true → among self (entered 0 ss bs) ≡ true
   still_in [] bs i = i
@@ -66,7 +67,7 @@ module _ (r : NameId) where
 
   named_self : (q : Ref) → source.IsName q → is_named r q ≡ true → q ≡ self
   named_self (Live n) h i = absurd h
-  named_self (Named x d) h i = ap (λ z. Named x z) h ∙ ap (λ z. Named z 0) (sym (same_test r.0 x i))
+  named_self (Named x d) h i = ap (λ z. Named x z) h ∙ ap (λ z. Named z 0) (sym (eqb-true r.0 x i))
 
   not_named : (q : Ref) → source.IsName q → ref_eq self q ≡ false → is_named r q ≡ false
   not_named (Live n) h i = refl
@@ -116,7 +117,7 @@ module _ (r : NameId) where
         where
           apart : (b : Bool) → (p.0 == x.name.name.0) ≡ b → among (Named p.0 0) (names_in_scope (map (λ q. q.name.name) xs)) ≡ true → (p.0 == x.name.name.0) ≡ false
           apart false f k = f
-          apart true f k = let z : true ≡ false = sym k ∙ ap (λ v. among (Named v 0) (names_in_scope (map (λ q. q.name.name) xs))) (same_test p.0 x.name.name.0 f) ∙ u.0 in absurd cc
+          apart true f k = let z : true ≡ false = sym k ∙ ap (λ v. among (Named v 0) (names_in_scope (map (λ q. q.name.name) xs))) (eqb-true p.0 x.name.name.0 f) ∙ u.0 in absurd cc
 
   not_passed : (xs : List ProcParam) (qs : List Ref) → length qs ≡ length (map (λ q. q.name.name) xs) → source.AreNames qs → param_for r xs qs ≡ None → IsNotPassed r qs
   not_passed [] [] l n i = tt

@@ -2,6 +2,7 @@
 use Rattle.std.proofs.Common.{◌≡◌, ℕ, zero, suc, ◌==◌, ◌+◌, ◌<◌, Bool, true, false, if◌then◌else◌, List, [], ◌∷◌, Some, None, refl, sym, ap, ◌∙◌, subst, arith}
 use Rattle.std.specs.Prelude.{slice_get}
 use Rattle.std.proofs.lemmas.Bool.Decides.{nat_tests}
+use Rattle.std.proofs.lemmas.Bool.{eqb-true}
 use Rattle.chor_base.specs.declared.names.NameId.{NameId}
 use Rattle.chor_tree.specs.declared.file.File.{File}
 use Rattle.chor_tree.specs.declared.file.Named.{Named as Written}
@@ -13,7 +14,7 @@ use Rattle.endpoint_code.specs.Trees.{code_at}
 use Rattle.endpoint_code.proofs.AboveOrder.{above_self}
 use Rattle.projection.specs.Projects.{Projects, body_at}
 use Rattle.pruning.specs.Follows.{SessionMap, IsEqualUpToPruning}
-use Rattle.projection_follows.proofs.AlongTrees.{same_test, self_test}
+use Rattle.projection_follows.proofs.AlongTrees.{self_test}
 use Rattle.projection_follows.proofs.Passing.{code_distinct}
 use Rattle.projection_follows.proofs.ThroughCalls.{follows}
 use Rattle.projection_follows.proofs.FromProjects.{has_units, process_at}
@@ -67,7 +68,7 @@ numbered_apart k (v ∷ vs) (suc p) w o i y = go (v.name.0 == y) refl (numbered_
     apart k p = grind (arith, nat_tests)
 
     different : (v.name.0 == y) ≡ true → (w.name.0 == y) ≡ false
-    different u = ap (λ z. w.name.0 == z) (sym (same_test v.name.0 y u)) ∙ flip v.name.0 w.name.0 (other_name v vs p w o.0 i)
+    different u = ap (λ z. w.name.0 == z) (sym (eqb-true v.name.0 y u)) ∙ flip v.name.0 w.name.0 (other_name v vs p w o.0 i)
 
     go : (b : Bool) → (v.name.0 == y) ≡ b → ref_eq (Live (suc k + p)) (numbered (suc k) vs y) ≡ (w.name.0 == y) → ref_eq (Live (k + suc p)) (if v.name.0 == y then Live k else numbered (suc k) vs y) ≡ (w.name.0 == y)
     go true u more = ap (λ b. ref_eq (Live (k + suc p)) (if b then Live k else numbered (suc k) vs y)) u ∙ apart k p ∙ sym (different u)

@@ -2,6 +2,7 @@
 use Rattle.std.proofs.Common.{◌≡◌, ℕ, ◌==◌, ◌&&◌, ◌||◌, ◌++◌, Bool, true, false, if◌then◌else◌, List, [], ◌∷◌, Option, Some, None, refl, sym, ap, ◌∙◌, subst}
 use Rattle.std.specs.Prelude.{map}
 use Rattle.std.specs.List.{AllZip, AllByRecursion}
+use Rattle.std.proofs.lemmas.Bool.{eqb-true}
 use Rattle.chor_base.specs.declared.names.NameId.{NameId}
 use Rattle.chor_tree.specs.declared.file.File.{File}
 use Rattle.chor_tree.specs.declared.file.Proc.{Proc}
@@ -28,7 +29,6 @@ use Rattle.well_formed.specs.Guarded.{IsGuardedFor, AllGuarded}
 use Rattle.well_formed.specs.SourceTrees.{IsName, AreNames, IsSource}
 use Rattle.well_formed.specs.WellFormed.{names_in_scope}
 use Rattle.well_formed.proofs.Trees.{body_source}
-use Rattle.projection_follows.proofs.AlongTrees.{same_test}
 use Rattle.both_ways.specs.Premises.{NoCallFirst}
 use Rattle.projection_follows.specs.Premises.{EachGuarded}
 
@@ -167,7 +167,7 @@ at_param x B y (q ∷ qs) rest P use_it a h = go (y == q.name.name.0) refl (at_p
     test e = ap (λ b. (b && (0 == 0)) || among (Named y 0) (names_in_scope (map (λ q. q.name.name) qs))) e
 
     go : (b : Bool) → (y == q.name.name.0) ≡ b → (among (Named y 0) (names_in_scope (map (λ q. q.name.name) qs)) ≡ true → IsGuardedFor (Named y 0) B) → IsGuardedFor (Named y 0) B
-    go true e more = subst (λ z. IsGuardedFor (Named z 0) B) (sym (same_test y q.name.name.0 e)) (use_it q a.0)
+    go true e more = subst (λ z. IsGuardedFor (Named z 0) B) (sym (eqb-true y q.name.name.0 e)) (use_it q a.0)
     go false e more = more (sym (test e) ∙ h)
 
 past : {X : Type 0} (P : X → Type 0) (xs ys : List X) → AllByRecursion P (xs ++ ys) → AllByRecursion P ys

@@ -1,13 +1,14 @@
 -- With the channel's name for its session, a process plays the same roles.
 use Rattle.std.proofs.Common.{◌≡◌, ℕ, ◌==◌, Bool, true, false, if◌then◌else◌, List, [], ◌∷◌, Option, Some, None, map, refl, sym, ap, ◌∙◌, subst, arith}
 use Rattle.std.proofs.lemmas.Bool.Decides.{nat_tests}
+use Rattle.std.proofs.lemmas.Bool.{eqb-true}
 use Rattle.chor_base.specs.declared.names.NameId.{NameId}
 use Rattle.chor_tree.specs.declared.file.Proc.{Proc}
 use Rattle.chor_tree.specs.declared.file.SessionParam.{SessionParam}
 use Rattle.chor_semantics.specs.Choreography.{Ref, Live, Named, Content, OfValue, OfLabel, OfPart, Starts, Communicates, InTransit, Alone, Choreography, Then, Either, Calls, Ends, put, put_part, put_content}
 use Rattle.projection.specs.Codes.{is_named, role_in, proc_named, param_for}
 use Rattle.projection.specs.Projects.{session_as}
-use Rattle.projection_follows.proofs.AlongTrees.{same_test, self_test}
+use Rattle.projection_follows.proofs.AlongTrees.{self_test}
 use Rattle.projection.specs.Renamed.{IsOther, AreOther, IsOtherContent}
 use Rattle.projection_follows.specs.FreeSessions.{IsFree}
 use Rattle.projection_follows.specs.Roles.{Roles, with_role, HoldsRole, number, GivesAway, roles_sent, roles_gained, TakesPart}
@@ -39,7 +40,7 @@ module _ (fs : List Proc) (r : NameId) (k a : ℕ) where
   at_ref g h w (Named y e) i o = go (y == k) refl
     where
       go : (b : Bool) → (y == k) ≡ b → h (number (if y == k then Named a e else Named y e)) ≡ g y
-      go true j = ap (λ c. h (number (if c then Named a e else Named y e))) j ∙ w.1 ∙ ap g (sym (same_test y k j))
+      go true j = ap (λ c. h (number (if c then Named a e else Named y e))) j ∙ w.1 ∙ ap g (sym (eqb-true y k j))
       go false j = ap (λ c. h (number (if c then Named a e else Named y e))) j ∙ w.0 y j o
 
   is_name : (u : Ref) → IsName u → IsName (ren u)
@@ -79,7 +80,7 @@ module _ (fs : List Proc) (r : NameId) (k a : ℕ) where
     where
       go : (b : Bool) → (y == k) ≡ b → Agree (with_role g y o) (with_role h (number (if y == k then Named a e else Named y e)) o)
       go true u = subst (λ c. Agree (with_role g y o) (with_role h (number (if c then Named a e else Named y e)) o)) (sym u)
-          (subst (λ z. Agree (with_role g z o) (with_role h a o)) (sym (same_test y k u)) (agree_own g h o w))
+          (subst (λ z. Agree (with_role g z o) (with_role h a o)) (sym (eqb-true y k u)) (agree_own g h o w))
       go false u = subst (λ c. Agree (with_role g y o) (with_role h (number (if c then Named a e else Named y e)) o)) (sym u) (agree_other g h y o u j w)
 
   named_content : (w : Content) → IsNamedContent w → IsNamedContent (put_content ren w)

@@ -3,6 +3,7 @@ use Rattle.std.proofs.Common.{◌≡◌, ℕ, zero, suc, ◌==◌, ◌&&◌, ◌
 use Rattle.std.specs.Prelude.{map, slice_get}
 use Rattle.std.specs.List.{AllZip}
 use Rattle.std.specs.FinMap as fin
+use Rattle.std.proofs.lemmas.Bool.{eqb-true}
 use Rattle.chor_base.specs.declared.names.NameId.{NameId}
 use Rattle.chor_tree.specs.declared.file.File.{File}
 use Rattle.chor_tree.specs.declared.file.Named.{Named as Written}
@@ -19,7 +20,7 @@ use Rattle.well_formed.specs.Holders.{ListedHolders}
 use Rattle.correspondence.specs.Corresponds.{session_map}
 use Rattle.well_formed.proofs.Trees.{body_source, all_sources}
 use Rattle.projection_follows.proofs.FromRoles.{has_among, plays}
-use Rattle.projection_follows.proofs.AlongTrees.{same_test, self_test}
+use Rattle.projection_follows.proofs.AlongTrees.{self_test}
 use Rattle.projection_follows.proofs.Passing.{found_proc}
 use Rattle.projection_follows.proofs.FromStarts.{starts_play}
 use Rattle.projection_follows.proofs.MainFollows.{main_follows}
@@ -68,7 +69,7 @@ shallow_name d x c (Named y k ∷ bs) u h = go ((x == y) && (c == k)) refl (shal
     up c k i j = omega (arith, i, j)
 
     go : (b : Bool) → ((x == y) && (c == k)) ≡ b → (among (Named x c) bs ≡ true → c ≤ d) → c ≤ d
-    go true i more = up c k (same_test c k (second (x == y) (c == k) i)) u.0
+    go true i more = up c k (eqb-true c k (second (x == y) (c == k) i)) u.0
     go false i more = more (either_of ((x == y) && (c == k)) (among (Named x c) bs) h i)
 
 shallow_all : (d n : ℕ) (bs rs : List Ref) → AreNoDeeper d bs → AllIn n bs rs → AreShallow d rs

@@ -1,14 +1,11 @@
 -- With the channel's name for its session, what follows a start has the same instances.
-use Rattle.std.proofs.Common.{◌≡◌, ℕ, ◌==◌, Bool, true, false, if◌then◌else◌, List, [], ◌∷◌, map, refl, sym, ap, ◌∙◌, arith}
-use Rattle.std.proofs.lemmas.Bool.Decides.{nat_tests}
+use Rattle.std.proofs.Common.{◌≡◌, ℕ, ◌==◌, Bool, true, false, if◌then◌else◌, List, [], ◌∷◌, map, refl, sym, ap, ◌∙◌}
+use Rattle.std.proofs.lemmas.Bool.{eqb-true}
 use Rattle.chor_base.specs.declared.names.NameId.{NameId}
 use Rattle.chor_semantics.specs.Choreography.{Ref, Live, Named, Content, OfValue, OfLabel, OfPart, Starts, Communicates, InTransit, Alone, Choreography, Then, Either, Calls, Ends, put, put_part, put_content, bound, bound_served, named_by, instance_of}
 use Rattle.projection.specs.Projects.{session_as}
 use Rattle.projection.specs.Renamed.{IsOther, AreOther, IsOtherContent}
 use Rattle.projection_follows.specs.FreeSessions.{IsFree}
-
-same_test : (x y : ℕ) → (x == y) ≡ true → x ≡ y
-same_test x y h = grind (arith, nat_tests)
 
 module _ (k a d : ℕ) where
   abbrev name : NameId
@@ -22,7 +19,7 @@ module _ (k a d : ℕ) where
   ref_same s t h (Named y e) o = go (y == k) refl
     where
       go : (b : Bool) → (y == k) ≡ b → named_by t (if y == k then Named a e else Named y e) ≡ s y
-      go true i = ap (λ c. named_by t (if c then Named a e else Named y e)) i ∙ h.1 ∙ ap s (sym (same_test y k i))
+      go true i = ap (λ c. named_by t (if c then Named a e else Named y e)) i ∙ h.1 ∙ ap s (sym (eqb-true y k i))
       go false i = ap (λ c. named_by t (if c then Named a e else Named y e)) i ∙ h.0 y i o
 
   refs_same : (s t : ℕ → Ref) → Agree s t → (rs : List Ref) → AreOther name rs → map (named_by t) (map (session_as k name) rs) ≡ map (named_by s) rs

@@ -4,6 +4,7 @@ use Rattle.std.specs.Prelude.{All, map}
 use Rattle.std.specs.List.{AllZip, AllByRecursion}
 use Rattle.std.proofs.lemmas.Bool.Decides.{nat_tests}
 use Rattle.std.proofs.lemmas.List.Elements.{All-head, All-tail}
+use Rattle.std.proofs.lemmas.Bool.{eqb-true}
 use Rattle.chor_base.specs.declared.names.NameId.{NameId}
 use Rattle.chor_tree.specs.declared.file.File.{File}
 use Rattle.chor_tree.specs.declared.file.Named.{Named as Written}
@@ -23,7 +24,7 @@ use Rattle.projection.specs.Codes.{IsCodeOf, proc_named}
 use Rattle.projection.specs.Projects.{Projects, Started, IsStartCode, IsServiceCode, IsServiceOf, start_at, starts_in, starts_in_procs, starts_of, service_roles, started_services, serving, session_as, body_at}
 use Rattle.pruning.specs.Follows.{no_sessions, with_session, Follows, IsEqualUpToPruning}
 use Rattle.correspondence.specs.Services.{EachServiceFollows, ServicesFollow}
-use Rattle.projection_follows.proofs.AlongTrees.{same_test, self_test}
+use Rattle.projection_follows.proofs.AlongTrees.{self_test}
 use Rattle.projection_follows.proofs.FreeNames.{shallow_apart}
 use Rattle.projection_follows.proofs.Renamed.{renamed}
 use Rattle.projection_follows.proofs.PlaysRenamed.{plays_renamed}
@@ -50,7 +51,7 @@ own_bound : (d x : ℕ) (F : ℕ → Ref) → IsOwn d F → IsOwn d (bound x (Na
 own_bound d x F o z y h = go (x == y) refl
   where
     go : (b : Bool) → (x == y) ≡ b → ref_eq (Named z d) (if x == y then Named x d else F y) ≡ false
-    go true e = ap (λ b. ref_eq (Named z d) (if b then Named x d else F y)) e ∙ ap (λ w. ref_eq (Named z d) (Named w d)) (same_test x y e) ∙ depth_apart z y d h
+    go true e = ap (λ b. ref_eq (Named z d) (if b then Named x d else F y)) e ∙ ap (λ w. ref_eq (Named z d) (Named w d)) (eqb-true x y e) ∙ depth_apart z y d h
     go false e = ap (λ b. ref_eq (Named z d) (if b then Named x d else F y)) e ∙ o z y h
 
 own_served : (d : ℕ) (ss : List (ℕ × NameId)) (F : ℕ → Ref) → IsOwn d F → IsOwn d (bound_served d ss F)
@@ -62,7 +63,7 @@ stays d y [] F h = h
 stays d y (s ∷ ss) F h = stays d y ss (bound s.0 (Named s.0 d) F) (go (s.0 == y) refl)
   where
     go : (b : Bool) → (s.0 == y) ≡ b → (if s.0 == y then Named s.0 d else F y) ≡ Named y d
-    go true e = ap (λ b. if b then Named s.0 d else F y) e ∙ ap (λ z. Named z d) (same_test s.0 y e)
+    go true e = ap (λ b. if b then Named s.0 d else F y) e ∙ ap (λ z. Named z d) (eqb-true s.0 y e)
     go false e = ap (λ b. if b then Named s.0 d else F y) e ∙ h
 
 all_bound : (d : ℕ) (ss : List (ℕ × NameId)) (F : ℕ → Ref) → AllByRecursion (λ s. bound_served d ss F s.0 ≡ Named s.0 d) ss
@@ -132,7 +133,7 @@ module _ (f : File) (e : Endpoints) (pr : Projects f e) (plays : ProceduresPlay 
       same = ap (λ (v : NameId). (v.0 == a.0) && (q.role.0 == r.0)) z.0.channel ∙ ap (λ (v : NameId). (y.0.0 == a.0) && (v.0 == r.0)) z.0.role
 
       name_of_test : (m n : NameId) → (m.0 == n.0) ≡ true → m ≡ n
-      name_of_test m n t = let w : m.0 ≡ n.0 = same_test m.0 n.0 t in let g : ℕ → NameId = λ n. record { 0 = n } in ap g w
+      name_of_test m n t = let w : m.0 ≡ n.0 = eqb-true m.0 n.0 t in let g : ℕ → NameId = λ n. record { 0 = n } in ap g w
 
       later : (b : Bool) → ((y.0.0 == a.0) && (y.1.0 == r.0)) ≡ false → (has_pair a r ys ≡ true → ServiceAt a r (service_of qs a r)) → ServiceAt a r (service_of (q ∷ qs) a r)
       later b u more = subst (λ c. ServiceAt a r (if c then q.body else service_of qs a r)) (sym (same ∙ u)) (more (sym (ap (λ c. if c then true else has_pair a r ys) u) ∙ h))
@@ -211,7 +212,7 @@ module _ (f : File) (e : Endpoints) (pr : Projects f e) (plays : ProceduresPlay 
       level d = omega arith
 
       apart : (y : ℕ) (b : Bool) → (x == y) ≡ b → ref_eq (Named x d) (bound_served d all F y) ≡ (x == y)
-      apart y true u = ap (λ z. ref_eq (Named x d) (bound_served d all F z)) (sym (same_test x y u)) ∙ ap (ref_eq (Named x d)) here ∙ depth_same x x d ∙ self_test x ∙ sym u
+      apart y true u = ap (λ z. ref_eq (Named x d) (bound_served d all F z)) (sym (eqb-true x y u)) ∙ ap (ref_eq (Named x d)) here ∙ depth_same x x d ∙ self_test x ∙ sym u
       apart y false u = own_served d all F own x y u ∙ sym u
 
       entry : Ref → NameId → Option (Ref × NameId)

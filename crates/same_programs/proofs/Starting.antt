@@ -4,6 +4,7 @@ use Rattle.std.specs.Prelude.{slice_get, slice_set, All}
 use Rattle.std.specs.List.{AllZip}
 use Rattle.std.specs.FinMap as fin
 use Rattle.std.proofs.lemmas.List.Elements.{All-head, All-tail}
+use Rattle.std.proofs.lemmas.Bool.{eqb-true}
 use Rattle.chor_base.specs.declared.names.NameId.{NameId}
 use Rattle.chor_base.specs.declared.event.Event.TheVariants as event
 use Rattle.chor_base.specs.NameMap.{Variables}
@@ -24,7 +25,7 @@ use Rattle.same_programs.proofs.Nodes.{IsSpot, Alike, join}
 use Rattle.same_programs.proofs.Places.{tell, Held, SamePlace, place_same, IsServed, served_units, no_sessions}
 use Rattle.same_programs.proofs.States.{machine_same}
 use Rattle.same_programs.proofs.Makings.{SameMade}
-use Rattle.same_programs.proofs.Tests.{number_turned, same_number, both_tests}
+use Rattle.same_programs.proofs.Tests.{number_turned, both_tests}
 
 module _ (e e' : Endpoints) (c : IsCopy e e') where
   abbrev N : NameId → NameId → Type 0
@@ -144,7 +145,7 @@ module _ (e e' : Endpoints) (c : IsCopy e e') where
     where
       here : (x.name.0 == a.0) ≡ true → IsChannelOf a x y
       here f =
-          let number : x.name.0 ≡ a.0 = same_number x.name.0 a.0 f in
+          let number : x.name.0 ≡ a.0 = eqb-true x.name.0 a.0 f in
           let name : x.name ≡ a = λ j. record { 0 = number j } in
           record { same = h.0; provided = subst (λ (z : NameId). All (λ r. has_service z r e.services ≡ true) x.serve) name (All-head (λ (k : Channel). All (λ r. has_service k.name r e.services ≡ true) k.serve) x ks p) }
 

@@ -3,6 +3,7 @@ use Rattle.std.proofs.Common.{◌≡◌, ℕ, Bool, true, false, ◌==◌, List,
 use Rattle.std.specs.Prelude.{slice_get}
 use Rattle.std.specs.List.{AllZip}
 use Rattle.std.specs.FinMap as fin
+use Rattle.std.proofs.lemmas.Bool.{eqb-true}
 use Rattle.chor_base.specs.declared.names.NameId.{NameId}
 use Rattle.chor_base.specs.declared.event.Event.{Event}
 use Rattle.chor_base.specs.declared.meaning.Meaning.{Meaning}
@@ -27,7 +28,6 @@ use Rattle.same_programs.proofs.Places.{SamePlace, place_same, begun_processes, 
 use Rattle.same_programs.proofs.States.{machine_same}
 use Rattle.same_programs.proofs.Makings.{SameMade, makes_same, values_same}
 use Rattle.same_programs.proofs.Starting.{starts_same}
-use Rattle.same_programs.proofs.Tests.{same_number}
 
 module _ (e e' : Endpoints) (c : IsCopy e e') where
   -- ---- what is made in both
@@ -93,7 +93,7 @@ module _ (e e' : Endpoints) (c : IsCopy e e') where
       where
         go : (t : Bool) → (x.name.0 == a.0) ≡ t → (if t then Some x else channel_of ks a) ≡ Some k → (channel_of ks a ≡ Some k → (b : NameId) × SameName e e' a b) → (b : NameId) × SameName e e' a b
         go true f j more =
-            let number : x.name.0 ≡ a.0 = same_number x.name.0 a.0 f in
+            let number : x.name.0 ≡ a.0 = eqb-true x.name.0 a.0 f in
             let name : x.name ≡ a = λ l. record { 0 = number l } in
             (y.name, subst (λ (z : NameId). SameName e e' z y.name) name h.0.name)
         go false f j more = more j

@@ -2,6 +2,7 @@
 use Rattle.std.proofs.Common.{◌≡◌, ℕ, ◌==◌, ◌&&◌, ◌||◌, Bool, true, List, Some, sym, ap, ◌∙◌, arith}
 use Rattle.std.specs.Prelude.{slice_get}
 use Rattle.std.proofs.lemmas.Bool.Decides.{nat_tests}
+use Rattle.std.proofs.lemmas.Bool.{eqb-true}
 use Rattle.chor_base.specs.declared.names.NameId.{NameId}
 use Rattle.chor_base.specs.Words.{AllDistinct}
 use Rattle.endpoint_code.specs.declared.endpoints.Endpoints.{Endpoints}
@@ -39,9 +40,6 @@ texts_tell e e' d d' t u v w a b = words_tell e.texts e'.texts d.texts d'.texts 
 
 pub number_turned : (a b : ℕ) → (a == b) ≡ (b == a)
 number_turned a b = grind (arith, nat_tests)
-
-pub same_number : (a b : ℕ) → (a == b) ≡ true → a ≡ b
-same_number a b h = grind (arith, nat_tests)
 
 pub both_tests : (a b d f : Bool) → a ≡ b → d ≡ f → (a && d) ≡ (b && f)
 both_tests a b d f h k = λ i. h i && k i

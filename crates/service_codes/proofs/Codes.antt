@@ -2,7 +2,7 @@
 use Rattle.std.proofs.Common.{◌≡◌, ℕ, ◌+◌, ◌<◌, ◌≤◌, ◌==◌, ◌||◌, ◌&&◌, Bool, true, false, List, [], ◌∷◌, ◌++◌, length, take, get_or, map, refl, sym, ap, ◌∙◌, subst, Some, None, arith, if◌then◌else◌}
 use Rattle.std.specs.Prelude.{Contains, All, slice_get, not}
 use Rattle.std.specs.List.{AllZip}
-use Rattle.std.proofs.lemmas.Bool.{and_parts}
+use Rattle.std.proofs.lemmas.Bool.{and_parts, eqb-true}
 use Rattle.std.proofs.lemmas.List.{take_all}
 use Rattle.std.proofs.lemmas.List.Elements.{All-nil, All-cons, All-head, All-tail}
 use Rattle.chor_base.specs.declared.names.NameId.{NameId}
@@ -44,7 +44,7 @@ use Rattle.projection.specs.MergeFaults.{Site, IsFirstOf, here, later}
 use Rattle.service_codes.specs.declared.served.Served.{Served}
 use Rattle.service_codes.specs.Starts.{HasNamesResolved, Stands, follows, starts_channel, IsStartOf, first_start, start_in, AreStartsOf}
 use Rattle.service_codes.specs.Services.{IsDeclared, HasProcessCode, IsStartCodeAt, HasStartCode, HasServiceCode, IsClashOf}
-use Rattle.service_codes.proofs.Lists.{no_fault_at, not_true, name_same, same_number, same_names, named_among}
+use Rattle.service_codes.proofs.Lists.{no_fault_at, not_true, name_same, same_names, named_among}
 use Rattle.service_codes.proofs.Names.{node_fine, start_fine, inside, unused}
 use Rattle.service_codes.proofs.Sites.{sites_from, back_names}
 use Rattle.block_codes.specs.Alone.{sites_of as own_sites, HasCode}
@@ -83,7 +83,7 @@ module _ (f : File) (r : HasNamesResolved f) (clean : All (λ s. HasClash f s �
 
   module _ (c k : Written) (active serve : List Part) (next : NodeId) (form : n.form ≡ Start c k active serve next) where
     channel_same : c.name ≡ a
-    channel_same = name_same c.name a (same_number c.name.0 a.0 (ap (starts_channel a) (sym form) ∙ is_start))
+    channel_same = name_same c.name a (eqb-true c.name.0 a.0 (ap (starts_channel a) (sym form) ∙ is_start))
 
     fine : (wrong_parts (channel_of f c.name) c active serve ≡ []) × (is_among (channels_of f) k.name ≡ false)
     fine = start_fine f r s.scope c k active serve next (ap (node_faults f r.hosts s.scope) (sym form) ∙ node_fine f r s.scope id n s.stands at)

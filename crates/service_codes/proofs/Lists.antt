@@ -3,6 +3,7 @@ use Rattle.std.proofs.Common.{◌≡◌, ℕ, zero, suc, ◌==◌, ◌||◌, ◌
 use Rattle.std.specs.Prelude.{Contains, not}
 use Rattle.std.specs.List.{flat_map}
 use Rattle.std.proofs.lemmas.Bool.Decides.{nat_tests}
+use Rattle.std.proofs.lemmas.Bool.{eqb-true}
 use Rattle.chor_base.specs.declared.names.NameId.{NameId}
 use Rattle.chor_base.specs.declared.rule.Rule.{Rule}
 use Rattle.chor_base.specs.declared.rule.Rule.TheVariants.{N1, N2}
@@ -41,9 +42,6 @@ is_known known x h = not_true (is_among known x.name) (no_fault_at (not (is_amon
 pub name_same : (x y : NameId) → x.0 ≡ y.0 → x ≡ y
 name_same x y e = let name : ℕ → NameId = λ n. record { 0 = n } in ap name e
 
-pub same_number : (x y : ℕ) → (x == y) ≡ true → x ≡ y
-same_number x y e = grind (arith, nat_tests)
-
 pub itself : (n : ℕ) → (n == n) ≡ true
 itself n = grind (arith, nat_tests)
 
@@ -54,7 +52,7 @@ same_names (x ∷ xs) [] h = absurd cc
 same_names (x ∷ xs) (y ∷ ys) h = go (x.0 == y.0) refl h (same_names xs ys)
   where
     go : (b : Bool) → (x.0 == y.0) ≡ b → (b && are_same xs ys) ≡ true → (are_same xs ys ≡ true → xs ≡ ys) → x ∷ xs ≡ y ∷ ys
-    go true e i ih = let here = name_same x y (same_number x.0 y.0 e) in let rest = ih i in cc
+    go true e i ih = let here = name_same x y (eqb-true x.0 y.0 e) in let rest = ih i in cc
     go false e i ih = absurd cc
 
 false_or : (a b : Bool) → (a || b) ≡ false → (a ≡ false) × (b ≡ false)

@@ -2,7 +2,7 @@
 use Rattle.std.proofs.Common.{◌≡◌, ℕ, zero, suc, ◌<◌, ◌==◌, ◌||◌, Bool, true, false, List, [], ◌∷◌, ◌++◌, length, map, refl, sym, ap, ◌∙◌, subst, Some, arith}
 use Rattle.std.specs.Prelude.{Contains, All, slice_get, nat_lt}
 use Rattle.std.specs.List.{flat_map, list_all}
-use Rattle.std.proofs.lemmas.Bool.{and_parts}
+use Rattle.std.proofs.lemmas.Bool.{and_parts, eqb-true}
 use Rattle.std.proofs.lemmas.Bool.Decides.{nat_tests}
 use Rattle.std.proofs.lemmas.List.Elements.{All-nil, All-cons, All-head, All-tail, All-append, All-map, All-contains}
 use Rattle.chor_base.specs.declared.names.NameId.{NameId}
@@ -27,7 +27,7 @@ use Rattle.projection.specs.Projects.{body_at}
 use Rattle.projection.specs.Renamed.{IsOther, AreOther, IsUnused}
 use Rattle.projection.proofs.TreeTables.{tree_at-node}
 use Rattle.service_codes.specs.Starts.{HasNamesResolved, Stands, main_begins, procedure_begins, follows}
-use Rattle.service_codes.proofs.Lists.{no_items, both_empty, each_empty, no_fault_at, is_known, name_same, same_number, first_is}
+use Rattle.service_codes.proofs.Lists.{no_items, both_empty, each_empty, no_fault_at, is_known, name_same, first_is}
 
 -- ---- bodies stand in the table
 
@@ -159,7 +159,7 @@ module _ (f : File) (r : HasNamesResolved f) where
         go b false i j l ih = j
         go false true i j l ih = ih l
         go true true i j l ih =
-            let same : s ≡ a = name_same s a (same_number s.0 k.0 i ∙ same_number k.0 a.0 j) in
+            let same : s ≡ a = name_same s a (eqb-true s.0 k.0 i ∙ eqb-true k.0 a.0 j) in
             let no = All-head IsNoChannel s ss h in
             let yes = ap (is_among (channels_of f)) same ∙ channel in
             absurd cc

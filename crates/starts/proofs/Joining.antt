@@ -4,6 +4,7 @@ use Rattle.std.specs.Prelude.{map, slice_get, slice_set}
 use Rattle.std.proofs.lemmas.Bool.Decides.{nat_tests}
 use Rattle.std.proofs.lemmas.List.{length-set}
 use Rattle.std.specs.FinMap as fin
+use Rattle.std.proofs.lemmas.Bool.{eqb-true}
 use Rattle.chor_base.specs.declared.names.NameId.{NameId}
 use Rattle.chor_semantics.specs.Choreography.{Ref, Live}
 use Rattle.chor_semantics.specs.Steps.{fresh_vars}
@@ -82,9 +83,6 @@ found_in : (all : List Machine) (ms : List (ℕ × Machine)) (p : ℕ) (m : Mach
 found_in all [] p m h = kept' (λ k m' i. absurd cc) h
 found_in all ((q, mq) ∷ ms) p m h = go (found_in (slice_set all q mq) ms p m h) (q == p) refl
   where
-    number : (x y : ℕ) → (x == y) ≡ true → x ≡ y
-    number x y i = grind (arith, nat_tests)
-
     same_machine : slice_get (slice_set all q mq) p ≡ Some m → q ≡ p → mq ≡ m
     same_machine i j = at (slice_get all q) refl
       where
@@ -101,7 +99,7 @@ found_in all ((q, mq) ∷ ms) p m h = go (found_in (slice_set all q mq) ms p m h
 
     go : Found' (slice_set all q mq) ms p m → (b : Bool) → (q == p) ≡ b → Found' all ((q, mq) ∷ ms) p m
     go (set (k, i)) b j = set (suc k, i)
-    go (kept' out i) true j = let w = number q p j in set (0, ap (λ y. Some (y, mq)) w ∙ ap (λ y. Some (p, y)) (same_machine i w))
+    go (kept' out i) true j = let w = eqb-true q p j in set (0, ap (λ y. Some (y, mq)) w ∙ ap (λ y. Some (p, y)) (same_machine i w))
     go (kept' out i) false j = kept' absent (sym (get_set_other all q p mq j) ∙ i)
       where
         absent : (k : ℕ) (m' : Machine) → slice_get ((q, mq) ∷ ms) k ≡ Some (p, m') → ⊥
@@ -207,12 +205,9 @@ not_in p ((t, q) ∷ qs) h = (differ, not_in p qs (λ r i. h r (inr i)))
     differ : (p == q) ≡ false
     differ = go (p == q) refl
       where
-        number : (x y : ℕ) → (x == y) ≡ true → x ≡ y
-        number x y i = grind (arith, nat_tests)
-
         go : (b : Bool) → (p == q) ≡ b → (p == q) ≡ false
         go false i = i
-        go true i = absurd (h t (inl (ap (λ y. (t, y)) (number p q i))))
+        go true i = absurd (h t (inl (ap (λ y. (t, y)) (eqb-true p q i))))
 
 pub not_in_both : (p : Ref) (xs ys : List (NameId × ℕ)) → NotIn p xs → NotIn p ys → NotIn p (xs ++ ys)
 not_in_both p [] ys h g = g

@@ -1,6 +1,7 @@
 -- Services, queues and holders, by a start.
 use Rattle.std.proofs.Common.{◌≡◌, ℕ, ◌<◌, Bool, true, false, List, [], ◌∷◌, length, Some, refl, sym, ap, ◌∙◌, subst, if◌then◌else◌, ◌==◌, ◌&&◌, arith}
 use Rattle.std.proofs.lemmas.Bool.Decides.{nat_tests}
+use Rattle.std.proofs.lemmas.Bool.{eqb-true}
 use Rattle.chor_base.specs.declared.names.NameId.{NameId}
 use Rattle.chor_base.specs.declared.value.Load.{Load}
 use Rattle.chor_base.specs.declared.event.Event.{Event}
@@ -180,9 +181,6 @@ module _ (ks : List Channel) (e : Endpoints) (procs : List Procedure) (hosts : H
     pub loads_started : (t : Triple) (sc : Scope) → sc.sid ≡ sid → {c d : Choreography} {x : Event} → x ≡ Start a s parts → IsWellFormed ks procs sc c → (ls : List Load) → AreInTransit t c ls → Moves procs hosts vars sid c x f d → AreInTransit t d ls
     loads_started t sc sid_is {c = c} {d = d} is w ls h mv = go (t.0 == sid) refl
       where
-        number : (x y : ℕ) → (x == y) ≡ true → x ≡ y
-        number x y e = grind (arith, nat_tests)
-
         go : (b : Bool) → (t.0 == sid) ≡ b → AreInTransit t d ls
         go false i = old_loads t i is ls h mv
-        go true i = let j = number t.0 sid i in subst (AreInTransit t d) (sym (none_waits t sc (j ∙ sym sid_is) c w ls h)) (new_empty t j sc sid_is is w mv)
+        go true i = let j = eqb-true t.0 sid i in subst (AreInTransit t d) (sym (none_waits t sc (j ∙ sym sid_is) c w ls h)) (new_empty t j sc sid_is is w mv)

@@ -3,7 +3,7 @@ use Rattle.std.proofs.Common.{◌==◌, ◌≡◌, ◌<◌, ◌≤◌, ◌^◌, 
 use Rattle.std.specs.Prelude.{slice_get}
 use Rattle.std.specs.List.{AllByRecursion}
 use Rattle.std.specs.FinMap as fin
-use Rattle.std.proofs.lemmas.Bool.{ltb-true}
+use Rattle.std.proofs.lemmas.Bool.{ltb-true, and_parts}
 use Rattle.chor_base.specs.declared.names.NameId.{NameId}
 use Rattle.chor_base.specs.declared.value.Value.TheVariants.{Int, Bool as Truth, Text, Part as Endpoint}
 use Rattle.chor_base.specs.declared.value.Load.{Load}
@@ -24,7 +24,7 @@ use Rattle.transcript.specs.Text.{Words}
 use Rattle.event_reader.specs.Known.{HasName, HasEvent, IsInt}
 use Rattle.told_events.specs.Sizes.{AreArmsSized, IsTermSized, AreLiteralsSized, AreMeaningsSized}
 use Rattle.told_events.specs.Told.{words_of, AreNumbersSmall}
-use Rattle.told_events.proofs.Values.{both_of, answers_int, IsFineValue, AreFineVariables, value_fine, argument_int}
+use Rattle.told_events.proofs.Values.{answers_int, IsFineValue, AreFineVariables, value_fine, argument_int}
 use Rattle.told_events.proofs.States.{IsSizedAt, at_of, after_set, count_set, joined, within, Holds, insert_holds, remove_holds, IsFinePart, AreFineSessions, IsFineLoad, IsFineMachine, IsFine, loads_fine, queues_fine, value_told, load_told, Told, process_told}
 use Rattle.told_events.proofs.Places.{IsKnown, place_known}
 
@@ -191,32 +191,32 @@ module _ (e : Endpoints) where
 
       node_told : (node : CodeNode) → IsKnown e node → PlaceAnswers hosts vars (Some (let q : Place = record { node = node; sessions = ss } in q)) v → node_makes cap n p v vars ss node ≡ Some (Makes x m) → Told e n x m
       node_told (Send k b t next) is a i =
-          let h = both_of _ _ is.there in
-          let g = both_of _ _ h.0 in
+          let h = and_parts _ _ is.there in
+          let g = and_parts _ _ h.0 in
           sends b next ss (fin.get ss k.0) (Some (Carries (value_of (term_of t) vars))) is.sized.1 fs (named b g.1) (found (IsFinePart w n.sid) ss k.0 fs) (value t h.1 is.sized.0) i
       node_told (Pick k b l next) is a i =
-          let h = both_of _ _ is.there in
-          let g = both_of _ _ h.0 in
+          let h = and_parts _ _ is.there in
+          let g = and_parts _ _ h.0 in
           sends b next ss (fin.get ss k.0) (Some (Picks l)) is.sized.1 fs (named b g.1) (found (IsFinePart w n.sid) ss k.0 fs) (named l h.1) i
       node_told (Throw k b y next) is a i =
-          let h = both_of _ _ is.there in
-          let g = both_of _ _ h.0 in
+          let h = and_parts _ _ is.there in
+          let g = and_parts _ _ h.0 in
           sends b next (fin.remove ss y.0) (fin.get ss k.0) (part_load (fin.get ss y.0)) is.sized.1 (remove_holds (IsFinePart w n.sid) ss y.0 fs) (named b g.1) (found (IsFinePart w n.sid) ss k.0 fs)
           (part_sent n.sid next vars ss fv fs (fin.get ss y.0) (found (IsFinePart w n.sid) ss y.0 fs)) i
       node_told (Recv k b y next) is a i =
-          let h = both_of _ _ is.there in
-          let g = both_of _ _ h.0 in
+          let h = and_parts _ _ is.there in
+          let g = and_parts _ _ h.0 in
           take_told x m n p b (fin.get ss k.0) (takes_value next vars ss y) f lt (named b g.1) (found (IsFinePart w n.sid) ss k.0 fs) (value_taken n.sid next vars ss fv fs is.sized.1 y) i
       node_told (Branch k b arms) is a i =
-          let h = both_of _ _ is.there in
-          let g = both_of _ _ h.0 in
+          let h = and_parts _ _ is.there in
+          let g = and_parts _ _ h.0 in
           take_told x m n p b (fin.get ss k.0) (takes_label arms vars ss) f lt (named b g.1) (found (IsFinePart w n.sid) ss k.0 fs) (label_taken n.sid (record { 0 = 0 }) vars ss fv fs arms is.sized) i
       node_told (Catch k b y next) is a i =
-          let h = both_of _ _ is.there in
-          let g = both_of _ _ h.0 in
+          let h = and_parts _ _ is.there in
+          let g = and_parts _ _ h.0 in
           take_told x m n p b (fin.get ss k.0) (takes_part next vars ss y) f lt (named b g.1) (found (IsFinePart w n.sid) ss k.0 fs) (part_taken n.sid next vars ss fv fs is.sized.1 y) i
       node_told (Set y t next) is a i =
-          let h = both_of _ _ is.there in
+          let h = and_parts _ _ is.there in
           let fine = value t h.1 is.sized.0 in
           alone next (fin.insert vars y.0 (value_of (term_of t) vars)) (event.Set p y (value_of (term_of t) vars)) is.sized.1 (insert_holds (IsFineValue w n.sid) vars y.0 (value_of (term_of t) vars) fv fine)
           (λ small. (process_told e p (omega (arith, lt, small.0)), named y h.0, value_told w n.sid small.1 (value_of (term_of t) vars) fine)) i
@@ -224,9 +224,9 @@ module _ (e : Endpoints) where
           let fine = value t is.there is.sized.0 in
           alone next vars (event.Show p (value_of (term_of t) vars)) is.sized.1 fv (λ small. (process_told e p (omega (arith, lt, small.0)), value_told w n.sid small.1 (value_of (term_of t) vars) fine)) i
       node_told (Host y g s t next) is a i =
-          let h = both_of _ _ is.there in
-          let j = both_of _ _ h.0 in
-          let k = both_of _ _ j.0 in
+          let h = and_parts _ _ is.there in
+          let j = and_parts _ _ h.0 in
+          let k = and_parts _ _ j.0 in
           let left = argument_int w n.sid (term_of s) vars j.1 is.sized.0.0 fv in
           let right = argument_int w n.sid (term_of t) vars h.1 is.sized.0.1 fv in
           let answer : IsInt v = answers_int hosts g (number_of (value_of (term_of s) vars)) (number_of (value_of (term_of t) vars)) v meanings left right a in

@@ -3,7 +3,7 @@ use Rattle.std.proofs.Common.{◌||◌, ◌≡◌, ◌<◌, ◌≤◌, ◌+◌, 
 use Rattle.std.specs.Prelude.{All, slice_get, slice_set, max}
 use Rattle.std.specs.List.{AllByRecursion, list_all}
 use Rattle.std.specs.FinMap as fin
-use Rattle.std.proofs.lemmas.Bool.{ltb-true}
+use Rattle.std.proofs.lemmas.Bool.{ltb-true, and_parts}
 use Rattle.std.proofs.lemmas.Bool.Decides.{nat_tests}
 use Rattle.std.proofs.lemmas.List.Elements.{All-head, All-tail}
 use Rattle.chor_base.specs.declared.names.NameId.{NameId}
@@ -22,13 +22,13 @@ use Rattle.transcript.specs.Text.{Words}
 use Rattle.event_reader.specs.Known.{HasName, HasPart}
 use Rattle.told_events.specs.Sizes.{AreLiteralsSized}
 use Rattle.told_events.specs.Told.{words_of, most_served}
-use Rattle.told_events.proofs.Values.{AreFineVariables, both_of, IsFineValue}
+use Rattle.told_events.proofs.Values.{AreFineVariables, IsFineValue}
 use Rattle.told_events.proofs.States.{IsSizedAt, later_variables, later_sessions, AreFineSessions, at_of, after_set, count_set, joined, along, within, empty_holds, insert_holds, IsFinePart, IsFineMachine, IsFine, later_machine, later_queues, Told, process_told}
 use Rattle.told_events.proofs.Places.{IsKnown, place_known}
 
 all_named : (test : NameId → Bool) (xs : List NameId) → list_all test xs ≡ true → AllByRecursion (λ y. test y ≡ true) xs
 all_named test [] h = tt
-all_named test (y ∷ ys) h = let k = both_of (test y) (list_all test ys) h in (k.0, all_named test ys k.1)
+all_named test (y ∷ ys) h = let k = and_parts (test y) (list_all test ys) h in (k.0, all_named test ys k.1)
 
 same_test : (a b c d : ℕ) → ((a == b) && (c == d)) ≡ ((b == a) && (d == c))
 same_test a b c d = grind (arith, nat_tests)
@@ -76,8 +76,8 @@ module _ (e : Endpoints) where
           let same : d ≡ k = cc in
           let there : IsThere d = All-head IsThere d ds h in
           let one : ((has_name e.names d.name && list_all (has_name e.names) d.active) ≡ true) × (list_all (has_name e.names) d.serve ≡ true) =
-          both_of (has_name e.names d.name && list_all (has_name e.names) d.active) (list_all (has_name e.names) d.serve) there in
-          let two : (has_name e.names d.name ≡ true) × (list_all (has_name e.names) d.active ≡ true) = both_of (has_name e.names d.name) (list_all (has_name e.names) d.active) one.0 in
+          and_parts (has_name e.names d.name && list_all (has_name e.names) d.active) (list_all (has_name e.names) d.serve) there in
+          let two : (has_name e.names d.name ≡ true) × (list_all (has_name e.names) d.active ≡ true) = and_parts (has_name e.names d.name) (list_all (has_name e.names) d.active) one.0 in
           let number : d.name.0 ≡ c.0 = grind (arith, nat_tests) in
           let name : d.name ≡ c = λ t. record { 0 = number t } in
           subst (λ (q : Channel). IsKnownChannel c q) same (record {

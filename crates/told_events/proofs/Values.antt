@@ -3,7 +3,7 @@ use Rattle.std.proofs.Common.{◌≡◌, ◌<◌, ◌&&◌, ℕ, ℤ, pos, negsu
 use Rattle.std.specs.Prelude.{◌+ℤ◌, ◌-ℤ◌, ◌*ℤ◌, ◌≤ℤ◌, ◌==◌, int_div, int_lt, unsigned_abs, unwrap_or}
 use Rattle.std.specs.FinMap as fin
 use borrow.Author.Differences.{ints}
-use Rattle.std.proofs.lemmas.Bool.{ltb-true}
+use Rattle.std.proofs.lemmas.Bool.{ltb-true, and_parts}
 use Rattle.chor_base.specs.declared.names.NameId.{NameId}
 use Rattle.chor_base.specs.declared.value.Value.{Value}
 use Rattle.chor_base.specs.declared.value.Value.TheVariants.{Int, Bool as Truth, Text, Part as Endpoint}
@@ -20,10 +20,6 @@ use Rattle.endpoint_code.specs.Kept.{has_name, has_text, term_there}
 use Rattle.transcript.specs.Text.{Words}
 use Rattle.event_reader.specs.Known.{IsInt, HasName}
 use Rattle.told_events.specs.Sizes.{IsTermSized, IsMeaningSized, AreMeaningsSized}
-
-pub both_of : (a b : Bool) → (a && b) ≡ true → (a ≡ true) × (b ≡ true)
-both_of true b h = (refl, h)
-both_of false b h = absurd cc
 
 -- ---- numbers
 

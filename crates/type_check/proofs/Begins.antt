@@ -3,6 +3,7 @@ use Rattle.std.proofs.Common.{◌≡◌, ℕ, ◌<◌, List, [], ◌∷◌, ◌+
 use Rattle.std.proofs.lemmas.Bool.Decides.{nat_tests}
 use Rattle.std.specs.Prelude.{Contains, not, nat_lt}
 use Rattle.std.specs.List.{flat_map, list_all}
+use Rattle.std.proofs.lemmas.Bool.{eqb-true, and_parts}
 use Rattle.chor_base.specs.declared.names.NameId.{NameId}
 use Rattle.chor_base.specs.declared.rule.Rule.TheVariants.{N2}
 use Rattle.chor_base.proofs.Members.{nowhere, head_or_tail}
@@ -24,14 +25,10 @@ each_empty g (y ∷ ys) h x m =
     let w = both_empty (g y) (flat_map g ys) h in
     elim (head_or_tail y ys x m) [ inl e ↦ ap g (sym e) ∙ w.0 | inr n ↦ each_empty g ys w.1 x n ]
 
-both_true : (a b : Bool) → (a && b) ≡ true → (a ≡ true) × (b ≡ true)
-both_true true b h = (refl, h)
-both_true false b h = absurd cc
-
 all_items : {A : Type 0} (p : A → Bool) (xs : List A) → list_all p xs ≡ true → (x : A) → Contains xs x → p x ≡ true
 all_items p [] h x m = absurd (nowhere x m)
 all_items p (y ∷ ys) h x m =
-    let w = both_true (p y) (list_all p ys) h in
+    let w = and_parts (p y) (list_all p ys) h in
     elim (head_or_tail y ys x m) [ inl e ↦ ap p (sym e) ∙ w.0 | inr n ↦ all_items p ys w.1 x n ]
 
 less : (m n : ℕ) → nat_lt m n ≡ true → m < n
@@ -47,10 +44,7 @@ none_known known (y ∷ ys) h x i =
     go (y.name.0 == x.0) refl i (no_fault_at (is_among known y.name) N2 y w.0) (none_known (y.name ∷ known) ys w.1 x)
   where
     same : (k : NameId) → (y.name.0 == x.0) ≡ true → (k.0 == y.name.0) ≡ (k.0 == x.0)
-    same k e = ap (λ n. k.0 == n) (equal y.name.0 x.0 e)
-      where
-        equal : (a b : ℕ) → (a == b) ≡ true → a ≡ b
-        equal a b h = grind (arith, nat_tests)
+    same k e = ap (λ n. k.0 == n) (eqb-true y.name.0 x.0 e)
 
     there : (ks : List NameId) → (y.name.0 == x.0) ≡ true → is_among ks y.name ≡ is_among ks x
     there [] e = refl
@@ -79,7 +73,7 @@ names_differ known (x ∷ xs) h =
 
 later_differ : (xs ys : List NameId) → all_differ (xs ++ ys) ≡ true → all_differ ys ≡ true
 later_differ [] ys h = h
-later_differ (x ∷ xs) ys h = later_differ xs ys (both_true _ _ h).1
+later_differ (x ∷ xs) ys h = later_differ xs ys (and_parts _ _ h).1
 
 names_append : (xs ys : List Written) → names_in (xs ++ ys) ≡ names_in xs ++ names_in ys
 names_append [] ys = refl
@@ -101,12 +95,12 @@ listed_in_scope (k ∷ ks) s off =
 
 -- the body of a procedure is in the table
 pub body_there : (f : File) (p : Proc) → Contains f.procs p → p.body.0 < length f.tree.nodes
-body_there f p m = less p.body.0 (length f.tree.nodes) (there f.procs (both_true _ _ f.kept.begin).1 m)
+body_there f p m = less p.body.0 (length f.tree.nodes) (there f.procs (and_parts _ _ f.kept.begin).1 m)
   where
     there : (ps : List Proc) → list_all (λ b. nat_lt b.0 (length f.tree.nodes)) (map (λ p. p.body) ps) ≡ true → Contains ps p → nat_lt p.body.0 (length f.tree.nodes) ≡ true
     there [] h n = absurd (nowhere p n)
     there (q ∷ qs) h n =
-        let w = both_true _ _ h in
+        let w = and_parts _ _ h in
         elim (head_or_tail q qs p n) [ inl e ↦ subst (λ z. nat_lt z.body.0 (length f.tree.nodes) ≡ true) e w.0 | inr k ↦ there qs w.1 k ]
 
 module _ (f : File) (r : HasNamesResolved f) where
@@ -116,7 +110,7 @@ module _ (f : File) (r : HasNamesResolved f) where
     scope = scope_of_main f;
     held = subst (λ (z : Environment). HoldInScope (scope_of_main f) z.owners) (sym is) (λ k off. refl);
     names = λ x h. r.names x (in_main h);
-    is_there = less f.body.0 (length f.tree.nodes) (both_true _ _ f.kept.begin).0;
+    is_there = less f.body.0 (length f.tree.nodes) (and_parts _ _ f.kept.begin).0;
   }
 
   procedure_fine : (p : Proc) → Contains f.procs p → procedure_faults f p ≡ []

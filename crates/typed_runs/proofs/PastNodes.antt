@@ -1,5 +1,6 @@
 -- What one process changes and a node that doesn't name it: the order doesn't matter.
 use Rattle.std.proofs.Common.{◌≡◌, ℕ, List, [], ◌∷◌, ◌++◌, refl, sym, ap, ◌∙◌, subst, Some, None, Option, Bool, true, false, ◌==◌, ◌&&◌, ◌||◌, ◌⊎◌, inl, inr, if◌then◌else◌}
+use Rattle.std.proofs.lemmas.Bool.{and_parts}
 use Rattle.chor_base.specs.declared.names.NameId.{NameId}
 use Rattle.chor_base.specs.declared.value.Sort.{Sort}
 use Rattle.chor_base.specs.Sorts.{Sorts}
@@ -12,7 +13,7 @@ use Rattle.typed_runs.specs.Told.{Told, Act, sending, receiving, put_to, got_fro
 use Rattle.typed_runs.specs.Context.{Context, Hand, NoHand, Hands, handed, Setting, NoSet, SetsSort, put_sort, with_setting, opened, content_hand, message_hand, content_setting, message_setting, own_setting, unset, after, told_content, told_load}
 use Rattle.typed_runs.specs.Typing.{HasSort, IsTypedContent, IsTypedMessage, IsTypedOwn, IsTypedNode}
 use Rattle.typed_runs.specs.Changes.{Change, changed, IsHandBy, IsSettingBy, AreActsBy, IsChangeBy}
-use Rattle.typed_runs.proofs.Small.{both_true, append_nil}
+use Rattle.typed_runs.proofs.Small.{append_nil}
 
 abbrev pub Holders : Type 0
 Holders = Ref → NameId → Option Ref
@@ -20,7 +21,7 @@ Holders = Ref → NameId → Option Ref
 -- ---- references
 
 pub role_same : (u : Ref) (r : NameId) (s : Ref) (a : NameId) → is_role s a u r ≡ true → (s ≡ u) × (a ≡ r)
-role_same u r s a h = let b = both_true _ _ h in (same_ref s u b.0, same_name a r b.1)
+role_same u r s a h = let b = and_parts _ _ h in (same_ref s u b.0, same_name a r b.1)
 
 -- who isn't named isn't the holder that is
 pub other : (p : ℕ) (q : Ref) (o : Option Ref) → ref_eq (Live p) q ≡ false → o ≡ Some q → o ≡ Some (Live p) → ⊥

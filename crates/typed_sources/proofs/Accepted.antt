@@ -3,6 +3,7 @@ use Rattle.std.proofs.Common.{◌≡◌, ℕ, zero, suc, ◌<◌, List, [], ◌�
 use Rattle.std.proofs.lemmas.Bool.Decides.{nat_tests}
 use Rattle.std.specs.Prelude.{Contains, slice_get, not, nat_lt, All}
 use Rattle.std.specs.List.{flat_map, list_all}
+use Rattle.std.proofs.lemmas.Bool.{eqb-true, and_parts}
 use Rattle.chor_base.specs.declared.names.NameId.{NameId}
 use Rattle.chor_base.specs.declared.rule.Rule.TheVariants.{N2, N3}
 use Rattle.chor_base.specs.Expr.{term_of}
@@ -37,7 +38,6 @@ use Rattle.typing_rules.specs.Checks.{rule_at}
 use Rattle.typing_rules.specs.After.{after_statement}
 use Rattle.typing_rules.specs.TypeFaults.{head_faults, IsBodyFault, here, further, in_main, in_a_head, in_a_procedure, IsTyped}
 use Rattle.typed_runs.specs.Typing.{IsNotEmpty}
-use Rattle.typed_runs.proofs.Small.{eq_same, both_true}
 use Rattle.typed_sources.proofs.Checked.{some_is}
 use Rattle.typed_sources.proofs.Opened.{AreNew, IsNamedStart}
 use Rattle.typed_sources.proofs.Statements.{ProtocolsFit}
@@ -151,7 +151,7 @@ module _ (f : File) where
         let each = each_empty (protocols.protocol_faults f.protocols) f.protocols (both_empty (flat_map (protocols.protocol_faults f.protocols) f.protocols) (flat_map (protocols.procedure_faults f.protocols) f.procs) no_protocol_fault).0 p.0 there in
         let used = (both_empty (flat_map (unused_role p.0.states) p.0.roles) (flat_map (λ (z : State). step_faults f.protocols p.0.states z.step) p.0.states) each).0 in
         let roles = role_list p.0 s.0 (subst (λ o. wrong_roles o s.0 ≡ []) p.1 fine.1) in
-        let has_active = all_of (λ (z : Service). has_items z.active) f.services (both_true _ _ (both_true _ _ f.kept.filled).0).0 s.0 (found_in (λ z. z.name) f.services c.name s.0 s.1) in
+        let has_active = all_of (λ (z : Service). has_items z.active) f.services (and_parts _ _ (and_parts _ _ f.kept.filled).0).0 s.0 (found_in (λ z. z.name) f.services c.name s.0 s.1) in
         let states = has_state p.0.roles p.0.states s.0.active s.0.serve roles has_active used in
         let first = both_empty (fault_at (is_among (scope.processes ++ scope.sessions) k.name) N2 k) (repeated (k.name ∷ (scope.processes ++ scope.sessions)) (map (λ (q : Part). q.process) serve)) w0.1 in
         let off = (among_either scope.processes scope.sessions k.name (no_fault_at (is_among (scope.processes ++ scope.sessions) k.name) N2 k first.0)).1 in
@@ -190,8 +190,8 @@ module _ (f : File) where
         counts None p k w = absurd cc
         counts (Some q) p k w =
             let same : q ≡ p = some_is _ _ k in
-            let u = both_true _ _ (not_true _ (no_fault_at (not ((length ps == length q.params) && (length ks == length q.sessions))) N3 g w)) in
-            subst (λ z. (length ps ≡ length z.params) × (length ks ≡ length z.sessions)) same (eq_same (length ps) (length q.params) u.0, eq_same (length ks) (length q.sessions) u.1)
+            let u = and_parts _ _ (not_true _ (no_fault_at (not ((length ps == length q.params) && (length ks == length q.sessions))) N3 g w)) in
+            subst (λ z. (length ps ≡ length z.params) × (length ks ≡ length z.sessions)) same (eqb-true (length ps) (length q.params) u.0, eqb-true (length ks) (length q.sessions) u.1)
 
     -- two processes of a communication are in scope
     parties_kept : (scope : Scope) (a b : Part) (k : Written) → message_faults scope a b k ≡ [] → IsIn scope a.process × IsIn scope b.process
@@ -277,7 +277,7 @@ module _ (f : File) where
         let w = in_table f.tree.nodes id.0 there in
         let at = block_at f.tree.nodes id w.0 f.tree.closed w.1 in
         let fine : node_faults f hosts scope w.0.form ≡ [] = no_items (node_faults f hosts scope w.0.form) (λ x m. clean x (name_here w.1 m)) in
-        let filled = all_of (λ (o : TreeNode). form_filled o.form) f.tree.nodes (both_true _ _ f.kept.filled).1 w.0 w.2 in
+        let filled = all_of (λ (o : TreeNode). form_filled o.form) f.tree.nodes (and_parts _ _ f.kept.filled).1 w.0 w.2 in
         subst (IsFaultless f scope e) (sym at)
         (at_node scope e i w.0.place w.0.form filled fine (subst (λ b. (x : Fault) → ¬ IsBodyFault f x e b) at types) (λ s k next m same j t.
         let b = low id.0 (children_of w.0.form) next (f.tree.closed id.0 w.0 w.1) m in
@@ -294,7 +294,7 @@ module _ (f : File) where
       less m n h = grind (arith, nat_tests)
 
       pub main_faultless : IsFaultless f (scope_of_main f) at_main (body_of f f.body)
-      main_faultless = body_faultless (suc f.body.0) (scope_of_main f) at_main f.body (omega arith) (less f.body.0 (length f.tree.nodes) (both_true _ _ bodies_there).0)
+      main_faultless = body_faultless (suc f.body.0) (scope_of_main f) at_main f.body (omega arith) (less f.body.0 (length f.tree.nodes) (and_parts _ _ bodies_there).0)
           (λ s st h. absurd (none st h)) (λ x h. names x (name_in_main h)) (λ x h. typed x (in_main h))
         where
           none : (st : Standing) → None ≡ Some st → ⊥
@@ -302,8 +302,8 @@ module _ (f : File) where
 
       pub procs_there : (ps : List Proc) → list_all (λ (b : NodeId). nat_lt b.0 (length f.tree.nodes)) (map (λ p. p.body) ps) ≡ true → (p : Proc) → Contains ps p → nat_lt p.body.0 (length f.tree.nodes) ≡ true
       procs_there [] h p (i, l, e) = absurd (omega (arith, l))
-      procs_there (q ∷ qs) h p (zero, l, e) = subst (λ z. nat_lt z.body.0 (length f.tree.nodes) ≡ true) e (both_true _ _ h).0
-      procs_there (q ∷ qs) h p (suc i, l, e) = procs_there qs (both_true _ _ h).1 p (i, omega (arith, l), e)
+      procs_there (q ∷ qs) h p (zero, l, e) = subst (λ z. nat_lt z.body.0 (length f.tree.nodes) ≡ true) e (and_parts _ _ h).0
+      procs_there (q ∷ qs) h p (suc i, l, e) = procs_there qs (and_parts _ _ h).1 p (i, omega (arith, l), e)
 
       pub param_scope : (p : Proc) → InScope (scope_of_procedure p) (at_procedure p)
       param_scope p = λ s st h. go p.sessions s st h
@@ -324,10 +324,10 @@ module _ (f : File) where
       procedures_keep = record {
         proper = λ h p is.
             let m = found_in (λ q. q.name) f.procs h p is in
-            proper_head p (all_of proc_filled f.procs (both_true _ _ (both_true _ _ f.kept.filled).0).1 p m) (first_names p (each_empty (procedure_faults f) f.procs procedures_fine p m)) (head_fine p m);
+            proper_head p (all_of proc_filled f.procs (and_parts _ _ (and_parts _ _ f.kept.filled).0).1 p m) (first_names p (each_empty (procedure_faults f) f.procs procedures_fine p m)) (head_fine p m);
         bodies = λ h p is.
             let m = found_in (λ q. q.name) f.procs h p is in
-            body_faultless (suc p.body.0) (scope_of_procedure p) (at_procedure p) p.body (omega arith) (less p.body.0 (length f.tree.nodes) (procs_there f.procs (both_true _ _ bodies_there).1 p m))
+            body_faultless (suc p.body.0) (scope_of_procedure p) (at_procedure p) p.body (omega arith) (less p.body.0 (length f.tree.nodes) (procs_there f.procs (and_parts _ _ bodies_there).1 p m))
             (param_scope p) (λ x b. names x (name_in_a_procedure m b)) (λ x b. typed x (in_a_procedure m (head_fine p m) b));
       }
         where

@@ -2,6 +2,7 @@
 use Rattle.std.proofs.Common.{◌≡◌, ℕ, suc, ◌<◌, List, [], ◌∷◌, ◌++◌, map, length, refl, sym, ap, ◌∙◌, subst, Some, Bool, true, false, ◌==◌, ◌&&◌, ◌||◌, inl, inr, ◌⊎◌, arith, if◌then◌else◌}
 use Rattle.std.specs.Prelude.{Contains}
 use Rattle.std.specs.List.{flat_map}
+use Rattle.std.proofs.lemmas.Bool.{eqb-true, and_parts}
 use Rattle.chor_base.specs.declared.names.NameId.{NameId}
 use Rattle.chor_base.specs.declared.value.Sort.{Sort}
 use Rattle.chor_tree.specs.declared.file.File.{File}
@@ -19,7 +20,6 @@ use Rattle.typing_rules.specs.declared.standings.Standing.{Standing}
 use Rattle.typing_rules.specs.Environment.{standing_of, declared_sort, declared_sorts, stands}
 use Rattle.typed_runs.specs.Context.{Context}
 use Rattle.typed_runs.specs.Typing.{AllKnown}
-use Rattle.typed_runs.proofs.Small.{both_true, eq_same}
 use Rattle.typed_sources.specs.Stands.{states_in, Reached, protocol_at}
 use Rattle.typed_sources.proofs.Checked.{some_is}
 use Rattle.typed_sources.proofs.Opened.{not_is}
@@ -68,7 +68,7 @@ bound_apart dep (x ∷ xs) (r ∷ rs) l a y z h i o = go (x.0 == y) (x.0 == z) r
     go : (b c : Bool) → (x.0 == y) ≡ b → (x.0 == z) ≡ c → (b || is_among xs (named y)) ≡ true → (c || is_among xs (named z)) ≡ true
         → (is_among xs (named y) ≡ true → is_among xs (named z) ≡ true → (y == z) ≡ false → ref_eq (bound_all dep xs rs y) (bound_all dep xs rs z) ≡ false)
         → ref_eq (if b then r else bound_all dep xs rs y) (if c then r else bound_all dep xs rs z) ≡ false
-    go true true j k m n ih = absurd (not_both (y == z) (ap (λ w. w == z) (sym (eq_same x.0 y j) ∙ eq_same x.0 z k) ∙ true_eq z) o)
+    go true true j k m n ih = absurd (not_both (y == z) (ap (λ w. w == z) (sym (eqb-true x.0 y j) ∙ eqb-true x.0 z k) ∙ true_eq z) o)
     go true false j k m n ih = head_off z n
     go false true j k m n ih = turned_ref r (bound_all dep xs rs y) (head_off y m)
     go false false j k m n ih = ih m n o
@@ -172,7 +172,7 @@ pub holder_bound : (dep : ℕ) (f : File) (e : Context) (qs : List ProcParam) (p
     → (e.holder (bound_all dep (map (λ k. k.name.name) rs) ss y) r ≡ Some (bound_all dep (map (λ k. k.name.name) qs) ps q.0)) × (is_among (map (λ k. k.name.name) qs) q ≡ true) × ((st : Standing) × (standing_of (standings_of rs) (named y) ≡ Some st))
 holder_bound dep f e qs ps [] ss l od a y r q h = absurd cc
 holder_bound dep f e qs ps (x ∷ xs) [] l od a y r q h = absurd (omega (arith, l))
-holder_bound dep f e qs ps (x ∷ xs) (s ∷ ss) l od a y r q h = go (x.name.name.0 == y) refl (holder_bound dep f e qs ps xs ss (omega (arith, l)) (both_true _ _ od).1 a.1 y r q)
+holder_bound dep f e qs ps (x ∷ xs) (s ∷ ss) l od a y r q h = go (x.name.name.0 == y) refl (holder_bound dep f e qs ps xs ss (omega (arith, l)) (and_parts _ _ od).1 a.1 y r q)
   where
     go : (b : Bool) → (x.name.name.0 == y) ≡ b
         → (holder_of (owners_of xs) (named y) r ≡ Some q → (e.holder (bound_all dep (map (λ k. k.name.name) xs) ss y) r ≡ Some (bound_all dep (map (λ k. k.name.name) qs) ps q.0)) × (is_among (map (λ k. k.name.name) qs) q ≡ true) × ((st : Standing) × (standing_of (standings_of xs) (named y) ≡ Some st)))
@@ -182,7 +182,7 @@ holder_bound dep f e qs ps (x ∷ xs) (s ∷ ss) l od a y r q h = go (x.name.nam
     go true i ih = elim (holder_in_one x.name.name x.holders (owners_of xs) (named y) r q i h) [
       | inl w ↦ (let z = a.0.holders w.0 w.1 in let k = argument_bound dep qs ps w.0.1.name z.0 z.1 in
           (ap (e.holder s) (sym w.2) ∙ z.2 ∙ ap Some (k.0 ∙ ap (λ u. bound_all dep (map (λ v. v.name.name) qs) ps u.0) w.3), ap (is_among (map (λ v. v.name.name) qs)) (sym w.3) ∙ k.1, (stands x.name.name x.protocol.name x.state.name, refl)))
-      | inr w ↦ absurd (no_owner xs (named y) r q (subst (λ u. is_among (map (λ k. k.name.name) xs) u ≡ false) (same_name x.name.name (named y) i) (not_is _ (both_true _ _ od).0)) w)
+      | inr w ↦ absurd (no_owner xs (named y) r q (subst (λ u. is_among (map (λ k. k.name.name) xs) u ≡ false) (same_name x.name.name (named y) i) (not_is _ (and_parts _ _ od).0)) w)
     ]
 
 -- a session that is passed is that of a parameter
@@ -191,7 +191,7 @@ pub session_of : (dep : ℕ) (f : File) (e : Context) (qs : List ProcParam) (ps 
     → (y : ℕ) × (bound_all dep (map (λ k. k.name.name) rs) ss y ≡ t) × (protocol_at (standing_of (standings_of rs) (named y)) ≡ Some p) × (is_among (map (λ k. k.name.name) rs) (named y) ≡ true)
 session_of dep f e qs ps rs [] l od a t p i h = absurd cc
 session_of dep f e qs ps [] (s ∷ ss) l od a t p i h = absurd (omega (arith, l))
-session_of dep f e qs ps (x ∷ xs) (s ∷ ss) l od a t p i h = go (ref_eq t s) refl h (session_of dep f e qs ps xs ss (omega (arith, l)) (both_true _ _ od).1 a.1 t p i)
+session_of dep f e qs ps (x ∷ xs) (s ∷ ss) l od a t p i h = go (ref_eq t s) refl h (session_of dep f e qs ps xs ss (omega (arith, l)) (and_parts _ _ od).1 a.1 t p i)
   where
     go : (b : Bool) → ref_eq t s ≡ b → (b || among t ss) ≡ true
         → (among t ss ≡ true → (y : ℕ) × (bound_all dep (map (λ k. k.name.name) xs) ss y ≡ t) × (protocol_at (standing_of (standings_of xs) (named y)) ≡ Some p) × (is_among (map (λ k. k.name.name) xs) (named y) ≡ true))
@@ -219,4 +219,4 @@ session_of dep f e qs ps (x ∷ xs) (s ∷ ss) l od a t p i h = go (ref_eq t s) 
           where
             step : (b : Bool) → (x.name.name.0 == y) ≡ b → (x.name.name.0 == y) ≡ false
             step false n = n
-            step true n = absurd (not_both (is_among (map (λ z. z.name.name) xs) (named y)) m (subst (λ u. is_among (map (λ z. z.name.name) xs) u ≡ false) (same_name x.name.name (named y) n) (not_is _ (both_true _ _ od).0)))
+            step true n = absurd (not_both (is_among (map (λ z. z.name.name) xs) (named y)) m (subst (λ u. is_among (map (λ z. z.name.name) xs) u ≡ false) (same_name x.name.name (named y) n) (not_is _ (and_parts _ _ od).0)))

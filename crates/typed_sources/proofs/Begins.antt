@@ -1,5 +1,6 @@
 -- Where a body begins: what the source knows of its parameters is what holds of the arguments.
 use Rattle.std.proofs.Common.{◌≡◌, ℕ, zero, suc, ◌<◌, List, [], ◌∷◌, map, length, refl, sym, ap, ◌∙◌, Some, None, Option, Bool, true, false, ◌==◌, ◌&&◌, inl, inr, ◌⊎◌, arith}
+use Rattle.std.proofs.lemmas.Bool.{eqb-true}
 use Rattle.chor_base.specs.declared.names.NameId.{NameId}
 use Rattle.chor_base.specs.declared.value.Sort.{Sort}
 use Rattle.chor_tree.specs.declared.file.File.{File}
@@ -16,7 +17,7 @@ use Rattle.typing_rules.specs.Environment.{standing_of, at_procedure}
 use Rattle.typed_runs.specs.Context.{Context}
 use Rattle.typed_runs.specs.Typing.{HasProtocol, HasEnded}
 use Rattle.typed_runs.specs.Changes.{HoldersInScope}
-use Rattle.typed_runs.proofs.Small.{eq_same, on_or_off}
+use Rattle.typed_runs.proofs.Small.{on_or_off}
 use Rattle.typed_starts.specs.Renames.{Renames}
 use Rattle.typed_sources.specs.Stands.{states_in, at, holder_at, protocol_at, Stands}
 use Rattle.typed_sources.proofs.Checked.{some_is}
@@ -87,7 +88,7 @@ module _ (f : File) (e : Context) (h : NameId) (k : ℕ) (ps ss : List Ref) (w :
   apart (Named y zero) (Named z zero) i j = go (y == z) refl
     where
       go : (b : Bool) → (y == z) ≡ b → ref_eq (F f (suc k) p ps ss e y) (F f (suc k) p ps ss e z) ≡ ((y == z) && true)
-      go true l = ap (λ u. ref_eq (F f (suc k) p ps ss e u) (F f (suc k) p ps ss e z)) (eq_same y z l) ∙ self_ref (F f (suc k) p ps ss e z) ∙ sym (ap (λ b. b && true) l)
+      go true l = ap (λ u. ref_eq (F f (suc k) p ps ss e u) (F f (suc k) p ps ss e z)) (eqb-true y z l) ∙ self_ref (F f (suc k) p ps ss e z) ∙ sym (ap (λ b. b && true) l)
       go false l = bound_apart (suc k) (map (λ q. q.name.name) p.params) ps long w.differ y z i j l ∙ sym (ap (λ b. b && true) l)
 
   sorts : (r : Ref) → base.known r ≡ true → (x : NameId) (s : Sort) → base.sorts r x ≡ Some s → e.sorts (named_by (F f (suc k) p ps ss e) r) x ≡ Some s
@@ -111,7 +112,7 @@ module _ (f : File) (e : Context) (h : NameId) (k : ℕ) (ps ss : List Ref) (w :
   apart_sessions (Named y zero) (Named z zero) i j = go (y == z) refl
     where
       go : (b : Bool) → (y == z) ≡ b → ref_eq (G f (suc k) p ps ss e y) (G f (suc k) p ps ss e z) ≡ ((y == z) && true)
-      go true l = ap (λ u. ref_eq (G f (suc k) p ps ss e u) (G f (suc k) p ps ss e z)) (eq_same y z l) ∙ self_ref (G f (suc k) p ps ss e z) ∙ sym (ap (λ b. b && true) l)
+      go true l = ap (λ u. ref_eq (G f (suc k) p ps ss e u) (G f (suc k) p ps ss e z)) (eqb-true y z l) ∙ self_ref (G f (suc k) p ps ss e z) ∙ sym (ap (λ b. b && true) l)
       go false l = bound_apart (suc k) (map (λ q. q.name.name) p.sessions) ss long_sessions w.sessions_differ y z (session_among y i) (session_among z j) l ∙ sym (ap (λ b. b && true) l)
 
   done : (r : Ref) → HasProtocol (base.protocol r) → (a : NameId) → e.done (named_by (G f (suc k) p ps ss e) r) a ≡ base.done r a

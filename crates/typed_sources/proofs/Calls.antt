@@ -2,6 +2,7 @@
 use Rattle.std.proofs.Common.{◌≡◌, ℕ, zero, suc, ◌<◌, List, [], ◌∷◌, ◌++◌, map, length, refl, sym, ap, ◌∙◌, subst, Some, None, Option, Bool, true, false, ◌==◌, ◌&&◌, ◌||◌, inl, inr, ◌⊎◌, arith, if◌then◌else◌}
 use Rattle.std.specs.Prelude.{Result, Ok, not, Contains}
 use Rattle.std.specs.List.{list_all}
+use Rattle.std.proofs.lemmas.Bool.{and_parts}
 use Rattle.chor_base.specs.declared.names.NameId.{NameId}
 use Rattle.chor_base.specs.declared.rule.Rule.{Rule}
 use Rattle.chor_base.specs.declared.rule.Rule.TheVariants.{T6, T7, T8}
@@ -26,7 +27,6 @@ use Rattle.typing_rules.specs.Checks.{is_sort, params_are_set, holds_as, is_stan
 use Rattle.typing_rules.specs.Allowed.{is_last}
 use Rattle.typed_runs.specs.Context.{Context}
 use Rattle.typed_runs.specs.Typing.{AllKnown, HasEnded}
-use Rattle.typed_runs.proofs.Small.{both_true}
 use Rattle.typed_starts.specs.Renames.{Renames}
 use Rattle.typed_sources.specs.Stands.{states_in, Reached, at, holder_at, protocol_at, Stands}
 use Rattle.typed_sources.proofs.Checked.{first_passes, asked, is_it, holder_is, some_is}
@@ -38,8 +38,8 @@ use Rattle.typed_sources.specs.Calls.{argument, AreSet, IsAsDeclared, AreAsDecla
 
 pub all_of : {A : Type 0} (p : A → Bool) (xs : List A) → list_all p xs ≡ true → (x : A) → Contains xs x → p x ≡ true
 all_of p [] h x (i, l, e) = absurd (omega (arith, l))
-all_of p (y ∷ ys) h x (zero, l, e) = subst (λ z. p z ≡ true) e (both_true _ _ h).0
-all_of p (y ∷ ys) h x (suc i, l, e) = all_of p ys (both_true _ _ h).1 x (i, omega (arith, l), e)
+all_of p (y ∷ ys) h x (zero, l, e) = subst (λ z. p z ≡ true) e (and_parts _ _ h).0
+all_of p (y ∷ ys) h x (suc i, l, e) = all_of p ys (and_parts _ _ h).1 x (i, omega (arith, l), e)
 
 names : List Written → List Ref
 names ps = map name_ref ps
@@ -75,7 +75,7 @@ names_among (p ∷ ps) x h = go (p.name.0 == x.0) refl h (names_among ps x)
 
 differ : (ps : List Written) → all_differ (names_in ps) ≡ true → AllDiffer (map name_ref ps)
 differ [] h = tt
-differ (p ∷ ps) h = let w = both_true _ _ h in (go (among (at p.name) (map name_ref ps)) refl w.0, differ ps w.1)
+differ (p ∷ ps) h = let w = and_parts _ _ h in (go (among (at p.name) (map name_ref ps)) refl w.0, differ ps w.1)
   where
     go : (b : Bool) → among (at p.name) (map name_ref ps) ≡ b → not (is_among (names_in ps) p.name) ≡ true → among (at p.name) (map name_ref ps) ≡ false
     go false i n = i
@@ -93,7 +93,7 @@ module _ (f : File) (good : ProtocolsFit f) (scope : Scope) (e : Environment) (d
   sets_there [] ps h = tt
   sets_there (q ∷ qs) [] h = tt
   sets_there (q ∷ qs) (p ∷ ps) h =
-      let w = both_true _ _ h in
+      let w = and_parts _ _ h in
       ((λ v m. ap (λ k. k v.0.name) (t.sorts p.name) ∙ variable_set (e.sorts p.name v.0.name) v.1 (all_of (λ u. is_sort u.1 (or_rule (e.sorts p.name u.0.name) T8)) q.vars w.0 v m)), sets_there qs ps w.1)
 
   holds_there : (k r x : NameId) (qs : List ProcParam) (ps : List Written) → holds_as e k r x qs ps ≡ true → (z : Ref) × (argument qs (map name_ref ps) x ≡ Some z) × (d.holder (at k) r ≡ Some z)
@@ -107,28 +107,28 @@ module _ (f : File) (good : ProtocolsFit f) (scope : Scope) (e : Environment) (d
       go false i ih = ih i
 
   session_there : (qs : List ProcParam) (ps : List Written) (q : SessionParam) (k : NameId) → session_fits e qs ps q k ≡ true → IsAsDeclared f d qs (map name_ref ps) q (at k)
-  session_there qs ps q k h = go (standing_of e.standings k) refl (both_true _ _ h).0
+  session_there qs ps q k h = go (standing_of e.standings k) refl (and_parts _ _ h).0
     where
       go : (o : Option Standing) → standing_of e.standings k ≡ o → is_standing o q ≡ true → IsAsDeclared f d qs (map name_ref ps) q (at k)
       go None i j = absurd cc
       go (Some s) i j =
-          let w = both_true _ _ j in
+          let w = and_parts _ _ j in
           let kind = same_name s.protocol q.protocol.name w.0 in
           let state = same_name s.state q.state.name w.1 in
           record {
             protocol = t.protocol k ∙ ap protocol_at i ∙ ap Some kind;
             reached = subst (λ z. Reached (states_in f z) (d.done (at k)) q.state.name) kind (subst (λ z. Reached (states_in f s.protocol) (d.done (at k)) z) state (t.reached k s i));
-            holders = λ l m. holds_there k l.0.name l.1.name qs ps (all_of (λ u. holds_as e k u.0.name u.1.name qs ps) q.holders (both_true _ _ h).1 l m);
+            holders = λ l m. holds_there k l.0.name l.1.name qs ps (all_of (λ u. holds_as e k u.0.name u.1.name qs ps) q.holders (and_parts _ _ h).1 l m);
           }
 
   fit_there : (qs : List ProcParam) (ps : List Written) (rs : List SessionParam) (ks : List Written) → sessions_fit e qs ps rs ks ≡ true → AreAsDeclared f d qs (map name_ref ps) rs (map name_ref ks)
   fit_there qs ps [] ks h = tt
   fit_there qs ps (r ∷ rs) [] h = tt
-  fit_there qs ps (r ∷ rs) (k ∷ ks) h = let w = both_true _ _ h in (session_there qs ps r k.name w.0, fit_there qs ps rs ks w.1)
+  fit_there qs ps (r ∷ rs) (k ∷ ks) h = let w = and_parts _ _ h in (session_there qs ps r k.name w.0, fit_there qs ps rs ks w.1)
 
   known_there : (ps : List Written) → list_all (λ p. is_among scope.processes p.name) ps ≡ true → AllKnown d.known (map name_ref ps)
   known_there [] h = tt
-  known_there (p ∷ ps) h = let w = both_true _ _ h in (t.known p.name ∙ w.0, known_there ps w.1)
+  known_there (p ∷ ps) h = let w = and_parts _ _ h in (t.known p.name ∙ w.0, known_there ps w.1)
 
   length_map : {A B : Type 0} (g : A → B) (xs : List A) → length (map g xs) ≡ length xs
   length_map g [] = refl
@@ -146,7 +146,7 @@ module _ (f : File) (good : ProtocolsFit f) (scope : Scope) (e : Environment) (d
       let v1 = first_passes c1 (c2 ∷ c3 ∷ []) v0.1 in
       let v2 = first_passes c2 (c3 ∷ []) v1.1 in
       let v3 = first_passes c3 [] v2.1 in
-      let apart = both_true _ _ (asked (all_differ (names_in ps) && all_differ (names_in ks)) T7 v0.0) in
+      let apart = and_parts _ _ (asked (all_differ (names_in ps) && all_differ (names_in ks)) T7 v0.0) in
       record {
         procedure = p;
         is = is;

@@ -1,6 +1,7 @@
 -- What a check that finds nothing says.
 use Rattle.std.proofs.Common.{◌≡◌, List, [], ◌∷◌, map, refl, sym, ap, ◌∙◌, subst, Some, None, Option, Bool, true, false, ◌==◌, inl, inr, if◌then◌else◌}
 use Rattle.std.specs.Prelude.{Result, Ok, Err}
+use Rattle.std.proofs.lemmas.Bool.{and_parts}
 use Rattle.chor_base.specs.declared.names.NameId.{NameId}
 use Rattle.chor_base.specs.declared.rule.Rule.{Rule}
 use Rattle.chor_base.specs.declared.value.Sort.{Sort}
@@ -24,7 +25,6 @@ use Rattle.typing_rules.specs.Environment.{Environment, standing_of, step_of, st
 use Rattle.typing_rules.specs.Checks.{has_sort, is_sort}
 use Rattle.typing_rules.specs.Allowed.{is_between, value_sent, labels_sent, endpoint_sent, arm_of}
 use Rattle.typing_rules.specs.declared.allowed.EndpointType.{EndpointType}
-use Rattle.typed_runs.proofs.Small.{both_true}
 use Rattle.typed_sources.specs.Stands.{states_in}
 
 pub first_passes : (c : Check) (cs : List Check) → first_failed (c ∷ cs) ≡ None → (c ≡ None) × (first_failed cs ≡ None)
@@ -90,7 +90,7 @@ pub record Sends (a b : NameId) (s : Sort) (m : NameId) (step : ProtoStep) : Typ
   pub allowed : IsIn (passes a b (plain s), m) (exchanges_of step)
 
 between : (a b : NameId) (from to : Named) → is_between a b from to ≡ true → (from.name ≡ a) × (to.name ≡ b)
-between a b from to h = let w = both_true _ _ h in (same_name from.name a w.0, same_name to.name b w.1)
+between a b from to h = let w = and_parts _ _ h in (same_name from.name a w.0, same_name to.name b w.1)
 
 pub record Allows (X : Type 0) (P : ProtoStep → X → Type 0) (o : Option ProtoStep) (x : X) : Type 0 where
   pub step : ProtoStep

@@ -1,9 +1,9 @@
 -- Names at other depths than those that a start binds.
 use Rattle.std.proofs.Common.{◌≡◌, ℕ, ◌<◌, List, [], ◌∷◌, refl, ap, ◌∙◌, Bool, true, false, ◌==◌, ◌&&◌, ◌||◌, arith}
+use Rattle.std.proofs.lemmas.Bool.{eqb-true}
 use Rattle.chor_base.specs.declared.names.NameId.{NameId}
 use Rattle.chor_semantics.specs.Choreography.{Named, among}
 use Rattle.well_formed.specs.WellFormed.{service_refs}
-use Rattle.typed_runs.proofs.Small.{eq_same}
 
 pub among_deep : (k c : ℕ) (serve : List (ℕ × NameId)) (x : ℕ) → (c == k) ≡ false → among (Named x c) (service_refs k serve) ≡ false
 among_deep k c [] x h = refl
@@ -18,4 +18,4 @@ less_not a b h = go (b == a) refl
   where
     go : (x : Bool) → (b == a) ≡ x → (b == a) ≡ false
     go false i = i
-    go true i = let e = eq_same b a i in absurd (omega (arith, h, e))
+    go true i = let e = eqb-true b a i in absurd (omega (arith, h, e))

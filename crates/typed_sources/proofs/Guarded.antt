@@ -1,6 +1,7 @@
 -- The body of a procedure of a guarded file doesn't begin with a call that passes a process.
 use Rattle.std.proofs.Common.{◌≡◌, suc, ◌<◌, List, [], ◌∷◌, map, length, refl, sym, ap, ◌∙◌, subst, Some, Bool, true, false, ◌==◌, ◌||◌, arith}
 use Rattle.std.specs.Prelude.{Contains}
+use Rattle.std.proofs.lemmas.Bool.{and_parts}
 use Rattle.chor_base.specs.declared.names.NameId.{NameId}
 use Rattle.chor_base.specs.declared.rule.Rule.TheVariants.{U1}
 use Rattle.chor_base.specs.Faults.{fault}
@@ -13,7 +14,6 @@ use Rattle.chor_semantics.specs.Sources.{tree_in, trees_of}
 use Rattle.typing_rules.specs.Environment.{at_procedure}
 use Rattle.typing_rules.specs.Guarded.{IsUnguardedCall, here, IsGuarded}
 use Rattle.well_formed.proofs.References.{true_eq, same_name}
-use Rattle.typed_runs.proofs.Small.{both_true}
 use Rattle.conforming_runs.specs.Going.{IsNoCall}
 use Rattle.source_blocks.specs.Blocks.{choreography_of}
 use Rattle.source_blocks.proofs.Blocks.{choreography_at}
@@ -36,7 +36,7 @@ module _ (f : File) (guarded : IsGuarded f) where
   no_call p m (Either place q x first second) is ok = tt
   no_call p m (Calls place g [] ks) is ok = tt
   no_call p m (Calls place g (x ∷ xs) ks) is ok =
-      let w = param_there p.params x.name (both_true _ _ ok.0.known).0 in
+      let w = param_there p.params x.name (and_parts _ _ ok.0.known).0 in
       let passes : is_among (names_in (x ∷ xs)) w.0.name.name ≡ true = ap (λ b. b || is_among (names_in xs) w.0.name.name) (ap (λ z. z.0 == w.0.name.name.0) (sym w.2) ∙ true_eq w.0.name.name.0) in
       guarded (fault U1 place) (record { procedure = p; param = w.0; is_declared = m; is_param = w.1; is_call = subst (IsUnguardedCall w.0.name.name (fault U1 place)) (sym is) (here passes refl) })
   no_call p m (Ends place) is ok = tt

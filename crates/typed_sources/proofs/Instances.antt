@@ -1,5 +1,6 @@
 -- The tree of a source's body, typed, is typed with other references for its free names.
 use Rattle.std.proofs.Common.{◌≡◌, ℕ, zero, suc, ◌<◌, List, [], ◌∷◌, ◌++◌, map, refl, sym, ap, ◌∙◌, subst, Some, None, Bool, true, false, ◌==◌, ◌&&◌, ◌||◌, inl, inr, ◌⊎◌, arith, if◌then◌else◌}
+use Rattle.std.proofs.lemmas.Bool.{eqb-true, and_parts}
 use Rattle.chor_base.specs.declared.names.NameId.{NameId}
 use Rattle.chor_base.specs.declared.value.Sort.{Sort}
 use Rattle.chor_tree.specs.declared.file.File.{File}
@@ -9,7 +10,7 @@ use Rattle.well_formed.specs.WellFormed.{service_refs}
 use Rattle.well_formed.proofs.References.{self_ref, same_ref, true_eq, left_or, right_or, differ_ref, turned_ref, or_rights}
 use Rattle.typed_runs.specs.Context.{Context, bound_to, unset, after}
 use Rattle.typed_runs.specs.Typing.{HasProtocol, AllKnown, AllNew, HasEnded}
-use Rattle.typed_runs.proofs.Small.{both_true, eq_same, on_or_off}
+use Rattle.typed_runs.proofs.Small.{on_or_off}
 use Rattle.typed_starts.specs.Renames.{Renames}
 use Rattle.typed_sources.specs.Stands.{kind_in, states_in}
 use Rattle.typed_sources.proofs.Depths.{among_deep, less_not}
@@ -45,7 +46,7 @@ served_on k (s ∷ ss) F x h = served_on k ss (bound s.0 (Named s.0 k) F) x (go 
   where
     go : (b : Bool) → (s.0 == x) ≡ b → (if b then Named s.0 k else F x) ≡ Named x k
     go false i = h
-    go true i = ap (λ y. Named y k) (eq_same s.0 x i)
+    go true i = ap (λ y. Named y k) (eqb-true s.0 x i)
 
 served_in : (k : ℕ) (serve : List (ℕ × NameId)) (F : ℕ → Ref) (x : ℕ) → among (Named x 0) (service_refs 0 serve) ≡ true → bound_served k serve F x ≡ Named x k
 served_in k [] F x h = absurd cc
@@ -54,7 +55,7 @@ served_in k (s ∷ ss) F x h = go (ref_eq (Named x 0) (Named s.0 0)) refl h (ser
     go : (b : Bool) → ref_eq (Named x 0) (Named s.0 0) ≡ b → (b || among (Named x 0) (service_refs 0 ss)) ≡ true → (among (Named x 0) (service_refs 0 ss) ≡ true → bound_served k ss (bound s.0 (Named s.0 k) F) x ≡ Named x k) → bound_served k ss (bound s.0 (Named s.0 k) F) x ≡ Named x k
     go false i j ih = ih j
     go true i j ih =
-        let e : x ≡ s.0 = eq_same x s.0 (both_true _ _ i).0 in
+        let e : x ≡ s.0 = eqb-true x s.0 (and_parts _ _ i).0 in
         served_on k ss (bound s.0 (Named s.0 k) F) x (ap (λ b. if b then Named s.0 k else F x) (ap (λ y. s.0 == y) e ∙ true_eq s.0) ∙ ap (λ y. Named y k) (sym e))
 
 served_out : (k : ℕ) (serve : List (ℕ × NameId)) (F : ℕ → Ref) (x : ℕ) → among (Named x 0) (service_refs 0 serve) ≡ false → bound_served k serve F x ≡ F x
@@ -64,7 +65,7 @@ served_out k (s ∷ ss) F x h = served_out k ss (bound s.0 (Named s.0 k) F) x (r
     go : (b : Bool) → (s.0 == x) ≡ b → (if b then Named s.0 k else F x) ≡ F x
     go false i = refl
     go true i =
-        let e : s.0 ≡ x = eq_same s.0 x i in
+        let e : s.0 ≡ x = eqb-true s.0 x i in
         let t : ref_eq (Named x 0) (Named s.0 0) ≡ true = ap (λ y. ref_eq (Named x 0) (Named y 0)) e ∙ self_ref (Named x 0) in
         absurd (not_both (ref_eq (Named x 0) (Named s.0 0)) t (left_or _ _ h))
 
@@ -189,7 +190,7 @@ module _ (f : File) where
       where
         go : (b : Bool) → (s == x) ≡ b → (if b then Named s k else G x) ≡ G x
         go false i = refl
-        go true i = absurd (not_both (ref_eq (Named x 0) (Named s 0)) (ap (λ y. ref_eq (Named x 0) (Named y 0)) (eq_same s x i) ∙ self_ref (Named x 0)) (off_binder (Named x 0) h))
+        go true i = absurd (not_both (ref_eq (Named x 0) (Named s 0)) (ap (λ y. ref_eq (Named x 0) (Named y 0)) (eqb-true s x i) ∙ self_ref (Named x 0)) (off_binder (Named x 0) h))
     session_stays (Named x (suc c)) h = absurd (on_or_off (d.protocol (Named x (suc c))) (deep.flat x (suc c) (omega arith)).1 h)
 
     binder_is : (u : Ref) → ref_eq u (Named s 0) ≡ true → named_by G' u ≡ Named s k

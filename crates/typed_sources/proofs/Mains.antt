@@ -2,6 +2,7 @@
 use Rattle.std.proofs.Common.{◌≡◌, ℕ, zero, suc, ◌<◌, ◌≤◌, ◌+◌, List, [], ◌∷◌, map, length, refl, sym, ap, ◌∙◌, subst, Some, None, Option, Bool, true, false, ◌==◌, ◌||◌, ◌&&◌, arith, if◌then◌else◌}
 use Rattle.std.proofs.lemmas.Bool.Decides.{nat_tests}
 use Rattle.std.specs.Prelude.{nat_lt}
+use Rattle.std.proofs.lemmas.Bool.{eqb-true}
 use Rattle.chor_base.specs.declared.names.NameId.{NameId}
 use Rattle.chor_tree.specs.declared.file.File.{File}
 use Rattle.chor_tree.specs.declared.file.Named.{Named as Written}
@@ -13,7 +14,7 @@ use Rattle.well_formed.proofs.References.{self_ref, true_eq, differ_ref}
 use Rattle.typing_rules.specs.Environment.{at_main}
 use Rattle.typed_runs.specs.Context.{Context}
 use Rattle.typed_runs.specs.Changes.{HoldersInScope}
-use Rattle.typed_runs.proofs.Small.{eq_same, on_or_off}
+use Rattle.typed_runs.proofs.Small.{on_or_off}
 use Rattle.typed_starts.specs.Renames.{Renames, Stays}
 use Rattle.typed_sources.specs.Stands.{states_in, Stands}
 use Rattle.typed_sources.proofs.Statements.{ProtocolsFit}
@@ -87,7 +88,7 @@ numbers_differ (p ∷ ps) n y z h i o = go (p.name.0 == y) (p.name.0 == z) refl 
     go : (b c : Bool) → (p.name.0 == y) ≡ b → (p.name.0 == z) ≡ c → (b || is_among (names_in ps) (named y)) ≡ true → (c || is_among (names_in ps) (named z)) ≡ true
         → (is_among (names_in ps) (named y) ≡ true → is_among (names_in ps) (named z) ≡ true → (y == z) ≡ false → ref_eq (numbered (suc n) ps y) (numbered (suc n) ps z) ≡ false)
         → ref_eq (if b then Live n else numbered (suc n) ps y) (if c then Live n else numbered (suc n) ps z) ≡ false
-    go true true j k l m ih = absurd (clash (y == z) (ap (λ w. w == z) (sym (eq_same p.name.0 y j) ∙ eq_same p.name.0 z k) ∙ true_eq z) o)
+    go true true j k l m ih = absurd (clash (y == z) (ap (λ w. w == z) (sym (eqb-true p.name.0 y j) ∙ eqb-true p.name.0 z k) ∙ true_eq z) o)
     go true false j k l m ih = later z m
     go false true j k l m ih = flip (Live n) (numbered (suc n) ps y) (later y l)
     go false false j k l m ih = ih l m o
@@ -112,7 +113,7 @@ module _ (f : File) where
   apart (Named y zero) (Named z zero) h i = go (y == z) refl
     where
       go : (b : Bool) → (y == z) ≡ b → ref_eq (numbered 0 f.processes y) (numbered 0 f.processes z) ≡ ((y == z) && true)
-      go true l = ap (λ u. ref_eq (numbered 0 f.processes u) (numbered 0 f.processes z)) (eq_same y z l) ∙ self_ref (numbered 0 f.processes z) ∙ sym (ap (λ b. b && true) l)
+      go true l = ap (λ u. ref_eq (numbered 0 f.processes u) (numbered 0 f.processes z)) (eqb-true y z l) ∙ self_ref (numbered 0 f.processes z) ∙ sym (ap (λ b. b && true) l)
       go false l = numbers_differ f.processes 0 y z h i l ∙ sym (ap (λ b. b && true) l)
 
   nothing : {A : Type 0} (x : A) → None ≡ Some x → ⊥

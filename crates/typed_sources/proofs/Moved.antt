@@ -1,5 +1,6 @@
 -- What a node of a source changes is what it changes at its choreography.
 use Rattle.std.proofs.Common.{◌≡◌, ℕ, List, [], ◌∷◌, ◌++◌, refl, sym, ap, ◌∙◌, subst, Some, None, Option, Bool, true, false, ◌==◌, ◌&&◌, ◌||◌, if◌then◌else◌}
+use Rattle.std.proofs.lemmas.Bool.{eqb-true, and_parts}
 use Rattle.chor_base.specs.declared.names.NameId.{NameId}
 use Rattle.chor_base.specs.declared.value.Sort.{Sort}
 use Rattle.chor_tree.specs.declared.file.File.{File}
@@ -14,7 +15,7 @@ use Rattle.typing_rules.specs.declared.standings.Standing.{Standing}
 use Rattle.typing_rules.specs.Environment.{Environment, standing_of, moved, set_at}
 use Rattle.typed_runs.specs.Told.{Act}
 use Rattle.typed_runs.specs.Context.{Context, Hands, handed, SetsSort, put_sort, with_setting, more_in}
-use Rattle.typed_runs.proofs.Small.{append_nil, eq_same, both_true}
+use Rattle.typed_runs.proofs.Small.{append_nil}
 use Rattle.typed_sources.specs.Stands.{Reached, at, holder_at, protocol_at, Stands, states_in}
 use Rattle.typed_sources.proofs.Advances.{acts_in, advance}
 use Rattle.typed_sources.proofs.Checked.{some_is}
@@ -54,10 +55,10 @@ standing_moved (x ∷ xs) k m s = go (x.session.0 == k.0) (x.session.0 == s.0) (
         ≡ (if c then with_state m (if b then Some x else standing_of xs s) else (if b then Some x else standing_of xs s))
     go true true true i j l ih = ap (λ (b : Bool). if b then Some (record x { state = m }) else standing_of (moved xs k m) s) j
     go true false c i j l ih = ap (λ (b : Bool). if b then Some (record x { state = m }) else standing_of (moved xs k m) s) j ∙ ih
-    go true true false i j l ih = let e = eq_same x.session.0 k.0 i in let f = eq_same x.session.0 s.0 j in absurd (clash (s.0 == k.0) (ap (λ z. z == k.0) (sym f ∙ e) ∙ true_eq k.0) l)
+    go true true false i j l ih = let e = eqb-true x.session.0 k.0 i in let f = eqb-true x.session.0 s.0 j in absurd (clash (s.0 == k.0) (ap (λ z. z == k.0) (sym f ∙ e) ∙ true_eq k.0) l)
     go false true false i j l ih = ap (λ (b : Bool). if b then Some x else standing_of (moved xs k m) s) j
     go false false c i j l ih = ap (λ (b : Bool). if b then Some x else standing_of (moved xs k m) s) j ∙ ih
-    go false true true i j l ih = let e = eq_same s.0 k.0 l in let f = eq_same x.session.0 s.0 j in absurd (clash (x.session.0 == k.0) (ap (λ z. z == k.0) (f ∙ e) ∙ true_eq k.0) i)
+    go false true true i j l ih = let e = eqb-true s.0 k.0 l in let f = eqb-true x.session.0 s.0 j in absurd (clash (x.session.0 == k.0) (ap (λ z. z == k.0) (f ∙ e) ∙ true_eq k.0) i)
 
 protocol_moved : (ss : List Standing) (k m s : NameId) → protocol_at (standing_of (moved ss k m) s) ≡ protocol_at (standing_of ss s)
 protocol_moved ss k m s = ap protocol_at (standing_moved ss k m s) ∙ go (s.0 == k.0) (standing_of ss s)
@@ -137,12 +138,12 @@ module _ (f : File) (scope : Scope) where
       go false v i j ih = ap (λ (b : Bool). if b then Some x.process else holder_of (passed xs k r q) s a) j ∙ ap (λ z. if v then Some x.process else z) ih
       go true false i j ih = ap (λ (b : Bool). if b then Some q else holder_of (passed xs k r q) s a) j ∙ ih
       go true true i j ih =
-          let w = both_true _ _ i in
-          let u = both_true _ _ j in
-          let p = eq_same x.session.0 k.0 w.0 in
-          let p' = eq_same x.session.0 s.0 u.0 in
-          let z = eq_same x.role.0 r.0 w.1 in
-          let z' = eq_same x.role.0 a.0 u.1 in
+          let w = and_parts _ _ i in
+          let u = and_parts _ _ j in
+          let p = eqb-true x.session.0 k.0 w.0 in
+          let p' = eqb-true x.session.0 s.0 u.0 in
+          let z = eqb-true x.role.0 r.0 w.1 in
+          let z' = eqb-true x.role.0 a.0 u.1 in
           absurd (clash ((s.0 == k.0) && (a.0 == r.0)) (ap (λ n. (n == k.0) && (a.0 == r.0)) (sym p' ∙ p) ∙ ap (λ n. (k.0 == k.0) && (n == r.0)) (sym z' ∙ z) ∙ ap (λ b. b && (r.0 == r.0)) (true_eq k.0) ∙ true_eq r.0) h)
 
   pub passed_this : (hs : List Held) (k r q p : NameId) → holder_of hs k r ≡ Some p → holder_of (passed hs k r q) k r ≡ Some q
@@ -165,7 +166,7 @@ module _ (f : File) (scope : Scope) where
       go : (u : Bool) → role_is k r x ≡ u → (if u then Some x.process else holder_of xs k r) ≡ Some p → (holder_of xs k r ≡ Some p → holds_some xs k p ≡ true) → (((x.session.0 == k.0) && (x.process.0 == p.0)) || holds_some xs k p) ≡ true
       go false i j ih = or_right _ _ (ih j)
       go true i j ih =
-          let w = both_true _ _ i in
+          let w = and_parts _ _ i in
           let e : x.process ≡ p = some_is _ _ j in
           ap (λ b. (b && (x.process.0 == p.0)) || holds_some xs k p) w.0 ∙ ap (λ z. (z.0 == p.0) || holds_some xs k p) e ∙ ap (λ b. b || holds_some xs k p) (true_eq p.0)
 
@@ -189,7 +190,7 @@ module _ (f : File) (scope : Scope) where
       go : (s a : NameId) (b : Bool) → ((s.0 == h.0) && (a.0 == r.0)) ≡ b → (if b then Some (at q) else d.holder (at s) a) ≡ holder_at (holder_of (passed e.owners h r q) s a)
       go s a false i = t.holder s a ∙ ap holder_at (sym (passed_other e.owners h r q s a i))
       go s a true i =
-          let w = both_true _ _ i in
+          let w = and_parts _ _ i in
           let same : s ≡ h = same_name s h w.0 in
           let role : a ≡ r = same_name a r w.1 in
           ap holder_at (sym (ap (λ x. holder_of (passed e.owners h r q) x a) same ∙ ap (λ x. holder_of (passed e.owners h r q) h x) role ∙ passed_this e.owners h r q p is))
@@ -197,7 +198,7 @@ module _ (f : File) (scope : Scope) where
       gone : (s a : NameId) (b : Bool) → ((s.0 == h.0) && (a.0 == r.0)) ≡ b → standing_of e.standings s ≡ None → holder_of (passed e.owners h r q) s a ≡ None
       gone s a false i j = passed_other e.owners h r q s a i ∙ t.held s a j
       gone s a true i j =
-          let w = both_true _ _ i in
+          let w = and_parts _ _ i in
           let none : holder_of e.owners h r ≡ None = ap (λ x. holder_of e.owners x r) (sym (same_name s h w.0)) ∙ t.held s r j in absurd cc
 
       -- q holds no other role
@@ -210,6 +211,6 @@ module _ (f : File) (scope : Scope) where
 
       one : (s a b z : NameId) (x y : Bool) → ((s.0 == h.0) && (a.0 == r.0)) ≡ x → ((s.0 == h.0) && (b.0 == r.0)) ≡ y → holder_of (passed e.owners h r q) s a ≡ Some z → holder_of (passed e.owners h r q) s b ≡ Some z → a ≡ b
       one s a b z false false i j k l = t.one_role s a b z (sym (passed_other e.owners h r q s a i) ∙ k) (sym (passed_other e.owners h r q s b j) ∙ l)
-      one s a b z true true i j k l = same_name a r (both_true _ _ i).1 ∙ sym (same_name b r (both_true _ _ j).1)
-      one s a b z true false i j k l = let w = both_true _ _ i in absurd (mixed s a b z (same_name s h w.0) (same_name a r w.1) k (sym (passed_other e.owners h r q s b j) ∙ l))
-      one s a b z false true i j k l = let w = both_true _ _ j in absurd (mixed s b a z (same_name s h w.0) (same_name b r w.1) l (sym (passed_other e.owners h r q s a i) ∙ k))
+      one s a b z true true i j k l = same_name a r (and_parts _ _ i).1 ∙ sym (same_name b r (and_parts _ _ j).1)
+      one s a b z true false i j k l = let w = and_parts _ _ i in absurd (mixed s a b z (same_name s h w.0) (same_name a r w.1) k (sym (passed_other e.owners h r q s b j) ∙ l))
+      one s a b z false true i j k l = let w = and_parts _ _ j in absurd (mixed s b a z (same_name s h w.0) (same_name b r w.1) l (sym (passed_other e.owners h r q s a i) ∙ k))

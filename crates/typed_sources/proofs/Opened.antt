@@ -2,6 +2,7 @@
 use Rattle.std.proofs.Common.{◌≡◌, ℕ, ◌<◌, List, [], ◌∷◌, ◌++◌, map, refl, sym, ap, ◌∙◌, subst, Some, None, Option, Bool, true, false, ◌==◌, ◌&&◌, ◌||◌, if◌then◌else◌}
 use Rattle.std.specs.Prelude.{not}
 use Rattle.std.specs.List.{list_all}
+use Rattle.std.proofs.lemmas.Bool.{eqb-true, and_parts}
 use Rattle.chor_base.specs.declared.names.NameId.{NameId}
 use Rattle.chor_base.specs.declared.rule.Rule.TheVariants.{T9}
 use Rattle.chor_tree.specs.declared.file.File.{File}
@@ -27,7 +28,6 @@ use Rattle.typing_rules.specs.Checks.{statement_checks}
 use Rattle.typing_rules.specs.After.{after_statement}
 use Rattle.typed_runs.specs.Context.{Context, opened, bound_to, after}
 use Rattle.typed_runs.specs.Typing.{AllKnown, AllNew, IsNotEmpty, IsTypedNode}
-use Rattle.typed_runs.proofs.Small.{both_true, eq_same}
 use Rattle.typed_sources.specs.Stands.{kind_in, protocol_name, states_in, Reached, at, holder_at, protocol_at, Stands}
 use Rattle.typed_sources.proofs.Checked.{first_passes, asked, some_is}
 use Rattle.typed_sources.proofs.Moved.{at_same}
@@ -62,8 +62,8 @@ eq_flip a b = go (a == b) (b == a) refl refl
     go : (x y : Bool) → (a == b) ≡ x → (b == a) ≡ y → x ≡ y
     go true true i j = refl
     go false false i j = refl
-    go true false i j = let e = eq_same a b i in let t : (b == a) ≡ true = ap (λ z. b == z) e ∙ true_eq b in cc
-    go false true i j = let e = eq_same b a j in let t : (a == b) ≡ true = ap (λ z. a == z) e ∙ true_eq a in cc
+    go true false i j = let e = eqb-true a b i in let t : (b == a) ≡ true = ap (λ z. b == z) e ∙ true_eq b in cc
+    go false true i j = let e = eqb-true b a j in let t : (a == b) ≡ true = ap (λ z. a == z) e ∙ true_eq a in cc
 
 among_services : (serve : List Part) (x : NameId) → among (at x) (service_refs 0 (served_of serve)) ≡ is_among (map (λ q. q.process.name) serve) x
 among_services [] x = refl
@@ -145,12 +145,12 @@ one_part k (q ∷ qs) od a b p h i =
     go (q.role.name.0 == a.0) (q.role.name.0 == b.0) refl refl
     (subst (λ z. (if z && (q.role.name.0 == a.0) then Some q.process.name else holder_of (started k qs) k a) ≡ Some p) (true_eq k.0) h)
     (subst (λ z. (if z && (q.role.name.0 == b.0) then Some q.process.name else holder_of (started k qs) k b) ≡ Some p) (true_eq k.0) i)
-    (one_part k qs (both_true _ _ od).1 a b p)
+    (one_part k qs (and_parts _ _ od).1 a b p)
   where
     twice : (r : NameId) → q.process.name ≡ p → holder_of (started k qs) k r ≡ Some p → ⊥
     twice r same j =
         let t : is_among (map (λ z. z.process.name) qs) q.process.name ≡ true = ap (is_among (map (λ z. z.process.name) qs)) same ∙ holder_among k qs r p j in
-        let u : is_among (map (λ z. z.process.name) qs) q.process.name ≡ false = not_is _ (both_true _ _ od).0 in cc
+        let u : is_among (map (λ z. z.process.name) qs) q.process.name ≡ false = not_is _ (and_parts _ _ od).0 in cc
 
     go : (x y : Bool) → (q.role.name.0 == a.0) ≡ x → (q.role.name.0 == b.0) ≡ y → (if x then Some q.process.name else holder_of (started k qs) k a) ≡ Some p → (if y then Some q.process.name else holder_of (started k qs) k b) ≡ Some p
         → (holder_of (started k qs) k a ≡ Some p → holder_of (started k qs) k b ≡ Some p → a ≡ b) → a ≡ b
@@ -168,7 +168,7 @@ module _ (f : File) (scope : Scope) (e : Environment) (d : Context) (t : Stands 
 
   all_known : (ps : List Part) → list_all (λ q. is_among scope.processes q.process.name) ps ≡ true → AllKnown d.known (map (λ p. p.0) (parts_of ps))
   all_known [] h = tt
-  all_known (p ∷ ps) h = let u = both_true _ _ h in (t.known p.process.name ∙ u.0, all_known ps u.1)
+  all_known (p ∷ ps) h = let u = and_parts _ _ h in (t.known p.process.name ∙ u.0, all_known ps u.1)
 
   all_new : (ps : List Part) → AreNew scope.processes ps → AllNew d.known (service_refs 0 (served_of ps))
   all_new [] a = tt

@@ -3,6 +3,7 @@ use Rattle.std.proofs.Common.{◌≡◌, suc, List, [], ◌∷◌, ◌++◌, map
 use Rattle.std.proofs.lemmas.Bool.Decides.{nat_tests}
 use Rattle.std.specs.Prelude.{not}
 use Rattle.std.specs.List.{flat_map}
+use Rattle.std.proofs.lemmas.Bool.{and_parts}
 use Rattle.chor_base.specs.declared.names.NameId.{NameId}
 use Rattle.chor_base.specs.declared.rule.Rule.{Rule}
 use Rattle.chor_base.specs.declared.rule.Rule.TheVariants.{N1, N2, T9}
@@ -19,7 +20,6 @@ use Rattle.delegation.specs.declared.held.Held.{Held}
 use Rattle.delegation.specs.Owners.{held as entry, holder_of}
 use Rattle.delegation.specs.Checks.{all_differ}
 use Rattle.typing_rules.specs.TypeFaults.{holder_fault, head_faults}
-use Rattle.typed_runs.proofs.Small.{both_true}
 use Rattle.typed_sources.proofs.Checked.{some_is}
 use Rattle.typed_sources.proofs.Opened.{not_is}
 use Rattle.typed_sources.proofs.Arguments.{owners_of, no_owner, holder_elsewhere}
@@ -69,7 +69,7 @@ all_apart known (y ∷ ys) h = go (is_among (names_in ys) y.name) refl (all_apar
 -- the later part of a list whose items differ
 pub later_differ : (xs ys : List NameId) → all_differ (xs ++ ys) ≡ true → all_differ ys ≡ true
 later_differ [] ys h = h
-later_differ (x ∷ xs) ys h = later_differ xs ys (both_true _ _ h).1
+later_differ (x ∷ xs) ys h = later_differ xs ys (and_parts _ _ h).1
 
 pub names_append : (xs ys : List Written) → names_in (xs ++ ys) ≡ names_in xs ++ names_in ys
 names_append [] ys = refl
@@ -101,13 +101,13 @@ one_entry n (x ∷ xs) od y a b q on h i =
     go (x.0.name.0 == a.0) (x.0.name.0 == b.0) refl refl
     (subst (λ z. (if z && (x.0.name.0 == a.0) then Some x.1.name else holder_of (map (λ h. entry n h.0.name h.1.name) xs) y a) ≡ Some q) on h)
     (subst (λ z. (if z && (x.0.name.0 == b.0) then Some x.1.name else holder_of (map (λ h. entry n h.0.name h.1.name) xs) y b) ≡ Some q) on i)
-    (one_entry n xs (both_true _ _ od).1 y a b q on)
+    (one_entry n xs (and_parts _ _ od).1 y a b q on)
   where
     clash : (b : Bool) → b ≡ true → b ≡ false → ⊥
     clash b i j = cc
 
     twice : (r : NameId) → x.1.name ≡ q → holder_of (map (λ h. entry n h.0.name h.1.name) xs) y r ≡ Some q → ⊥
-    twice r same j = clash (is_among (map (λ h. h.1.name) xs) x.1.name) (ap (is_among (map (λ h. h.1.name) xs)) same ∙ among_entries n xs y r q j) (not_is _ (both_true _ _ od).0)
+    twice r same j = clash (is_among (map (λ h. h.1.name) xs) x.1.name) (ap (is_among (map (λ h. h.1.name) xs)) same ∙ among_entries n xs y r q j) (not_is _ (and_parts _ _ od).0)
 
     go : (u v : Bool) → (x.0.name.0 == a.0) ≡ u → (x.0.name.0 == b.0) ≡ v → (if u then Some x.1.name else holder_of (map (λ h. entry n h.0.name h.1.name) xs) y a) ≡ Some q → (if v then Some x.1.name else holder_of (map (λ h. entry n h.0.name h.1.name) xs) y b) ≡ Some q
         → (holder_of (map (λ h. entry n h.0.name h.1.name) xs) y a ≡ Some q → holder_of (map (λ h. entry n h.0.name h.1.name) xs) y b ≡ Some q → a ≡ b) → a ≡ b
@@ -129,7 +129,7 @@ in_entries n (x ∷ xs) rest y r q out h = go ((n.0 == y.0) && (x.0.name.0 == r.
 one_role : (ks : List SessionParam) → all_differ (map (λ k. k.name.name) ks) ≡ true → flat_map holder_fault ks ≡ []
     → (s a b q : NameId) → holder_of (owners_of ks) s a ≡ Some q → holder_of (owners_of ks) s b ≡ Some q → a ≡ b
 one_role [] od h s a b q i j = absurd cc
-one_role (k ∷ ks) od h s a b q i j = go (k.name.name.0 == s.0) refl (one_role ks (both_true _ _ od).1 w.1 s a b q)
+one_role (k ∷ ks) od h s a b q i j = go (k.name.name.0 == s.0) refl (one_role ks (and_parts _ _ od).1 w.1 s a b q)
   where
     w : (holder_fault k ≡ []) × (flat_map holder_fault ks ≡ [])
     w = both_empty (holder_fault k) (flat_map holder_fault ks) h
@@ -137,7 +137,7 @@ one_role (k ∷ ks) od h s a b q i j = go (k.name.name.0 == s.0) refl (one_role 
     go : (x : Bool) → (k.name.name.0 == s.0) ≡ x → (holder_of (owners_of ks) s a ≡ Some q → holder_of (owners_of ks) s b ≡ Some q → a ≡ b) → a ≡ b
     go false n ih = ih (sym (holder_elsewhere k.name.name k.holders (owners_of ks) s a n) ∙ i) (sym (holder_elsewhere k.name.name k.holders (owners_of ks) s b n) ∙ j)
     go true n ih =
-        let out : (r : NameId) → holder_of (owners_of ks) s r ≡ Some q → ⊥ = λ r. no_owner ks s r q (subst (λ z. is_among (map (λ k. k.name.name) ks) z ≡ false) (same_name k.name.name s n) (not_is _ (both_true _ _ od).0)) in
+        let out : (r : NameId) → holder_of (owners_of ks) s r ≡ Some q → ⊥ = λ r. no_owner ks s r q (subst (λ z. is_among (map (λ k. k.name.name) ks) z ≡ false) (same_name k.name.name s n) (not_is _ (and_parts _ _ od).0)) in
         one_entry k.name.name k.holders (no_check (all_differ (map (λ h. h.1.name) k.holders)) T9 k.name.place w.0) s a b q n
         (in_entries k.name.name k.holders (owners_of ks) s a q (out a) i) (in_entries k.name.name k.holders (owners_of ks) s b q (out b) j)
 
@@ -159,7 +159,7 @@ proper_head p filled names types =
     let differ = ap all_differ (sym (names_append (map (λ q. q.name) p.params) (map (λ k. k.name) p.sessions))) ∙ all_apart [] (map (λ q. q.name) p.params ++ map (λ k. k.name) p.sessions) names in
     let sessions : all_differ (map (λ k. k.name.name) p.sessions) ≡ true = ap all_differ (sym (names_map (λ k. k.name) p.sessions)) ∙ later_differ (names_in (map (λ q. q.name) p.params)) (names_in (map (λ k. k.name) p.sessions)) differ in
     record {
-      filled = no_sessions p.params p.sessions (both_true _ _ filled).0;
+      filled = no_sessions p.params p.sessions (and_parts _ _ filled).0;
       sessions = sessions;
       one_role = λ s a b q i j. one_role p.sessions sessions types s a b q i j;
     }

@@ -2,6 +2,7 @@
 use Rattle.std.proofs.Common.{◌≡◌, ℕ, List, [], ◌∷◌, ◌++◌, refl, sym, ap, ◌∙◌, subst, Some, None, Option, Bool, true, false, ◌==◌, ◌&&◌, ◌||◌, if◌then◌else◌}
 use Rattle.std.specs.Prelude.{Result, Ok, Err, not, is_some}
 use Rattle.std.specs.List.{list_all}
+use Rattle.std.proofs.lemmas.Bool.{and_parts}
 use Rattle.chor_base.specs.declared.names.NameId.{NameId}
 use Rattle.chor_base.specs.declared.rule.Rule.{Rule}
 use Rattle.chor_base.specs.declared.rule.Rule.TheVariants.{T1, T3, T4, T5, T6, T9}
@@ -35,7 +36,6 @@ use Rattle.typing_rules.specs.After.{with_value, with_state as in_state, with_en
 use Rattle.typed_runs.specs.Told.{of_sort, of_endpoint, of_label}
 use Rattle.typed_runs.specs.Context.{Context, after, exchanged, told_content, told_sort, sort_in}
 use Rattle.typed_runs.specs.Typing.{HasSort, IsTypedNode, AllEnded, HasEnded}
-use Rattle.typed_runs.proofs.Small.{both_true}
 use Rattle.typed_sources.specs.Stands.{kind_in, states_in, at, holder_at, protocol_at, Stands}
 use Rattle.typed_sources.proofs.Advances.{passing, choosing, ended_at}
 use Rattle.typed_sources.proofs.Checked.{first_passes, asked, has_it, is_it, holder_is, has_step, value_allowed, endpoint_allowed, label_allowed, some_is}
@@ -159,7 +159,7 @@ module _ (f : File) (good : ProtocolsFit f) (scope : Scope) (e : Environment) (d
       -- the protocol and the role of what is handed over
       as_said : (o : Option Standing) (r : NameId) (u : EndpointType) → is_endpoint o r u ≡ true → (protocol_at o ≡ Some u.protocol) × (r ≡ u.role)
       as_said None r u i = absurd cc
-      as_said (Some s) r u i = let w = both_true _ _ i in (ap Some (same_name s.protocol u.protocol w.0), same_name r u.role (both_true _ _ w.1).1)
+      as_said (Some s) r u i = let w = and_parts _ _ i in (ap Some (same_name s.protocol u.protocol w.0), same_name r u.role (and_parts _ _ w.1).1)
 
       go : (o : Option (EndpointType × NameId)) → endpoint_sent a.role.name b.role.name (step_at f e k.name) ≡ o → first_failed (endpoint_checks e a b given o) ≡ None
           → IsTypedNode (kind_in f) d (Communicates (at k.name) (at a.process.name) a.role.name (at b.process.name) b.role.name (OfPart (at given.process.name) given.role.name))
@@ -218,7 +218,7 @@ module _ (f : File) (good : ProtocolsFit f) (scope : Scope) (e : Environment) (d
       let v0 = first_passes (has_sort s) (has_sort u ∷ ask (is_sort sort.Int s && is_sort sort.Int u) T3 ∷ []) h in
       let v1 = first_passes (has_sort u) (ask (is_sort sort.Int s && is_sort sort.Int u) T3 ∷ []) v0.1 in
       let v2 = first_passes (ask (is_sort sort.Int s && is_sort sort.Int u) T3) [] v1.1 in
-      let w = both_true _ _ (asked (is_sort sort.Int s && is_sort sort.Int u) T3 v2.0) in
+      let w = and_parts _ _ (asked (is_sort sort.Int s && is_sort sort.Int u) T3 v2.0) in
       ((sorted p.name x sort.Int (is_it sort.Int s w.0), sorted p.name z sort.Int (is_it sort.Int u w.1)), sets f scope e d t p.name y sort.Int (Some sort.Int) refl)
 
   -- ---- tails
@@ -238,13 +238,13 @@ module _ (f : File) (good : ProtocolsFit f) (scope : Scope) (e : Environment) (d
   -- a session that isn't passed has ended
   pub left_ended : (ps : List NameId) (ss : List Standing) → list_all (λ s. is_among ps s.session || is_last (step_in f (Some s))) ss ≡ true → (k : NameId) (st : Standing) → standing_of ss k ≡ Some st → (is_among ps k || is_last (step_in f (Some st))) ≡ true
   left_ended ps [] h k st i = absurd cc
-  left_ended ps (s ∷ ss) h k st i = go (s.session.0 == k.0) refl i (left_ended ps ss (both_true _ _ h).1 k st)
+  left_ended ps (s ∷ ss) h k st i = go (s.session.0 == k.0) refl i (left_ended ps ss (and_parts _ _ h).1 k st)
     where
       go : (b : Bool) → (s.session.0 == k.0) ≡ b → (if b then Some s else standing_of ss k) ≡ Some st → (standing_of ss k ≡ Some st → (is_among ps k || is_last (step_in f (Some st))) ≡ true) → (is_among ps k || is_last (step_in f (Some st))) ≡ true
       go false j l ih = ih l
       go true j l ih =
           let same : s ≡ st = some_is _ _ l in
-          subst (λ z. (is_among ps k || is_last (step_in f (Some z))) ≡ true) same (subst (λ z. (is_among ps z || is_last (step_in f (Some s))) ≡ true) (same_name s.session k j) (both_true _ _ h).0)
+          subst (λ z. (is_among ps k || is_last (step_in f (Some z))) ≡ true) same (subst (λ z. (is_among ps z || is_last (step_in f (Some s))) ≡ true) (same_name s.session k j) (and_parts _ _ h).0)
 
   pub has_ended : (k : NameId) (st : Standing) → standing_of e.standings k ≡ Some st → is_last (step_in f (Some st)) ≡ true → HasEnded (states_in f st.protocol) (d.done (at k))
   has_ended k st is h = go (first_named (λ s. s.name) (states_in f st.protocol) st.state) refl h

@@ -1,5 +1,6 @@
 -- The numbers that a start gives.
 use Rattle.std.proofs.Common.{◌≡◌, ℕ, suc, ◌≤◌, List, [], ◌∷◌, map, refl, sym, ap, ◌∙◌, subst, Some, None, Option, Bool, true, false, ◌==◌, ◌&&◌, ◌||◌, arith, if◌then◌else◌}
+use Rattle.std.proofs.lemmas.Bool.{eqb-true, and_parts}
 use Rattle.chor_base.specs.declared.names.NameId.{NameId}
 use Rattle.chor_semantics.specs.Choreography.{Ref, Live, Named, ref_eq, among, number_for, numbers_for}
 use Rattle.chor_semantics.specs.Steps.{live_parts, with_live, new_parts}
@@ -8,7 +9,6 @@ use Rattle.well_formed.specs.WellFormed.{service_refs}
 use Rattle.well_formed.proofs.References.{self_ref, same_ref, true_eq, left_or, right_or, differ_ref, turned_ref, or_rights}
 use Rattle.typed_runs.specs.Typing.{AllNew}
 use Rattle.typed_runs.specs.Changes.{lives}
-use Rattle.typed_runs.proofs.Small.{eq_same, both_true}
 
 -- ---- one name
 
@@ -22,9 +22,9 @@ number_off k c n (Named y x) h = go ((k == y) && (c == x)) refl
     go : (b : Bool) → ((k == y) && (c == x)) ≡ b → (if b then Live n else Named y x) ≡ Named y x
     go false i = refl
     go true i =
-        let w = both_true _ _ i in
-        let p : k ≡ y = eq_same k y w.0 in
-        let q : c ≡ x = eq_same c x w.1 in
+        let w = and_parts _ _ i in
+        let p : k ≡ y = eqb-true k y w.0 in
+        let q : c ≡ x = eqb-true c x w.1 in
         let t : ref_eq (Named y x) (Named k c) ≡ true = ap (λ z. ref_eq (Named y x) (Named z c)) p ∙ ap (λ z. ref_eq (Named y x) (Named y z)) q ∙ self_ref (Named y x) in
         absurd cc
 

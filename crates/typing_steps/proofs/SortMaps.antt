@@ -9,6 +9,7 @@ use Rattle.std.proofs.lemmas.Bool.Decides.{nat_tests}
 use Rattle.std.proofs.lemmas.Option.{slice_get_within, get_or_from_slice_get}
 use Rattle.std.proofs.lemmas.List.{drop_all}
 use Rattle.std.proofs.Math.Seq.{drop-cons, drop-length}
+use Rattle.std.proofs.lemmas.Bool.{eqb-true}
 use Rattle.chor_base.specs.declared.names.NameId.{NameId}
 use Rattle.chor_base.specs.declared.value.Sort.{Sort}
 use Rattle.chor_base.specs.Sorts.{Sorts}
@@ -30,9 +31,6 @@ entry_of es q = lookup (λ k. q.0 == k.0) es
 
 turned : (a b : ℕ) → (a == b) ≡ (b == a)
 turned a b = grind (arith, nat_tests)
-
-same : (a b : ℕ) → (a == b) ≡ true → a ≡ b
-same a b h = grind (arith, nat_tests)
 
 -- no variable is set in an empty map
 pub none_in_empty : sorts_of_map fin.empty ≡ (λ x. None)
@@ -68,7 +66,7 @@ set_one es p y s m new known is_new = λ i q. at q (q.0 == p.0) refl i where
       ∙ ap (λ (f : Sorts). if x.0 == y.0 then Some s else f x) known
 
   there : (q : NameId) → (q.0 == p.0) ≡ true → sorts_among es p ≡ sorts_among es q
-  there q e = ap (λ (n : ℕ). sorts_among es (record { 0 = n })) (sym (same q.0 p.0 e))
+  there q e = ap (λ (n : ℕ). sorts_among es (record { 0 = n })) (sym (eqb-true q.0 p.0 e))
 
   at : (q : NameId) (b : Bool) → (q.0 == p.0) ≡ b → cond b (sorts_of_map new) (sorts_among es q) ≡ cond b (sort_set (sorts_among es q) y s) (sorts_among es q)
   at q true e = (λ i x. entry x i) ∙ ap (λ f. sort_set f y s) (there q e)

@@ -1,7 +1,7 @@
 -- What a source keeps, its instances keep: the bodies of calls are well formed.
 use Rattle.std.proofs.Common.{◌≡◌, ℕ, suc, ◌≤◌, Bool, true, false, List, [], ◌∷◌, length, Option, Some, None, refl, sym, ap, ◌∙◌, subst, if◌then◌else◌, ◌==◌, ◌||◌, ◌&&◌, arith}
 use Rattle.std.specs.Prelude.{map}
-use Rattle.std.proofs.lemmas.Bool.Decides.{nat_tests}
+use Rattle.std.proofs.lemmas.Bool.{eqb-true, eqb-false}
 use Rattle.chor_base.specs.declared.names.NameId.{NameId}
 use Rattle.chor_semantics.specs.Choreography.{Ref, Live, Named, ref_eq, among, Content, OfValue, OfLabel, OfPart, Starts, Communicates, InTransit, Alone, Choreography, Then, Either, Calls, Ends, put_content, put_part, bound, bound_served, named_by, instance_of}
 use Rattle.chor_semantics.specs.Sources.{Procedure}
@@ -25,12 +25,6 @@ in_more n bs q (Named x c) h = or_rights _ _ h
 in_not_new : (n : ℕ) (bs : List Ref) (y d : ℕ) (r : Ref) → among (Named y d) bs ≡ false → IsIn n bs r → ref_eq r (Named y d) ≡ false
 in_not_new n bs y d (Live m) h k = refl
 in_not_new n bs y d (Named x c) h k = differ_ref (Named x c) (Named y d) (λ e. clash k (ap (λ z. among z bs) e ∙ h))
-
-pub number : (x y : ℕ) → (x == y) ≡ true → x ≡ y
-number x y e = grind (arith, nat_tests)
-
-pub not_number : (x y : ℕ) → (x == y) ≡ false → x ≡ y → ⊥
-not_number x y h e = clash (ap (λ z. x == z) (sym e) ∙ true_eq x) h
 
 pub same_named : (x y : ℕ) → ref_eq (Named x 0) (Named y 0) ≡ (x == y)
 same_named x y = go (x == y)
@@ -59,7 +53,7 @@ binds d n F bs0 bs y fresh s = record {
       where
         go : (b : Bool) → ref_eq (Named x 0) (Named y 0) ≡ b → (b || among (Named x 0) bs0) ≡ true → among (Named x 0) bs0 ≡ true
         go false i j = j
-        go true i j = absurd (not_number y x e (sym (depth0 (same_ref (Named x 0) (Named y 0) i))))
+        go true i j = absurd (eqb-false y x e (sym (depth0 (same_ref (Named x 0) (Named y 0) i))))
           where
             depth0 : Named x 0 ≡ Named y 0 → x ≡ y
             depth0 z = cc
@@ -81,7 +75,7 @@ binds d n F bs0 bs y fresh s = record {
     off x z h k e = go (y == x) refl (y == z) refl
       where
         go : (a : Bool) → (y == x) ≡ a → (b : Bool) → (y == z) ≡ b → ref_eq (bound y (Named y d) F x) (bound y (Named y d) F z) ≡ false
-        go true i true j = absurd (not_number x z e (sym (number y x i) ∙ number y z j))
+        go true i true j = absurd (eqb-false x z e (sym (eqb-true y x i) ∙ eqb-true y z j))
         go true i false j = ap (λ w. ref_eq w (bound y (Named y d) F z)) (mine x i) ∙ ap (ref_eq (Named y d)) (theirs z j) ∙ turned_ref (F z) (Named y d) (in_not_new n bs y d (F z) (s.new y fresh) (s.keeps z (old z j k)))
         go false i true j = ap (λ w. ref_eq w (bound y (Named y d) F z)) (theirs x i) ∙ ap (ref_eq (F x)) (mine z j) ∙ in_not_new n bs y d (F x) (s.new y fresh) (s.keeps x (old x i h))
         go false i false j = ap (λ w. ref_eq w (bound y (Named y d) F z)) (theirs x i) ∙ ap (ref_eq (F x)) (theirs z j) ∙ s.apart x z (old x i h) (old z j k) e
@@ -220,7 +214,7 @@ arg_among dd (y ∷ xs) (r ∷ rs) x l h = go (y.0 == x) refl (arg_among dd xs r
 
     go : (b : Bool) → (y.0 == x) ≡ b → (among (Named x 0) (names_in_scope xs) ≡ true → among (bound_all dd xs rs x) rs ≡ true) → among (if b then r else bound_all dd xs rs x) (r ∷ rs) ≡ true
     go true e ih = or_left _ _ (self_ref r)
-    go false e ih = or_rights _ _ (ih (other (ref_eq (Named x 0) (Named y.0 0)) (differ_ref (Named x 0) (Named y.0 0) (λ z. not_number y.0 x e (sym (plain z)))) h))
+    go false e ih = or_rights _ _ (ih (other (ref_eq (Named x 0) (Named y.0 0)) (differ_ref (Named x 0) (Named y.0 0) (λ z. eqb-false y.0 x e (sym (plain z)))) h))
       where
         plain : Named x 0 ≡ Named y.0 0 → x ≡ y.0
         plain z = cc
@@ -238,7 +232,7 @@ arg_apart dd (z ∷ xs) (r ∷ rs) x y l t h k e = go (z.0 == x) refl (z.0 == y)
     less i = cc
 
     rest : (w : ℕ) → (z.0 == w) ≡ false → among (Named w 0) (names_in_scope (z ∷ xs)) ≡ true → among (Named w 0) (names_in_scope xs) ≡ true
-    rest w i j = other (ref_eq (Named w 0) (Named z.0 0)) (differ_ref (Named w 0) (Named z.0 0) (λ v. not_number z.0 w i (sym (plain v)))) j
+    rest w i j = other (ref_eq (Named w 0) (Named z.0 0)) (differ_ref (Named w 0) (Named z.0 0) (λ v. eqb-false z.0 w i (sym (plain v)))) j
       where
         plain : Named w 0 ≡ Named z.0 0 → w ≡ z.0
         plain v = cc
@@ -251,7 +245,7 @@ arg_apart dd (z ∷ xs) (r ∷ rs) x y l t h k e = go (z.0 == x) refl (z.0 == y)
     away q i = differ_ref r q (λ v. clash (ap (λ w. among w rs) v ∙ i) t.0)
 
     go : (a : Bool) → (z.0 == x) ≡ a → (b : Bool) → (z.0 == y) ≡ b → (among (Named x 0) (names_in_scope xs) ≡ true → among (Named y 0) (names_in_scope xs) ≡ true → (x == y) ≡ false → ref_eq (bound_all dd xs rs x) (bound_all dd xs rs y) ≡ false) → ref_eq (if a then r else bound_all dd xs rs x) (if b then r else bound_all dd xs rs y) ≡ false
-    go true i true j ih = absurd (not_number x y e (sym (number z.0 x i) ∙ number z.0 y j))
+    go true i true j ih = absurd (eqb-false x y e (sym (eqb-true z.0 x i) ∙ eqb-true z.0 y j))
     go true i false j ih = away (bound_all dd xs rs y) (arg_among dd xs rs y (less l) (rest y j k))
     go false i true j ih = turned_ref r (bound_all dd xs rs x) (away (bound_all dd xs rs x) (arg_among dd xs rs x (less l) (rest x i h)))
     go false i false j ih = ih (rest x i h) (rest y j k) e

@@ -1,6 +1,7 @@
 -- Who isn't passed isn't named in a body, nothing is in transit there, and it is guarded.
 use Rattle.std.proofs.Common.{◌≡◌, ℕ, suc, Bool, true, false, List, [], ◌∷◌, refl, sym, ap, ◌∙◌, subst, if◌then◌else◌, ◌==◌, ◌||◌, arith}
 use Rattle.std.specs.Prelude.{map}
+use Rattle.std.proofs.lemmas.Bool.{eqb-false}
 use Rattle.chor_base.specs.declared.names.NameId.{NameId}
 use Rattle.chor_base.specs.Events.{Triple}
 use Rattle.chor_semantics.specs.Choreography.{Ref, Live, Named, ref_eq, among, Starts, Communicates, InTransit, Alone, Choreography, Then, Either, Calls, Ends, put_content, bound, bound_served, named_by, instance_of}
@@ -12,7 +13,7 @@ use Rattle.well_formed.specs.Transit.{is_on, AreInTransitAt, AreInTransit}
 use Rattle.well_formed.proofs.Absent.{IsNoDeeper, IsAbsent}
 use Rattle.well_formed.specs.SourceTrees.{IsName, AreNames, IsSource}
 use Rattle.well_formed.proofs.References.{left_or, right_or, or_false, or_left, or_rights, clash, self_ref, differ_ref}
-use Rattle.well_formed.proofs.Instances.{firsts_instance, not_number, names_of_parts}
+use Rattle.well_formed.proofs.Instances.{firsts_instance, names_of_parts}
 
 -- ---- who isn't passed isn't there
 
@@ -34,7 +35,7 @@ module _ (ks : List Channel) (procs : List Procedure) (d : ℕ) (p : Ref) (young
   avoids_more F bs0 y a x h = go (y == x) refl
     where
       rest : (y == x) ≡ false → among (Named x 0) bs0 ≡ true
-      rest e = other (ref_eq (Named x 0) (Named y 0)) (differ_ref (Named x 0) (Named y 0) (λ v. not_number y x e (sym (plain v)))) h
+      rest e = other (ref_eq (Named x 0) (Named y 0)) (differ_ref (Named x 0) (Named y 0) (λ v. eqb-false y x e (sym (plain v)))) h
         where
           plain : Named x 0 ≡ Named y 0 → x ≡ y
           plain v = cc
@@ -110,7 +111,7 @@ module _ (ks : List Channel) (procs : List Procedure) (d : ℕ) (p : ℕ) where
   still_guards F bs0 y c fresh g x h e = go (y == x) refl e
     where
       rest : (y == x) ≡ false → among (Named x 0) bs0 ≡ true
-      rest e' = other (ref_eq (Named x 0) (Named y 0)) (differ_ref (Named x 0) (Named y 0) (λ v. not_number y x e' (sym (plain v)))) h
+      rest e' = other (ref_eq (Named x 0) (Named y 0)) (differ_ref (Named x 0) (Named y 0) (λ v. eqb-false y x e' (sym (plain v)))) h
         where
           plain : Named x 0 ≡ Named y 0 → x ≡ y
           plain v = cc

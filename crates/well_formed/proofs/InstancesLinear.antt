@@ -1,6 +1,7 @@
 -- The body of a call is linear.
 use Rattle.std.proofs.Common.{◌≡◌, ◌⊎◌, inl, inr, ℕ, suc, Bool, true, false, List, [], ◌∷◌, length, refl, sym, ap, ◌∙◌, subst, if◌then◌else◌, ◌==◌, ◌||◌, ◌&&◌}
 use Rattle.std.specs.Prelude.{map}
+use Rattle.std.proofs.lemmas.Bool.{eqb-true, eqb-false}
 use Rattle.chor_base.specs.declared.names.NameId.{NameId}
 use Rattle.chor_semantics.specs.Choreography.{Ref, Live, Named, ref_eq, among, Starts, Communicates, InTransit, Alone, Choreography, Then, Either, Calls, Ends, put_content, put_part, bound, bound_served, named_by, instance_of}
 use Rattle.chor_semantics.specs.Sources.{Procedure}
@@ -10,7 +11,7 @@ use Rattle.well_formed.specs.WellFormed.{Scope, IsIn, AllIn, AreDistinctRefs, Al
 use Rattle.well_formed.specs.Linear.{Members, ParameterSets, any_in, all_in, after_start, members_after, given, all_given, IsLinear}
 use Rattle.well_formed.specs.SourceTrees.{IsName, AreNames, IsSource}
 use Rattle.well_formed.proofs.References.{or_left, or_rights, or_case, and_first, and_second, true_and, clash, true_eq, same_ref, self_ref}
-use Rattle.well_formed.proofs.Instances.{firsts_instance, number, not_number, names_of_parts, in_list}
+use Rattle.well_formed.proofs.Instances.{firsts_instance, names_of_parts, in_list}
 
 -- ---- linear
 
@@ -58,7 +59,7 @@ module _ (ks : List Channel) (procs : List Procedure) (d : ℕ) (a : NameId) (se
     where
       off : (b : Bool) → (u.0 == x) ≡ b → (u.0 == x) ≡ false
       off false e = e
-      off true e = absurd (clash (ap (λ z. among (Named z 0) bs) (number u.0 x e) ∙ k) n.0)
+      off true e = absurd (clash (ap (λ z. among (Named z 0) bs) (eqb-true u.0 x e) ∙ k) n.0)
 
   -- what stands for names after services are bound
   served_name : (F : ℕ → Ref) (x : ℕ) (ss : List (ℕ × NameId)) (bs0 : List Ref) → AllNew 0 ss bs0 → among (Named x 0) (service_refs 0 ss) ≡ true → among (bound_served d ss F x) (service_refs d ss) ≡ true
@@ -170,8 +171,8 @@ given_args dd fs i (y ∷ xs) (r ∷ rs) x l t h = go (y.0 == x) refl (given_arg
     plain z = cc
 
     go : (b : Bool) → (y.0 == x) ≡ b → (given fs (suc i) (names_in_scope xs) (Named x 0) ≡ true → given fs (suc i) rs (bound_all dd xs rs x) ≡ true) → given fs i (r ∷ rs) (if b then r else bound_all dd xs rs x) ≡ true
-    go true e ih = or_case (fs i && ref_eq (Named x 0) (Named y.0 0)) (given fs (suc i) (names_in_scope xs) (Named x 0)) _ h (λ w. or_left _ _ (true_and _ _ (and_first (fs i) _ w) (self_ref r))) (λ w. absurd (clash (ap (λ z. among (Named z 0) (names_in_scope xs)) (number y.0 x e) ∙ in_names (suc i) xs w) t.0))
-    go false e ih = or_rights _ _ (ih (or_case (fs i && ref_eq (Named x 0) (Named y.0 0)) (given fs (suc i) (names_in_scope xs) (Named x 0)) _ h (λ w. absurd (not_number y.0 x e (sym (plain (same_ref (Named x 0) (Named y.0 0) (and_second (fs i) _ w)))))) (λ w. w)))
+    go true e ih = or_case (fs i && ref_eq (Named x 0) (Named y.0 0)) (given fs (suc i) (names_in_scope xs) (Named x 0)) _ h (λ w. or_left _ _ (true_and _ _ (and_first (fs i) _ w) (self_ref r))) (λ w. absurd (clash (ap (λ z. among (Named z 0) (names_in_scope xs)) (eqb-true y.0 x e) ∙ in_names (suc i) xs w) t.0))
+    go false e ih = or_rights _ _ (ih (or_case (fs i && ref_eq (Named x 0) (Named y.0 0)) (given fs (suc i) (names_in_scope xs) (Named x 0)) _ h (λ w. absurd (eqb-false y.0 x e (sym (plain (same_ref (Named x 0) (Named y.0 0) (and_second (fs i) _ w)))))) (λ w. w)))
 
 pub given_names : (fs : ℕ → Bool) (i : ℕ) (xs : List NameId) (x : ℕ) → given fs i (names_in_scope xs) (Named x 0) ≡ true → among (Named x 0) (names_in_scope xs) ≡ true
 given_names fs i [] x h = absurd cc
