@@ -1,10 +1,10 @@
 //! An event that an office is told.
 
-ghost use Rattle.std.specs.Prelude.{◌≡◌, IfOk, true};
+ghost use Rattle.std.specs.Prelude.{◌≡◌, IfOk, true, false};
 ghost use Rattle.chor_base.specs.declared.event.Event.TheVariants as event;
 ghost use Rattle.post_office.specs.Answers.{HasNoted, is_local};
-ghost use Rattle.post_office.specs.Views.{CanMake};
-ghost use Rattle.office_runs.specs.Told.{MayCome};
+ghost use Rattle.post_office.specs.Views.{CanMake, is_full};
+ghost use Rattle.office_runs.specs.Told.{MayCome, HasRoomFor};
 
 use crate::starting::make_start;
 use chor_base::{Event, Load, Memory, NameId};
@@ -19,7 +19,8 @@ fn make_sent(
     load: Load,
 ) -> Result<bool, Memory>
     requires { CanMake office.old (event.Send pid lane.0 lane.1 lane.2 load) }
-    ensures { IfOk result (λ made. made ≡ true → HasNoted office.old 0 (event.Send pid lane.0 lane.1 lane.2 load) office.new) }
+    ensures noted { IfOk result (λ made. made ≡ true → HasNoted office.old 0 (event.Send pid lane.0 lane.1 lane.2 load) office.new) }
+    ensures room { IfOk result (λ made. made ≡ true → is_full office.old lane ≡ false) }
 {
     let (sid, from, to) = lane;
     office.reserve(sid, from, to)?;
@@ -67,7 +68,8 @@ pub fn make(
     event: &Event,
 ) -> Result<bool, Memory>
     requires { MayCome office.old count event.now }
-    ensures { IfOk result (λ made. made ≡ true → HasNoted office.old 0 event.now office.new) }
+    ensures noted { IfOk result (λ made. made ≡ true → HasNoted office.old 0 event.now office.new) }
+    ensures room { IfOk result (λ made. made ≡ true → HasRoomFor office.old event.now) }
 {
     match event {
         Event::Start {

@@ -36,6 +36,7 @@ fn tell(
     ensures grown { IfOk result (λ told. told ≡ true → HasGrown network.old network.new) }
     ensures alike { IfOk result (λ told. told ≡ true → AreAlike (hosts_in network.old.endpoints.names (functions_of hosts.now)) network.new office.new) }
     ensures events { IfOk result (λ told. told ≡ true → events_of office.new.history ≡ events_of office.old.history ++ event.now ∷ []) }
+    ensures capacity { IfOk result (λ told. told ≡ true → office.new.capacity ≡ office.old.capacity) }
 {
     let count = network.count();
     match network.follow(hosts, event) {
@@ -49,25 +50,28 @@ fn tell(
     }
 }
 
-/// The office of these programs, without a capacity, after these events by worker 0. `None` where they
-/// are no run, and where a start takes other processes than the office does, which takes the least
-/// that are posted: those of the event are, and nobody else. `Err` where there is no memory, and where
-/// 2^28 events come or the numbers of processes could reach 2^32.
+/// The office of these programs, with queues of this capacity, after these events by worker 0. `None`
+/// where they are no run, where one sends on a full queue, and where a start takes other processes than
+/// the office does, which takes the least that are posted: those of the event are, and nobody else.
+/// `Err` where there is no memory, and where 2^28 events come or the numbers of processes could reach
+/// 2^32.
 pub fn office_of<'a>(
     alloc: Global,
     endpoints: &'a Endpoints,
     hosts: &HostTable,
+    capacity: Option<u32>,
     events: &[Event],
 ) -> Result<Option<Office<'a>>, Memory>
     requires { IsFaultlessWith (names_of (functions_of hosts.now)) endpoints.now }
     ensures endpoints { IfOk result (λ told. IfSome told (λ office. office.endpoints ≡ endpoints.now)) }
+    ensures capacity { IfOk result (λ told. IfSome told (λ office. office.capacity ≡ capacity)) }
     ensures events { IfOk result (λ told. IfSome told (λ office. events_of office.history ≡ events.now)) }
 {
     if events.len() >= EVENTS || !are_few(endpoints, events.len()) {
         return Err(Memory);
     }
     let mut network = Network::new(alloc, endpoints)?;
-    let mut office = Office::new(alloc, endpoints, hosts, None)?;
+    let mut office = Office::new(alloc, endpoints, hosts, capacity)?;
     for event in events {
         let told = tell(alloc, &mut network, &mut office, hosts, event)?;
         if !told {

@@ -22,6 +22,13 @@ use worked::endpoints::{EXAMPLES, HELLO};
 // How many events a run has at most.
 const STEPS: u64 = 120;
 
+// p starts a session and sends twice. With seed 0 it sends 2 before q receives 1, with seed 1 after it.
+const TWICE: &[u8] = b"endpoints 1;
+channel a (A, B);
+process p { join a[A](k); send k B 1; send k B 2; end }
+process q { join a[B](k); recv k A x; recv k A y; end }
+";
+
 // The host functions that programs may ask: `max` alone.
 fn functions(alloc: Global) -> Result<HostTable, Fail> {
     let name = Word::from_slice(alloc, b"max".as_slice())?;
@@ -114,25 +121,40 @@ fn judge(
     Ok(())
 }
 
-// The office of the first events of the run of these programs with this seed: of all of its events,
-// where there are fewer.
-fn look(
-    rt: &impl Abort,
-    alloc: Global,
-    text: &[u8],
+// Which office is looked at: of how many events of the run with which seed, with queues of which capacity.
+#[derive(Clone, Copy)]
+struct Asked {
     seed: u32,
+    capacity: Option<u32>,
     count: usize,
-) -> Result<Option<Found>, Fail> {
-    let hosts = functions(alloc)?;
-    let endpoints = read(rt, alloc, text, &hosts)?;
-    let ran = run_endpoints(alloc, &endpoints, &hosts, u64::from(seed), STEPS)?;
-    let history = ran.history.as_slice();
-    let entries = &history[..count.min(history.len())];
+}
+
+// What stands in the office that is told these events, if it takes them.
+fn told(
+    alloc: Global,
+    endpoints: &Endpoints,
+    hosts: &HostTable,
+    capacity: Option<u32>,
+    entries: &[Entry],
+) -> Result<Option<Found>, Fail>
+    requires { IsFaultlessWith (names_of (functions_of hosts.now)) endpoints.now }
+{
     let events = events_of(alloc, entries)?;
-    match office_of(alloc, &endpoints, &hosts, events.as_slice())? {
-        Some(office) => Ok(Some(seen_in(alloc, &endpoints, &office, entries)?)),
+    match office_of(alloc, endpoints, hosts, capacity, events.as_slice())? {
+        Some(office) => Ok(Some(seen_in(alloc, endpoints, &office, entries)?)),
         None => Ok(None),
     }
+}
+
+// The office of the first events of a run of these programs: of all of its events, where there are
+// fewer.
+fn look(rt: &impl Abort, alloc: Global, text: &[u8], asked: Asked) -> Result<Option<Found>, Fail> {
+    let hosts = functions(alloc)?;
+    let endpoints = read(rt, alloc, text, &hosts)?;
+    let ran = run_endpoints(alloc, &endpoints, &hosts, u64::from(asked.seed), STEPS)?;
+    let history = ran.history.as_slice();
+    let entries = &history[..asked.count.min(history.len())];
+    told(alloc, &endpoints, &hosts, asked.capacity, entries)
 }
 
 #[test]
@@ -140,7 +162,12 @@ fn offices_have_the_events_that_they_are_told(rt: HostRuntime) -> Result<(), Fai
     let alloc = rt.alloc();
     for (name, text) in EXAMPLES {
         for seed in 0..5 {
-            match look(&rt, alloc, text, seed, 120)? {
+            let asked = Asked {
+                seed,
+                capacity: None,
+                count: 120,
+            };
+            match look(&rt, alloc, text, asked)? {
                 Some(found) => assert!(rt; found.is_same && !found.is_full, "{name}"),
                 None => assert!(rt; false, "{name}"),
             }
@@ -161,13 +188,43 @@ fn the_queue_and_the_start_of_hello(rt: HostRuntime) -> Result<(), Fail> {
         (None, Some(0)),
     ];
     for (count, (sent, joined)) in wanted.iter().enumerate() {
-        match look(&rt, alloc, HELLO, 0, count)? {
+        let asked = Asked {
+            seed: 0,
+            capacity: None,
+            count,
+        };
+        match look(&rt, alloc, HELLO, asked)? {
             Some(found) => {
                 assert!(rt; found.is_same && !found.is_full, "{count}");
                 assert!(rt; found.sent == *sent, "{count}");
                 assert!(rt; found.joined == *joined, "{count}");
             }
             None => assert!(rt; false, "{count}"),
+        }
+    }
+    Ok(())
+}
+
+#[test]
+fn a_queue_is_full_at_its_capacity(rt: HostRuntime) -> Result<(), Fail> {
+    let alloc = rt.alloc();
+    let wanted = [
+        ((0, Some(1), 1), Some(false)),
+        ((0, Some(1), 2), Some(true)),
+        ((0, Some(1), 3), None),
+        ((0, Some(2), 3), Some(true)),
+        ((0, None, 3), Some(false)),
+        ((1, Some(1), 5), Some(false)),
+    ];
+    for ((seed, capacity, count), is_full) in wanted {
+        let asked = Asked {
+            seed,
+            capacity,
+            count,
+        };
+        match look(&rt, alloc, TWICE, asked)? {
+            Some(found) => assert!(rt; found.is_same && is_full == Some(found.is_full), "{count}"),
+            None => assert!(rt; is_full.is_none(), "{count}"),
         }
     }
     Ok(())

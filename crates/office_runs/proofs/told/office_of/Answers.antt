@@ -24,4 +24,5 @@ loop-event-preserved g c =
       underway_more e table xs i x v c.tell.new.network c.loop-event-test.true u followed (c.in_ok-told.ensures.grown told),
       alike,
       c.in_ok-told.ensures.events told ∙ ap (λ l. l ++ x ∷ []) c.loop-event.invariant.2 ∙ ap (λ y. take i xs ++ y ∷ []) c.event-item.is ∙ sym (take_more xs i x c.loop-event-test.true),
+      c.in_ok-told.ensures.capacity told ∙ c.loop-event.invariant.3,
     )

@@ -9,4 +9,4 @@ use Rattle.office_runs.proofs.told.office_of.Given as goal
 abbrev pub invariant-loop-event : goal.invariant-loop-event
 invariant-loop-event g l =
     Underway l.endpoints (hosts_in l.endpoints.names (functions_of l.hosts)) l.events l.event-index l.network × AreAlike (hosts_in l.endpoints.names (functions_of l.hosts)) l.network l.office
-    × (events_of l.office.history ≡ take l.event-index l.events)
+    × (events_of l.office.history ≡ take l.event-index l.events) × (l.office.capacity ≡ l.initial.office.capacity)

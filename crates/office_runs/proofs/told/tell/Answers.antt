@@ -11,4 +11,4 @@ make-requires g c =
 pub returns-in_ok-told-in-Did-clause-alike : goal.returns-in_ok-told-in-Did-clause-alike
 returns-in_ok-told-in-Did-clause-alike g c told =
     let v = c.args.network.now in
-    alike_more (hosts_in v.endpoints.names (functions_of c.args.hosts.now)) v c.follow.new.self c.args.office.now c.make.new.office c.args.event.now c.requires.alike c.in-Did.ensures.0 (c.in_ok-told-in-Did.ensures told)
+    alike_more (hosts_in v.endpoints.names (functions_of c.args.hosts.now)) v c.follow.new.self c.args.office.now c.make.new.office c.args.event.now c.history.ensures.kept c.requires.alike c.in-Did.ensures.0 (c.in_ok-told-in-Did.ensures.room told) (c.in_ok-told-in-Did.ensures.noted told)
