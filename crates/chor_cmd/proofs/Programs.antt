@@ -16,7 +16,8 @@ use Rattle.endpoint_check.specs.Programs.{AreProgramsOf, ViolatesPrograms}
 use Rattle.endpoint_laws.proofs.Verdicts.{never_refused, one_refusal}
 use Rattle.endpoint_text.specs.Text.{endpoints_text}
 use Rattle.transcript.specs.Text.{transcript}
-use Rattle.program_runs.specs.Transcripts.{closing_text}
+use Rattle.program_runs.specs.Transcripts.{closing_text, IsTranscriptOf}
+use Rattle.one_execution.proofs.Transcripts.{transcript_agrees}
 use Rattle.source_runs.specs.Books.{book_of}
 use Rattle.simulation.specs.Runs.{ClosesWell, IsRunOf}
 use Rattle.projected_programs.specs.Laws.{AreProjected, ProjectedTextIsTaken, IsRunTranscript, ProjectedTextRuns}
@@ -83,11 +84,13 @@ module _ (functions : List Function) (words : Words) (shelf shelf' : ShelfState)
     refused_so q v s t (ran jammed same x) wrote = absurd (never_refused hosts bytes x.programs q x.are v)
     refused_so q v s t (failed name n r) wrote = not_read name n r
 
+    -- whichever programs the bytes are the text of, it is the transcript of these
     executed_so : (e : Endpoints) → AreProgramsOf hosts bytes e → (s : Status) (t : List ℕ) → Ran s t → Wrote sink.written sink'.written t
-        → (jammed : Bool) × Comes words shelf shelf' sink sink' (status_of jammed) (λ text. IsExecution functions options bytes text jammed) s
+        → (jammed : Bool) × Comes words shelf shelf' sink sink' (status_of jammed) (λ text. IsTranscriptOf functions e options.seed options.steps text jammed) s
     executed_so e are s t (violates r w) wrote = absurd (never_refused hosts bytes e r are w)
     executed_so e are s t (ran jammed same x) wrote =
-        (jammed, subst (λ (z : Status). Comes words shelf shelf' sink sink' (status_of jammed) (λ text. IsExecution functions options bytes text jammed) z) same (so t x wrote))
+        let agrees = transcript_agrees functions bytes x.programs e options.seed options.steps t jammed x.are are x.run in
+        (jammed, subst (λ (z : Status). Comes words shelf shelf' sink sink' (status_of jammed) (λ text. IsTranscriptOf functions e options.seed options.steps text jammed) z) same (so t agrees wrote))
     executed_so e are s t (failed name n r) wrote = (false, not_read name n r)
 
     module _ (source : List ℕ) (f : File) (e : Endpoints) (p : AreProjected functions source f e) (is : bytes ≡ endpoints_text e) (taken : ProjectedTextIsTaken) (runs : ProjectedTextRuns) where
@@ -130,9 +133,9 @@ module _ (functions : List Function) (words : Words) (shelf shelf' : ShelfState)
       pub programs_refused : (q : Refusal) → ViolatesPrograms hosts bytes q → Comes words shelf shelf' sink sink' Refused (λ text. text ≡ refused_line q) result
       programs_refused q v = by_ending (Comes words shelf shelf' sink sink' Refused (λ text. text ≡ refused_line q)) (refused_so q v) (λ h. no_memory h.0) (λ h. unwritten h.0) result ended
 
-      pub programs_executed : (e : Endpoints) → AreProgramsOf hosts bytes e → (jammed : Bool) × Comes words shelf shelf' sink sink' (status_of jammed) (λ text. IsExecution functions options bytes text jammed) result
+      pub programs_executed : (e : Endpoints) → AreProgramsOf hosts bytes e → (jammed : Bool) × Comes words shelf shelf' sink sink' (status_of jammed) (λ text. IsTranscriptOf functions e options.seed options.steps text jammed) result
       programs_executed e are =
-          by_ending (λ s. (jammed : Bool) × Comes words shelf shelf' sink sink' (status_of jammed) (λ text. IsExecution functions options bytes text jammed) s) (executed_so e are) (λ h. (false, no_memory h.0)) (λ h. (false, unwritten h.0)) result ended
+          by_ending (λ s. (jammed : Bool) × Comes words shelf shelf' sink sink' (status_of jammed) (λ text. IsTranscriptOf functions e options.seed options.steps text jammed) s) (executed_so e are) (λ h. (false, no_memory h.0)) (λ h. (false, unwritten h.0)) result ended
 
       pub projection_executed : (source : List ℕ) (f : File) (e : Endpoints) → AreProjected functions source f e → bytes ≡ endpoints_text e → ProjectedTextIsTaken → ProjectedTextRuns
           → Comes words shelf shelf' sink sink' Done (IsRunText functions f options) result

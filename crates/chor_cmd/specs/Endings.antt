@@ -24,6 +24,7 @@ use Rattle.source_check.specs.Source.{IsFileOf, IsAccepted, Violates}
 use Rattle.endpoint_code.specs.declared.endpoints.Endpoints.{Endpoints}
 use Rattle.endpoint_text.specs.Text.{endpoints_text}
 use Rattle.endpoint_check.specs.Programs.{AreProgramsOf}
+use Rattle.program_runs.specs.Transcripts.{IsTranscriptOf}
 use Rattle.projection.specs.Projects.{Projects}
 use Rattle.chor_cmd.specs.Status.{status_of}
 use Rattle.chor_cmd.specs.Outputs.{Violated, IsRunText, IsExecution, IsReplayOf, IsGenerated, Answers, usage_line, read_fault_line, too_large_line, refused_line, replayed_line, unmatched_line}
@@ -170,11 +171,11 @@ module _ (functions : List Function) (words : Words) (shelf shelf' : ShelfState)
       (file events : ℕ) (bytes log : List ℕ) (i : ℕ) → Asks words shelf (Replay file events) (bytes ∷ log ∷ []) → IsReplayOf functions bytes log (Err (unlike i))
       → Comes words shelf shelf' sink sink' Unmatched (λ text. text ≡ unmatched_line i) result
 
-  -- `exec`, for bytes that are told and are the text of endpoint programs: a transcript of their scheduled run, which is stuck or not
+  -- `exec`, for bytes that are told and are the text of these endpoint programs: the transcript of their scheduled run, which is stuck or not
   abbrev pub GivesExecution : Type 0
   GivesExecution =
       (word : ℕ) (options : Options) (bytes : List ℕ) (e : Endpoints) → Asks words shelf (Exec word options) (bytes ∷ []) → AreProgramsOf (names_of functions) bytes e
-      → (jammed : Bool) × Comes words shelf shelf' sink sink' (status_of jammed) (λ text. IsExecution functions options bytes text jammed) result
+      → (jammed : Bool) × Comes words shelf shelf' sink sink' (status_of jammed) (λ text. IsTranscriptOf functions e options.seed options.steps text jammed) result
 
   -- `exec`, for the text of the projection of a source that violates no rule, which `project` writes: what `run` writes for that source
   abbrev pub GivesProjectedRun : Type 0

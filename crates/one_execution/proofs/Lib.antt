@@ -1,0 +1,5 @@
+pub mod Known
+pub mod Terms
+pub mod Codes
+pub mod Programs
+pub mod Transcripts
