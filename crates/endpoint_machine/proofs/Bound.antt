@@ -151,3 +151,22 @@ passed_lacking params names m i q d f lt lu h = ap (λ (n : Sessions). fin.get n
 
 pub passed_over : (params names : List NameId) (m : Sessions) (i q : ℕ) → length params ≤ i → fin.get (passed (drop i params) (drop i names) m) q ≡ None
 passed_over params names m i q le = ap (λ (n : Sessions). fin.get n q) (passed_none params names m i le) ∙ fin.get-empty nat_cmp q
+
+-- ---- a session that a call passes under its own name
+
+kept : (p n : NameId) (b : Binding) → (p.0 == b.session.0) ≡ true → (n.0 == b.session.0) ≡ true → passed (p ∷ []) (n ∷ []) (sessions_of (b ∷ [])) ≡ sessions_of (b ∷ [])
+kept p n b hp hn =
+    let same : p.0 ≡ b.session.0 = grind (arith, nat_tests) in
+    let back : (b.session.0 == n.0) ≡ true = grind (arith, nat_tests) in
+    ap (λ (o : Option (ℕ × NameId)). passed_one o p fin.empty) (get_sessions (b ∷ []) n.0 ∙ taken _ _ _ back)
+    ∙ ap (λ (k : ℕ). fin.insert fin.empty k (b.sid, b.role)) same
+    ∙ sym (put_last [] b)
+
+pub kept_passed : (params names : List NameId) (bs : List Binding) (d : NameId) (z : Binding) → length params ≡ 1 → length names ≡ 1 → length bs ≡ 1 → z ≡ slice_index_or bs 0 z → ((slice_index_or params 0 d).0 == z.session.0) ≡ true → ((slice_index_or names 0 d).0 == z.session.0) ≡ true → passed params names (sessions_of bs) ≡ sessions_of bs
+kept_passed (p ∷ []) (n ∷ []) (b ∷ []) d z lp ln lb at hp hn = kept p n b (ap (λ (a : Binding). p.0 == a.session.0) (sym at) ∙ hp) (ap (λ (a : Binding). n.0 == a.session.0) (sym at) ∙ hn)
+kept_passed [] names bs d z lp ln lb at hp hn = absurd cc
+kept_passed (p ∷ q ∷ params) names bs d z lp ln lb at hp hn = absurd (omega (arith, lp))
+kept_passed (p ∷ []) [] bs d z lp ln lb at hp hn = absurd cc
+kept_passed (p ∷ []) (n ∷ o ∷ names) bs d z lp ln lb at hp hn = absurd (omega (arith, ln))
+kept_passed (p ∷ []) (n ∷ []) [] d z lp ln lb at hp hn = absurd cc
+kept_passed (p ∷ []) (n ∷ []) (b ∷ c ∷ bs) d z lp ln lb at hp hn = absurd (omega (arith, lb))

@@ -147,7 +147,8 @@ impl Machine {
         }
     }
 
-    // Goes through the call, if there is one.
+    // Goes through the call, if there is one. Most often a procedure calls itself with its own session,
+    // and then no memory is touched.
     fn enter(&mut self, call: Option<Passing>)
         requires even { IsEven call }
         requires sessions { 0 < self.old.room.sessions }
@@ -160,6 +161,9 @@ impl Machine {
         ensures room { 0 < self.new.room.sessions }
     {
         if let Some(call) = call {
+            if self.sessions.is_kept(call.params, call.names) {
+                return;
+            }
             self.beyond.pass(call.params, call.names, &self.sessions);
             swap(&mut self.sessions, &mut self.beyond);
         }

@@ -1,6 +1,6 @@
 //! What the session names of a process stand for.
 
-ghost use Rattle.std.specs.Prelude.{◌≡◌, ◌≤◌, ◌<◌, ◌+◌, length, OnOk, IsOk, filter, not, ◌==◌, vec_len, vec_capacity};
+ghost use Rattle.std.specs.Prelude.{◌≡◌, ◌≤◌, ◌<◌, ◌+◌, length, OnOk, IsOk, filter, not, ◌==◌, true, vec_len, vec_capacity};
 ghost use Rattle.std.specs.FinMap as fin;
 ghost use Rattle.endpoint_code.specs.Network.{passed};
 
@@ -112,6 +112,18 @@ impl Bindings {
         ensures kept { self.old.spare ≤ self.new.spare }
     {
         self.items.clear();
+    }
+
+    /// Whether the one name here is the one that a call passes, and its procedure's name too. Then the
+    /// call changes nothing.
+    pub fn is_kept(&self, params: &[NameId], names: &[NameId]) -> bool
+        ensures { result ≡ true → passed params.now names.now self.now.map ≡ self.now.map }
+    {
+        if params.len() != 1 || names.len() != 1 || self.items.len() != 1 {
+            return false;
+        }
+        let session = self.items[0].session;
+        params[0] == session && names[0] == session
     }
 
     /// The sessions that a call passes under its procedure's names, and no others.
