@@ -3,7 +3,6 @@ use Rattle.std.proofs.Common.{◌≡◌, ◌<◌, ◌^◌, ℕ, List, [], ◌∷
 use Rattle.std.specs.Prelude.{bytes_eq, if◌then◌else◌}
 use Rattle.std.specs.Fmt.{decimal, signed_decimal}
 use Rattle.std.specs.List.{AllByRecursion}
-use Rattle.std.proofs.lemmas.Fmt.{decimal_injective}
 use Rattle.chor_base.specs.declared.names.NameId.{NameId}
 use Rattle.chor_base.specs.declared.value.Value.TheVariants.{Int, Bool as Truth, Text, Part as Endpoint}
 use Rattle.chor_base.specs.declared.value.Load.{Load}
@@ -119,11 +118,6 @@ event_answer w i line digits rest word after k (Err BadLine) small parts free is
     let n = word_cut w rest word after e cut wordly m.rest in
     h e (kind_one (kind_of e) k (sym n.front ∙ named), has) n.rest
 event_answer w i line digits rest word after k (Err Memory) small parts free is cut wordly named h = tt
-
-pub wrong_number : (w : Words) (i found : ℕ) (line digits rest : List ℕ) (e : Event) → i < 2 ^ 64 → found < 2 ^ 64 → line ≡ digits ++ 32 ∷ rest → IsFree 32 digits → digits ≡ decimal found → (found ≡ i → ⊥) → line ≡ event_text w i e → ⊥
-wrong_number w i found line digits rest e small fits parts free is other q =
-    let m = line_cut w i line digits rest e small parts free q in
-    other (decimal_injective found i fits small (sym is ∙ m.front))
 
 -- ---- one kind of event
 

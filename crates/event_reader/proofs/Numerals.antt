@@ -1,11 +1,13 @@
 -- Numbers have one spelling.
-use Rattle.std.proofs.Common.{◌≡◌, ◌≢◌, ◌<◌, ◌≤◌, ◌-◌, ◌^◌, ℕ, ℤ, pos, negsuc, suc, zero, List, [], ◌∷◌, length, get_or, Option, Some, None, Result, Ok, Err, sym, ap, ◌∙◌, subst, arith}
-use Rattle.std.specs.Prelude.{slice_get}
+use Rattle.std.proofs.Common.{◌≡◌, ◌≢◌, ◌<◌, ◌≤◌, ◌+◌, ◌-◌, ◌/◌, ◌%◌, ◌^◌, ◌++◌, ℕ, ℤ, pos, negsuc, suc, zero, List, [], ◌∷◌, length, get_or, Option, Some, None, Result, Ok, Err, sym, ap, ◌∙◌, subst, arith}
+use Rattle.std.specs.Prelude.{slice_get, IsTrue, ◌↔◌, ◌==◌}
+use Rattle.std.proofs.lemmas.Bool.Decides.{nat_tests}
 use Rattle.std.specs.Option.{SomeIff}
 use Rattle.std.specs.Result.{result_ok}
 use Rattle.std.specs.Fmt.{decimal, signed_decimal}
 use Rattle.std.specs.Str.Parse.{AllDigits, digits_value, ParsesUnsigned}
-use Rattle.std.proofs.lemmas.Fmt.{decimal_nonempty, decimal_digit, first_decimal, digits_decimal, decimal_injective, decimal-digits_value, parse-decimal}
+use Rattle.std.proofs.lemmas.Fmt.{decimal_nonempty, decimal_digit, decimal_step, first_decimal, digits_decimal, decimal_injective, decimal-digits_value, parse-decimal}
+use Rattle.std.proofs.lemmas.List.{append_cancel_right}
 use Rattle.std.proofs.lemmas.Str.Parse.{IsNumeralModel, numerals_by_value, tells_digits, digit_from_value, parse_plain}
 use Rattle.event_reader.specs.Known.{IsInt}
 use Rattle.event_reader.specs.Readings.{IsReading}
@@ -51,6 +53,53 @@ parsed E (b ∷ bs) f (Ok x) (Some y) e p at plus zeros =
 parsed E (b ∷ bs) f (Ok x) None e p at plus zeros = absurd cc
 parsed E (b ∷ bs) f (Err x) (Some y) e p at plus zeros = absurd cc
 parsed E (b ∷ bs) f (Err x) None e p at plus zeros = λ n h q. let g = parse-decimal 64 n (b ∷ bs) (Err x) h h q p in absurd cc
+
+-- one digit
+pub digit_read : (d : ℕ) → 48 ≤ d → d ≤ 57 → IsReading (λ n. n < 2 ^ 64) decimal (d ∷ []) (Some (d - 48))
+digit_read d low high =
+    let same : 48 + (d - 48) ≡ d = omega arith in
+    (omega arith, sym (decimal_digit (d - 48) (omega arith) ∙ ap (λ (b : ℕ). b ∷ []) same))
+
+pub no_digit : (d : ℕ) → ((48 ≤ d) × (d ≤ 57) → ⊥) → IsReading (λ n. n < 2 ^ 64) decimal (d ∷ []) None
+no_digit d none = λ n h e. none (first_digit n d [] h e)
+
+-- ---- a number that is given
+
+-- these bytes are those of the one number where those are of the other
+pub record SameTexts (digits : List ℕ) (number : ℕ) (rest : List ℕ) (left : ℕ) : Type 0 where
+  pub small : left < 2 ^ 64
+  pub on : digits ≡ decimal number → rest ≡ decimal left
+  pub back : rest ≡ decimal left → digits ≡ decimal number
+
+pub before_last : (digits rest front : List ℕ) (number left : ℕ) → SameTexts digits number rest left → 10 ≤ left → rest ≡ front ++ (48 + left % 10) ∷ [] → SameTexts digits number front (left / 10)
+before_last digits rest front number left s large cut =
+    let step = decimal_step left large s.small in
+    record {
+      small = omega (arith, s.small);
+      on = λ e. append_cancel_right front (decimal (left / 10)) ((48 + left % 10) ∷ []) (sym cut ∙ s.on e ∙ step);
+      back = λ e. s.back (cut ∙ ap (λ (l : List ℕ). l ++ (48 + left % 10) ∷ []) e ∙ sym step);
+    }
+
+pub no_last : (digits rest : List ℕ) (number left : ℕ) → SameTexts digits number rest left → 10 ≤ left → ((front : List ℕ) → rest ≢ front ++ (48 + left % 10) ∷ []) → digits ≡ decimal number → ⊥
+no_last digits rest number left s large none e = none (decimal (left / 10)) (s.on e ∙ decimal_step left large s.small)
+
+has_one : (digits rest : List ℕ) (number left : ℕ) → SameTexts digits number rest left → left < 10 → digits ≡ decimal number → rest ≡ (48 + left) ∷ []
+has_one digits rest number left s small e = s.on e ∙ decimal_digit left small
+
+-- the only digit that is left
+pub one_left : (digits rest : List ℕ) (number left : ℕ) → SameTexts digits number rest left → left < 10 → length rest ≡ 1 → IsTrue (get_or rest 0 0 == 48 + left) ↔ (digits ≡ decimal number)
+one_left digits [] number left s small one = absurd cc
+one_left digits (b ∷ []) number left s small one = (is, back)
+  where
+    is : IsTrue (b == 48 + left) → digits ≡ decimal number
+    is t = let same : b ≡ 48 + left = grind (arith, nat_tests) in s.back (ap (λ (c : ℕ). c ∷ []) same ∙ sym (decimal_digit left small))
+
+    back : digits ≡ decimal number → IsTrue (b == 48 + left)
+    back e = let cut = has_one digits (b ∷ []) number left s small e in let same : b ≡ 48 + left = cc in grind (arith, nat_tests)
+one_left digits (b ∷ c ∷ rest) number left s small one = absurd (omega (arith, one))
+
+pub not_one_left : (digits rest : List ℕ) (number left : ℕ) → SameTexts digits number rest left → left < 10 → digits ≡ decimal number → length rest ≡ 1
+not_one_left digits rest number left s small e = ap length (has_one digits rest number left s small e)
 
 pub too_great : (bs : List ℕ) (n m : ℕ) → n < 2 ^ 64 → bs ≡ decimal n → 2 ^ 32 ≤ n → m < 2 ^ 32 → bs ≡ decimal m → ⊥
 too_great bs n m h e great less q = let same = decimal_injective n m h (omega arith) (sym e ∙ q) in omega arith

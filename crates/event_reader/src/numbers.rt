@@ -1,6 +1,6 @@
 //! Numbers in their one spelling.
 
-ghost use Rattle.std.specs.Prelude.{◌≡◌, ◌<◌, ◌≤◌, ◌-◌, ◌^◌, pos, negsuc};
+ghost use Rattle.std.specs.Prelude.{◌≡◌, ◌≢◌, ◌<◌, ◌≤◌, ◌+◌, ◌-◌, ◌^◌, ◌++◌, ◌∷◌, ◌↔◌, [], ℕ, List, IsTrue, MatchOption, pos, negsuc};
 ghost use Rattle.std.specs.Fmt.{decimal, signed_decimal};
 ghost use Rattle.event_reader.specs.Known.{IsSmall, IsInt};
 ghost use Rattle.std.specs.Option.{SomeIff};
@@ -10,6 +10,26 @@ use crate::fields::after;
 
 /// The number that is written so in decimal digits, without zeros before it and without a sign.
 pub fn number_of(digits: &[u8]) -> Option<u64>
+    ensures { IsReading (λ n. n < 2 ^ 64) decimal digits.now result }
+{
+    match digits {
+        [digit] => digit_of(*digit),
+        _ => long_of(digits),
+    }
+}
+
+// The number that is written so in one digit.
+fn digit_of(digit: u8) -> Option<u64>
+    ensures { IsReading (λ n. n < 2 ^ 64) decimal (digit ∷ []) result }
+{
+    if digit < b'0' || digit > b'9' {
+        return None;
+    }
+    Some(u64::from(digit - b'0'))
+}
+
+// The number that is written so in any number of digits.
+fn long_of(digits: &[u8]) -> Option<u64>
     ensures { IsReading (λ n. n < 2 ^ 64) decimal digits.now result }
 {
     let first = *digits.first()?;
@@ -22,6 +42,33 @@ pub fn number_of(digits: &[u8]) -> Option<u64>
     match str::from_utf8(digits) {
         Ok(text) => text.parse::<u64>().ok(),
         Err(_) => None,
+    }
+}
+
+// Whether a number is written so.
+pub fn is_written(number: u64, digits: &[u8]) -> bool
+    ensures { IsTrue result ↔ (digits.now ≡ decimal number) }
+{
+    let mut left = number;
+    let mut rest = digits;
+    while left >= 10 {
+        let Some(front) = before_digit(rest, left % 10) else {
+            return false;
+        };
+        left /= 10;
+        rest = front;
+    }
+    rest.len() == 1 && rest[0] == b'0' + left as u8
+}
+
+// What stands before this digit, if it is the last one.
+fn before_digit(digits: &[u8], digit: u64) -> Option<&[u8]>
+    requires { digit < 10 }
+    ensures { MatchOption result ((front : List ℕ) → digits.now ≢ front ++ (48 + digit) ∷ []) (λ front. digits.now ≡ front.now ++ (48 + digit) ∷ []) }
+{
+    match digits {
+        [front @ .., last] if *last == b'0' + digit as u8 => Some(front),
+        _ => None,
     }
 }
 

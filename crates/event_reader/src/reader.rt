@@ -9,7 +9,7 @@ use crate::bodies::event_of;
 use crate::fault::LineFault;
 use crate::fields::split;
 use crate::kind::kind_of;
-use crate::numbers::number_of;
+use crate::numbers::is_written;
 use chor_base::Event;
 use std::alloc::Global;
 use transcript::Book;
@@ -23,10 +23,7 @@ pub fn read_event(alloc: Global, line: &[u8], number: u64, book: &Book) -> Resul
     let Some((digits, rest)) = split(line, b' ') else {
         return Err(LineFault::BadLine);
     };
-    let Some(found) = number_of(digits) else {
-        return Err(LineFault::BadLine);
-    };
-    if found != number {
+    if !is_written(number, digits) {
         return Err(LineFault::BadLine);
     }
     let Some((word, rest)) = split(rest, b' ') else {

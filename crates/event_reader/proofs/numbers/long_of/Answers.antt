@@ -5,7 +5,7 @@ use Rattle.std.proofs.lemmas.Fmt.{IsAscii-decimal}
 use Rattle.std.specs.Str.{IsUtf8}
 use Rattle.event_reader.proofs.Answers.{no_reading}
 use Rattle.event_reader.proofs.Numerals.{some_digits, no_plus, no_zeros, parsed}
-use Rattle.event_reader.proofs.numbers.number_of.Goals as goal
+use Rattle.event_reader.proofs.numbers.long_of.Goals as goal
 
 pub returns-in_err-first : goal.returns-in_err-first
 returns-in_err-first c = no_reading _ _ _ _ c.from_residual.ensures (λ n h e. some_digits c.args.digits.now n h (sym c.in_err-first.ensures.value) e)
