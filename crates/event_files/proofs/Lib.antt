@@ -6,3 +6,4 @@ pub mod Along
 pub mod ReadLines
 pub mod NetworkRuns
 pub mod Replaying
+pub mod Following

@@ -1,12 +1,10 @@
 -- The replay of a file on a network.
-use Rattle.std.proofs.Common.{◌≡◌, ◌≤◌, ◌<◌, ◌+◌, ◌*◌, ◌^◌, ℕ, zero, suc, List, [], ◌∷◌, ◌++◌, length, take, Result, Ok, Err, refl, sym, ap, ◌∙◌, subst, arith, append_assoc}
+use Rattle.std.proofs.Common.{◌≡◌, ◌≤◌, ◌<◌, ◌+◌, ◌*◌, ◌^◌, ℕ, List, [], ◌∷◌, ◌++◌, length, Result, Ok, Err, refl, sym, ap, ◌∙◌, subst, arith}
 use Rattle.std.specs.Prelude.{All}
-use Rattle.std.specs.List.{AllByRecursion}
 use Rattle.std.proofs.lemmas.List.Elements.{All-head, All-tail}
 use native.Mathlib.Nat.{mul-le-mul}
 use Rattle.chor_base.specs.declared.event.Event.{Event}
 use Rattle.chor_base.specs.Meaning.{Hosts}
-use Rattle.chor_lexer.proofs.Each.{each_front, each_back}
 use Rattle.endpoint_code.specs.declared.endpoints.Channel.{Channel}
 use Rattle.endpoint_code.specs.declared.endpoints.Endpoints.{Endpoints}
 use Rattle.net_core.specs.Steps.{most_served}
@@ -23,10 +21,10 @@ use Rattle.transcript_lines.specs.Lines.{lines_of}
 use Rattle.transcript_lines.specs.Last.{last_text}
 use Rattle.transcript_lines.specs.Split.{event_lines}
 use Rattle.event_files.specs.Files.{Closes, at_end, at_limit, Matches, goes_on, closes, IsClosedBy, IsReplayed, IsUnmatched}
-use Rattle.event_files.specs.Fronts.{StopsAt, IsFront, IsClosing, AreClosing, Judges}
+use Rattle.event_files.specs.Fronts.{StopsAt, IsFront, IsFollowed, IsClosing, AreClosing, Judges}
 use Rattle.event_files.specs.Fronts as judged
 use Rattle.event_files.specs.Networks.{IsEndedRun, ReplaysNetwork}
-use Rattle.event_files.proofs.EventLines.{lines_append, few_events}
+use Rattle.event_files.proofs.EventLines.{few_events}
 use Rattle.event_files.proofs.OneAnswer.{not_closing}
 use Rattle.event_files.proofs.NetworkRuns.{ended_there}
 
@@ -39,78 +37,22 @@ served_few (k ∷ ks) n h =
     let rest : most_served ks ≤ n = served_few ks n (All-tail (λ (k : Channel). length k.serve ≤ n) k ks h) in
     omega (arith, here, rest)
 
-module _ (w : Words) (bytes left : List ℕ) (xs : List Event) (front : IsFront w bytes xs left) (few : length bytes ≤ 2 ^ 26) where
-  few_read : length xs ≤ 2 ^ 26
-  few_read = let all = few_events w xs bytes (lines_of left) front.read.lines in omega (arith, all, few)
-
-  pub events_few : length xs < 2 ^ 28
-  events_few = let all = few_read in omega (arith, all)
-
-  -- the numbers of processes stay below 2^32
-  pub numbers_few : (e : Endpoints) → All (λ k. length k.serve ≤ 60) e.channels → length e.processes ≤ 1000000 → length e.processes + length xs * most_served e.channels < 2 ^ 32
-  numbers_few e served processes =
-      let product : length xs * most_served e.channels ≤ 2 ^ 26 * 60 = mul-le-mul few_read (served_few e.channels 60 served) in
-      omega (arith, product, processes)
-
--- ---- a list of events that is cut
-
-record Cut (xs : List Event) (n : ℕ) : Type 0 where
-  front : List Event
-  here : Event
-  back : List Event
-  whole : xs ≡ front ++ here ∷ back
-  long : length front ≡ n
-  before : take n xs ≡ front
-  with_it : take (suc n) xs ≡ front ++ here ∷ []
-
-cut : (xs : List Event) (n : ℕ) → n < length xs → Cut xs n
-cut [] n h = absurd (omega (arith, h))
-cut (x ∷ xs) zero h = record { front = []; here = x; back = xs; whole = refl; long = refl; before = refl; with_it = refl }
-cut (x ∷ xs) (suc n) h =
-    let c = cut xs n (omega (arith, h)) in
-    record {
-      front = x ∷ c.front;
-      here = c.here;
-      back = c.back;
-      whole = ap (λ (l : List Event). x ∷ l) c.whole;
-      long = ap suc c.long;
-      before = ap (λ (l : List Event). x ∷ l) c.before;
-      with_it = ap (λ (l : List Event). x ∷ l) c.with_it;
-    }
+-- the numbers of processes stay below 2^32
+pub numbers_few : (e : Endpoints) (n : ℕ) → n ≤ 2 ^ 26 → All (λ k. length k.serve ≤ 60) e.channels → length e.processes ≤ 1000000 → length e.processes + n * most_served e.channels < 2 ^ 32
+numbers_few e n few served processes =
+    let product : n * most_served e.channels ≤ 2 ^ 26 * 60 = mul-le-mul few (served_few e.channels 60 served) in
+    omega (arith, product, processes)
 
 -- ---- the answer
 
-module _ (w : Words) (e : Endpoints) (hosts : Hosts) (book : IsBook w) (bytes left : List ℕ) (xs : List Event) (front : IsFront w bytes xs left) (few : length bytes ≤ 2 ^ 26) where
-  -- an event that can't happen is in the first line that doesn't match
-  pub unmatched : (i : ℕ) → events.IsUnmatched e hosts xs i → IsUnmatched w (IsRun e hosts) (IsEndedRun e hosts) (lines_of bytes) i
-  unmatched i u =
-      let c = cut xs u.before u.within in
-      let known = subst (AllByRecursion (HasEvent w)) c.whole front.read.known in
-      let has = each_back (HasEvent w) c.front (c.here ∷ c.back) known in
-      let fewer : length xs ≤ 2 ^ 26 = few_read w bytes left xs front few in
-      let inside : length c.front < length xs = omega (arith, c.long, u.within) in
-      let small : length c.front + 1 < 2 ^ 64 = omega (arith, inside, fewer) in
-      record {
-        history = c.front;
-        known = each_front (HasEvent w) c.front (c.here ∷ c.back) known;
-        run = subst (IsRun e hosts) c.before u.run;
-        line = event_text w (length c.front + 1) c.here;
-        rest = event_lines w (suc (length c.front + 1)) c.back ++ lines_of left;
-        lines_are =
-            front.read.lines
-            ∙ ap (λ (l : List Event). event_lines w 1 l ++ lines_of left) c.whole
-            ∙ ap (λ (ls : List (List ℕ)). ls ++ lines_of left) (lines_append w 1 c.front (c.here ∷ c.back))
-            ∙ append_assoc (event_lines w 1 c.front) (event_lines w (length c.front + 1) (c.here ∷ c.back)) (lines_of left);
-        number = u.number ∙ (let n : suc u.before ≡ length c.front + 1 = omega (arith, c.long) in n);
-        none = no_match c.front c.here has.0 small (λ run. u.none (subst (IsRun e hosts) (sym c.with_it) run));
-      }
-    where
-      no_match : (h : List Event) (x : Event) → HasEvent w x → length h + 1 < 2 ^ 64 → (IsRun e hosts (h ++ x ∷ []) → ⊥) → {rest : List (List ℕ)} → Matches w (IsRun e hosts) (IsEndedRun e hosts) h (event_text w (length h + 1) x) rest → ⊥
-      no_match h x has small never (goes_on y have q run) =
-          let same : x ≡ y = (one_spelling w (length h + 1) (length h + 1) x y book small small has have q).1 in
-          never (subst (λ (z : Event). IsRun e hosts (h ++ z ∷ [])) (sym same) run)
-      no_match h x has small never (closes none c) = not_closing w (IsEndedRun e hosts) h (length h + 1) x small c
+-- an event that can't happen after a run is in the first line that doesn't match
+pub no_match : (w : Words) (e : Endpoints) (hosts : Hosts) → IsBook w → (h : List Event) (x : Event) → HasEvent w x → length h + 1 < 2 ^ 64 → (IsRun e hosts (h ++ x ∷ []) → ⊥) → {rest : List (List ℕ)} → Matches w (IsRun e hosts) (IsEndedRun e hosts) h (event_text w (length h + 1) x) rest → ⊥
+no_match w e hosts book h x has small never (goes_on y have q run) =
+    let same : x ≡ y = (one_spelling w (length h + 1) (length h + 1) x y book small small has have q).1 in
+    never (subst (λ (z : Event). IsRun e hosts (h ++ z ∷ [])) (sym same) run)
+no_match w e hosts book h x has small never (closes none c) = not_closing w (IsEndedRun e hosts) h (length h + 1) x small c
 
+module _ (w : Words) (e : Endpoints) (hosts : Hosts) (bytes left : List ℕ) (xs : List Event) (front : IsFront w bytes xs left) where
   -- what closes a run by its count closes it by its events
   closing_too : (r : Replayed) → events.IsReplayed e hosts xs r → (line : List ℕ) → IsClosing r line → Closes (IsEndedRun e hosts) xs line
   closing_too r a line (judged.at_end q over) = at_end (q ∙ ap (λ (n : ℕ). last_text (End n)) a.count) ((ended_there e hosts xs a.last r.ended a.run a.ended).0 over)
@@ -155,11 +97,15 @@ module _ (w : Words) (e : Endpoints) (hosts : Hosts) (book : IsBook w) (bytes le
       no_match stops (goes_on x has q run) = stops x has q
       no_match stops (closes none c) = never (subst (λ (ls : List (List ℕ)). AreClosing r (line ∷ ls)) (sym none) (closing_back r a line c))
 
-  pub judged_so : (r : Replayed) (result : Result Replayed ReplayFault) → events.IsReplayed e hosts xs r → Judges r (lines_of left) result → ReplaysNetwork w e hosts bytes result
-  judged_so r (Ok s) a j = whole r s a j.0 j.1
-  judged_so r (Err (Unmatched i)) a j = unclosed r i a j.0 (lines_of left) refl j.1
-  judged_so r (Err Memory) a j = tt
+  judged_as : (r : Replayed) (result : Result Replayed ReplayFault) → events.IsReplayed e hosts xs r → Judges r (lines_of left) result → ReplaysNetwork w e hosts bytes result
+  judged_as r (Ok s) a j = whole r s a j.0 j.1
+  judged_as r (Err (Unmatched i)) a j = unclosed r i a j.0 (lines_of left) refl j.1
+  judged_as r (Err Memory) a j = tt
 
-  pub replay_failed : (f : ReplayFault) → Replays e hosts xs (Err f) → ReplaysNetwork w e hosts bytes (Err f)
-  replay_failed (Unmatched i) u = unmatched i u
-  replay_failed Memory u = tt
+-- what is judged of the lines that are left is answered for the file
+pub judged_so : (w : Words) (e : Endpoints) (hosts : Hosts) (bytes left : List ℕ) (r : Replayed) (result : Result Replayed ReplayFault) → IsFollowed w e hosts bytes r left → Judges r (lines_of left) result → ReplaysNetwork w e hosts bytes result
+judged_so w e hosts bytes left r result f j = judged_as w e hosts bytes left f.history f.front r result f.replayed j
+
+-- the count fits where there are few bytes
+pub count_few : (w : Words) (e : Endpoints) (hosts : Hosts) (bytes left : List ℕ) (r : Replayed) → IsFollowed w e hosts bytes r left → length bytes ≤ 2 ^ 26 → r.count ≤ 2 ^ 26
+count_few w e hosts bytes left r f few = let all = few_events w f.history bytes (lines_of left) f.front.read.lines in omega (arith, all, few, f.replayed.count)

@@ -10,17 +10,17 @@ ghost use Rattle.transcript.specs.Books.{words};
 
 use crate::closing::judge;
 use crate::few::are_few;
-use crate::reading::read_events;
+use crate::reading::follow_events;
 use chor_host::HostTable;
 use endpoint_code::Endpoints;
-use replay::{ReplayFault, Replayed, replay};
+use replay::{ReplayFault, Replayed};
 use std::alloc::Global;
 use transcript::Book;
 
 /// Replays the events of a file on the network of these programs. `Unmatched` tells the number of the
 /// first line, from 1, that doesn't match. A line is split off at each line feed, a carriage return
-/// belongs to its line, and the last line may be `end N` or `limit N`. It takes memory for the events
-/// and for the network. Where numbers of processes could reach 2^32, which is in no programs within the
+/// belongs to its line, and the last line may be `end N` or `limit N`. It takes memory for the network,
+/// and for one event at a time. Where numbers of processes could reach 2^32, which is in no programs within the
 /// limits of a file, it answers want of memory.
 pub fn replay_file(
     alloc: Global,
@@ -37,7 +37,6 @@ pub fn replay_file(
     if !are_few(endpoints) {
         return Err(ReplayFault::Memory);
     }
-    let (events, rest) = read_events(alloc, bytes, book)?;
-    let replayed = replay(alloc, endpoints, hosts, events.as_slice())?;
+    let (replayed, rest) = follow_events(alloc, endpoints, hosts, book, bytes)?;
     judge(rest, replayed)
 }

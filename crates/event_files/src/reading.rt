@@ -1,34 +1,66 @@
 //! The lines of events at the front of a file.
 
-ghost use Rattle.std.specs.Prelude.{IfOk};
-ghost use Rattle.event_reader.specs.Known.{AreWords};
-ghost use Rattle.event_files.specs.Fronts.{IsFront};
+ghost use Rattle.std.specs.Prelude.{◌≡◌, ◌≤◌, ◌^◌, All, length};
+ghost use Rattle.chor_host.specs.Functions.{hosts_in, names_of};
+ghost use Rattle.chor_host.specs.Tables.{functions_of};
+ghost use Rattle.endpoint_code.specs.Faults.{IsFaultlessWith};
+ghost use Rattle.endpoint_code.specs.NetworkRuns.{all_ended};
+ghost use Rattle.event_reader.specs.Known.{IsBook};
+ghost use Rattle.event_files.specs.Fronts.{IsAnswered};
 ghost use Rattle.transcript.specs.Books.{words};
 
-use chor_base::{Event, List, Memory};
+use chor_host::HostTable;
+use endpoint_code::Endpoints;
 use event_reader::{LineFault, read_event};
+use net_core::{Followed, Network};
+use replay::{ReplayFault, Replayed};
 use std::alloc::Global;
 use transcript::Book;
 use transcript_lines::first_line;
 
-// The events whose texts the first lines are, as many as there are, and the bytes of the other lines.
-pub fn read_events<'a>(
+// Follows the events whose texts the first lines are, each as soon as it is read, as many as there are.
+// The bytes of the other lines are left.
+pub fn follow_events<'a>(
     alloc: Global,
-    bytes: &'a [u8],
+    endpoints: &Endpoints,
+    hosts: &HostTable,
     book: &Book,
-) -> Result<(List<Event>, &'a [u8]), Memory>
-    requires { AreWords (words book.now).names }
-    ensures { IfOk result (λ r. IsFront (words book.now) bytes.now r.0 r.1.now) }
+    bytes: &'a [u8],
+) -> Result<(Replayed, &'a [u8]), ReplayFault>
+    requires faultless { IsFaultlessWith (names_of (functions_of hosts.now)) endpoints.now }
+    requires book { IsBook (words book.now) }
+    requires few { length bytes.now ≤ 2 ^ 26 }
+    requires serve { All (λ k. length k.serve ≤ 60) endpoints.now.channels }
+    requires processes { length endpoints.now.processes ≤ 1000000 }
+    ensures { IsAnswered (words book.now) endpoints.now (hosts_in endpoints.now.names (functions_of hosts.now)) bytes.now result }
 {
-    let mut events = List::new(alloc);
+    let mut network = Network::new(alloc, endpoints)?;
+    let mut count = 0;
     let mut rest = bytes;
     while let Some((line, after)) = first_line(rest) {
-        match read_event(alloc, line, events.len() as u64 + 1, book) {
-            Ok(event) => events.push(event)?,
-            Err(LineFault::BadLine) => return Ok((events, rest)),
-            Err(LineFault::Memory) => return Err(Memory),
+        let event = match read_event(alloc, line, count + 1, book) {
+            Ok(event) => event,
+            Err(LineFault::BadLine) => return Ok((replayed(&network, count), rest)),
+            Err(LineFault::Memory) => return Err(ReplayFault::Memory),
+        };
+        match network.follow(hosts, &event) {
+            Followed::Did => network.forget(),
+            Followed::Unmatched => return Err(ReplayFault::Unmatched(count + 1)),
+            Followed::Memory => return Err(ReplayFault::Memory),
         }
+        count += 1;
         rest = after;
     }
-    Ok((events, rest))
+    Ok((replayed(&network, count), rest))
+}
+
+// What is told of a network that has followed so many events.
+fn replayed(network: &Network<'_>, count: u64) -> Replayed
+    ensures count { result.count ≡ count }
+    ensures ended { result.ended ≡ all_ended network.now.endpoints network.now.state.machines }
+{
+    Replayed {
+        count,
+        ended: network.finished(),
+    }
 }

@@ -14,16 +14,16 @@ use Rattle.net_core.proofs.Runs.{fits_fewer, fits_after}
 use Rattle.net_core.proofs.Scopes.{length-standing_all}
 use Rattle.replay.specs.Replays.{IsUnmatched}
 
-leads_more : (e : Endpoints) (hosts : Hosts) (xs : List Event) (x : Event) (n m k : NetworkState) → NetworkLeads e hosts None n xs m → NetworkSteps e hosts None m x k → NetworkLeads e hosts None n (xs ++ x ∷ []) k
+pub leads_more : (e : Endpoints) (hosts : Hosts) (xs : List Event) (x : Event) (n m k : NetworkState) → NetworkLeads e hosts None n xs m → NetworkSteps e hosts None m x k → NetworkLeads e hosts None n (xs ++ x ∷ []) k
 leads_more e hosts [] x n m k same s = (k, subst (λ (a : NetworkState). NetworkSteps e hosts None a x k) (sym same) s, refl)
 leads_more e hosts (y ∷ xs) x n m k (mid, first, rest) s = (mid, first, leads_more e hosts xs x mid m k rest s)
 
 -- before its last event a run is one
-leads_fewer : (e : Endpoints) (hosts : Hosts) (xs : List Event) (x : Event) (n k : NetworkState) → NetworkLeads e hosts None n (xs ++ x ∷ []) k → (m : NetworkState) × NetworkLeads e hosts None n xs m × NetworkSteps e hosts None m x k
+pub leads_fewer : (e : Endpoints) (hosts : Hosts) (xs : List Event) (x : Event) (n k : NetworkState) → NetworkLeads e hosts None n (xs ++ x ∷ []) k → (m : NetworkState) × NetworkLeads e hosts None n xs m × NetworkSteps e hosts None m x k
 leads_fewer e hosts [] x n k (mid, first, same) = (n, refl, subst (NetworkSteps e hosts None n x) same first)
 leads_fewer e hosts (y ∷ xs) x n k (mid, first, rest) = let f = leads_fewer e hosts xs x mid k rest in (f.0, (mid, first, f.1), f.2)
 
-leads_one : (e : Endpoints) (hosts : Hosts) (xs : List Event) (n m k : NetworkState) → NetworkLeads e hosts None n xs m → NetworkLeads e hosts None n xs k → m ≡ k
+pub leads_one : (e : Endpoints) (hosts : Hosts) (xs : List Event) (n m k : NetworkState) → NetworkLeads e hosts None n xs m → NetworkLeads e hosts None n xs k → m ≡ k
 leads_one e hosts [] n m k a b = sym a ∙ b
 leads_one e hosts (x ∷ xs) n m k (mid, first, rest) (other, second, left) =
     let same : other ≡ mid = next_one e hosts None n other mid x second first in
