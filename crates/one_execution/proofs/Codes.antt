@@ -1,13 +1,10 @@
 -- Bodies that are written alike are made into the same code.
-use Rattle.std.proofs.Common.{◌≡◌, ℕ, List, sym, ap, ◌∙◌, subst}
+use Rattle.std.proofs.Common.{◌≡◌}
 use Rattle.chor_base.specs.Expr.{term_of}
-use Rattle.chor_lexer.specs.Lexeme.{Lexeme}
 use Rattle.endpoint_reader.specs.declared.input.Input.{Input}
-use Rattle.endpoint_reader.specs.declared.input.Named.{Named}
 use Rattle.endpoint_reader.specs.declared.node.Action.{Action}
 use Rattle.endpoint_reader.specs.declared.node.Action.TheVariants.{Join, Send, Recv, Pick, Give, Gain, Set, Show, Host}
 use Rattle.endpoint_reader.specs.Known.{IsActionThere}
-use Rattle.endpoint_reader.specs.Tokens.{named, all_named, written}
 use Rattle.endpoint_reader.specs.Nodes.{deed_of}
 use Rattle.endpoint_code.specs.declared.endpoints.Endpoints.{Endpoints}
 use Rattle.endpoint_code.specs.Labels.{here}
@@ -16,7 +13,7 @@ use Rattle.endpoint_making.specs.Codes.{action_of, code_of, arms_of}
 use Rattle.faultless_endpoints.specs.Reading.{written_body, written_arms}
 use Rattle.same_programs.specs.Codes as same
 use Rattle.same_programs.specs.Codes.{SameAction, SameCode, SameArms}
-use Rattle.one_execution.proofs.Known.{IsBodyThere, AreArmsThere}
+use Rattle.printed_endpoints.proofs.There.{IsBodyThere, AreArmsThere}
 use Rattle.one_execution.proofs.Terms.{HaveTables, N, T, name_same, names_same, term_same}
 
 module _ {e f : Endpoints} {i j : Input} (tables : HaveTables e f i j) where

@@ -1,4 +1,3 @@
-pub mod Known
 pub mod Terms
 pub mod Codes
 pub mod Programs

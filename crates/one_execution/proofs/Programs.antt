@@ -31,7 +31,7 @@ use Rattle.faultless_endpoints.proofs.Trees.{bodies_written}
 use Rattle.faultless_endpoints.specs.Reading.{written_body}
 use Rattle.same_programs.specs.Codes.{SameCode}
 use Rattle.same_programs.specs.Programs.{SameCodeAt, SameChannel, SameProcedure, SameService, SameProcess, SamePrograms, IsCopy}
-use Rattle.one_execution.proofs.Known.{body_there}
+use Rattle.printed_endpoints.proofs.There.{body_there}
 use Rattle.one_execution.proofs.Terms.{HaveTables, N, T, name_same, names_same}
 use Rattle.one_execution.proofs.Codes.{body_same}
 
@@ -55,77 +55,47 @@ module _ (hosts : List (List ℕ)) {e f : Endpoints} {i j : Input} (tables : Hav
       subst (λ (t : CodeTree). SameCode (N tables) (T tables) t (code_at f.code.nodes (code_id y))) (sym first)
       (subst (λ (t : CodeTree). SameCode (N tables) (T tables) (code_of b) t) (sym second) same)
 
-  channels_same : (cs ds : List Channel) → All (λ c. IsThere i c.name × AreRolesThere i c.roles) cs → All (λ c. IsThere j c.name × AreRolesThere j c.roles) ds
-      → map (channel_unit i) cs ≡ map (channel_unit j) ds → AllZip (SameChannel e f) (map channel_made cs) (map channel_made ds)
-  channels_same [] [] g o s = tt
-  channels_same [] (d ∷ ds) g o s = absurd cc
-  channels_same (c ∷ cs) [] g o s = absurd cc
-  channels_same (c ∷ cs) (d ∷ ds) g o s =
-      let first : channel_unit i c ≡ channel_unit j d = cc in
-      let rest : map (channel_unit i) cs ≡ map (channel_unit j) ds = cc in
-      let h = All-head (λ (x : Channel). IsThere i x.name × AreRolesThere i x.roles) c cs g in
-      let k = All-head (λ (x : Channel). IsThere j x.name × AreRolesThere j x.roles) d ds o in (
-        record {
-          name = name_same tables c.name d.name h.0 k.0 (ap (λ (u : unit.Channel). u.name) first);
-          active = names_same tables c.roles.active d.roles.active h.1.0 k.1.0 (ap (λ (u : unit.Channel). u.roles.active) first);
-          serve = names_same tables c.roles.serve d.roles.serve h.1.1 k.1.1 (ap (λ (u : unit.Channel). u.roles.serve) first);
-        },
-        channels_same cs ds (All-tail (λ (x : Channel). IsThere i x.name × AreRolesThere i x.roles) c cs g) (All-tail (λ (x : Channel). IsThere j x.name × AreRolesThere j x.roles) d ds o) rest,
-      )
+  channel_same : (c d : Channel) → IsThere i c.name × AreRolesThere i c.roles → IsThere j d.name × AreRolesThere j d.roles → channel_unit i c ≡ channel_unit j d
+      → SameChannel e f (channel_made c) (channel_made d)
+  channel_same c d g o s = record {
+    name = name_same tables c.name d.name g.0 o.0 (ap (λ (u : unit.Channel). u.name) s);
+    active = names_same tables c.roles.active d.roles.active g.1.0 o.1.0 (ap (λ (u : unit.Channel). u.roles.active) s);
+    serve = names_same tables c.roles.serve d.roles.serve g.1.1 o.1.1 (ap (λ (u : unit.Channel). u.roles.serve) s);
+  }
 
-  procedures_same : (ps qs : List Procedure) → All (λ p. IsSignatureThere i p.signature) ps → All (λ p. IsSignatureThere j p.signature) qs
-      → map (procedure_unit i ls) ps ≡ map (procedure_unit j ms) qs → AllZip (SameProcedure e f) (map procedure_made ps) (map procedure_made qs)
-  procedures_same [] [] g o s = tt
-  procedures_same [] (q ∷ qs) g o s = absurd cc
-  procedures_same (p ∷ ps) [] g o s = absurd cc
-  procedures_same (p ∷ ps) (q ∷ qs) g o s =
-      let first : procedure_unit i ls p ≡ procedure_unit j ms q = cc in
-      let rest : map (procedure_unit i ls) ps ≡ map (procedure_unit j ms) qs = cc in
-      let h = All-head (λ (x : Procedure). IsSignatureThere i x.signature) p ps g in
-      let k = All-head (λ (x : Procedure). IsSignatureThere j x.signature) q qs o in (
-        record {
-          name = name_same tables p.signature.name q.signature.name h.0 k.0 (ap (λ (u : unit.Procedure). u.name) first);
-          param = name_same tables p.signature.param q.signature.param h.1 k.1 (ap (λ (u : unit.Procedure). u.param) first);
-          sessions = names_same tables p.signature.sessions q.signature.sessions h.2 k.2 (ap (λ (u : unit.Procedure). u.sessions) first);
-          body = code_at_same p.body q.body (ap (λ (u : unit.Procedure). u.body) first);
-        },
-        procedures_same ps qs (All-tail (λ (x : Procedure). IsSignatureThere i x.signature) p ps g) (All-tail (λ (x : Procedure). IsSignatureThere j x.signature) q qs o) rest,
-      )
+  procedure_same : (p q : Procedure) → IsSignatureThere i p.signature → IsSignatureThere j q.signature → procedure_unit i ls p ≡ procedure_unit j ms q
+      → SameProcedure e f (procedure_made p) (procedure_made q)
+  procedure_same p q g o s = record {
+    name = name_same tables p.signature.name q.signature.name g.0 o.0 (ap (λ (u : unit.Procedure). u.name) s);
+    param = name_same tables p.signature.param q.signature.param g.1 o.1 (ap (λ (u : unit.Procedure). u.param) s);
+    sessions = names_same tables p.signature.sessions q.signature.sessions g.2 o.2 (ap (λ (u : unit.Procedure). u.sessions) s);
+    body = code_at_same p.body q.body (ap (λ (u : unit.Procedure). u.body) s);
+  }
 
-  services_same : (xs ys : List Service) → All (λ s. IsThere i s.channel × IsThere i s.role) xs → All (λ s. IsThere j s.channel × IsThere j s.role) ys
-      → map (service_unit i ls) xs ≡ map (service_unit j ms) ys → AllZip (SameService e f) (map service_made xs) (map service_made ys)
-  services_same [] [] g o s = tt
-  services_same [] (y ∷ ys) g o s = absurd cc
-  services_same (x ∷ xs) [] g o s = absurd cc
-  services_same (x ∷ xs) (y ∷ ys) g o s =
-      let first : service_unit i ls x ≡ service_unit j ms y = cc in
-      let rest : map (service_unit i ls) xs ≡ map (service_unit j ms) ys = cc in
-      let h = All-head (λ (z : Service). IsThere i z.channel × IsThere i z.role) x xs g in
-      let k = All-head (λ (z : Service). IsThere j z.channel × IsThere j z.role) y ys o in (
-        record {
-          channel = name_same tables x.channel y.channel h.0 k.0 (ap (λ (u : unit.Service). u.channel) first);
-          role = name_same tables x.role y.role h.1 k.1 (ap (λ (u : unit.Service). u.role) first);
-          body = code_at_same x.body y.body (ap (λ (u : unit.Service). u.body) first);
-        },
-        services_same xs ys (All-tail (λ (z : Service). IsThere i z.channel × IsThere i z.role) x xs g) (All-tail (λ (z : Service). IsThere j z.channel × IsThere j z.role) y ys o) rest,
-      )
+  service_same : (x y : Service) → IsThere i x.channel × IsThere i x.role → IsThere j y.channel × IsThere j y.role → service_unit i ls x ≡ service_unit j ms y
+      → SameService e f (service_made x) (service_made y)
+  service_same x y g o s = record {
+    channel = name_same tables x.channel y.channel g.0 o.0 (ap (λ (u : unit.Service). u.channel) s);
+    role = name_same tables x.role y.role g.1 o.1 (ap (λ (u : unit.Service). u.role) s);
+    body = code_at_same x.body y.body (ap (λ (u : unit.Service). u.body) s);
+  }
 
-  processes_same : (ps qs : List Process) → All (λ p. IsThere i p.name) ps → All (λ p. IsThere j p.name) qs
-      → map (process_unit i ls) ps ≡ map (process_unit j ms) qs → AllZip (SameProcess e f) (map process_made ps) (map process_made qs)
-  processes_same [] [] g o s = tt
-  processes_same [] (q ∷ qs) g o s = absurd cc
-  processes_same (p ∷ ps) [] g o s = absurd cc
-  processes_same (p ∷ ps) (q ∷ qs) g o s =
-      let first : process_unit i ls p ≡ process_unit j ms q = cc in
-      let rest : map (process_unit i ls) ps ≡ map (process_unit j ms) qs = cc in
-      let h = All-head (λ (x : Process). IsThere i x.name) p ps g in
-      let k = All-head (λ (x : Process). IsThere j x.name) q qs o in (
-        record {
-          name = name_same tables p.name q.name h k (ap (λ (u : unit.Process). u.name) first);
-          body = code_at_same p.body q.body (ap (λ (u : unit.Process). u.body) first);
-        },
-        processes_same ps qs (All-tail (λ (x : Process). IsThere i x.name) p ps g) (All-tail (λ (x : Process). IsThere j x.name) q qs o) rest,
-      )
+  process_same : (p q : Process) → IsThere i p.name → IsThere j q.name → process_unit i ls p ≡ process_unit j ms q → SameProcess e f (process_made p) (process_made q)
+  process_same p q g o s = record {
+    name = name_same tables p.name q.name g o (ap (λ (u : unit.Process). u.name) s);
+    body = code_at_same p.body q.body (ap (λ (u : unit.Process). u.body) s);
+  }
+
+-- lists of units that are written alike, where units that are written alike are made into the same
+made_alike : {W U M : Type 0} (P Q : W → Type 0) (f g : W → U) (make : W → M) (R : M → M → Type 0) → ((x y : W) → P x → Q y → f x ≡ g y → R (make x) (make y))
+    → (xs ys : List W) → All P xs → All Q ys → map f xs ≡ map g ys → AllZip R (map make xs) (map make ys)
+made_alike P Q f g make R each [] [] a b s = tt
+made_alike P Q f g make R each [] (y ∷ ys) a b s = absurd cc
+made_alike P Q f g make R each (x ∷ xs) [] a b s = absurd cc
+made_alike P Q f g make R each (x ∷ xs) (y ∷ ys) a b s =
+    let first : f x ≡ g y = cc in
+    let rest : map f xs ≡ map g ys = cc in
+    (each x y (All-head P x xs a) (All-head Q y ys b) first, made_alike P Q f g make R each xs ys (All-tail P x xs a) (All-tail Q y ys b) rest)
 
 module _ (hosts : List (List ℕ)) (bytes : List ℕ) (e f : Endpoints) (p : AreProgramsOf hosts bytes e) (q : AreProgramsOf hosts bytes f) where
   abbrev i : Input
@@ -154,10 +124,10 @@ module _ (hosts : List (List ℕ)) (bytes : List ℕ) (e f : Endpoints) (p : Are
   are_same =
       let lines = p.fine.there.lines in
       let others = q.fine.there.lines in
-      let channels = channels_same hosts tables w v p.made q.made lines others w.channels v.channels p.fine.there.channels q.fine.there.channels (ap (λ (u : unit.Units). u.channels) same_units) in
-      let procedures = procedures_same hosts tables w v p.made q.made lines others w.procedures v.procedures p.fine.there.procedures q.fine.there.procedures (ap (λ (u : unit.Units). u.procedures) same_units) in
-      let services = services_same hosts tables w v p.made q.made lines others w.services v.services p.fine.there.services q.fine.there.services (ap (λ (u : unit.Units). u.services) same_units) in
-      let processes = processes_same hosts tables w v p.made q.made lines others w.processes v.processes p.fine.there.processes q.fine.there.processes (ap (λ (u : unit.Units). u.processes) same_units) in
+      let channels = made_alike _ _ (channel_unit i) (channel_unit j) channel_made (SameChannel e f) (channel_same hosts tables w v p.made q.made lines others) w.channels v.channels p.fine.there.channels q.fine.there.channels (ap (λ (u : unit.Units). u.channels) same_units) in
+      let procedures = made_alike _ _ (procedure_unit i w.lines.items) (procedure_unit j v.lines.items) procedure_made (SameProcedure e f) (procedure_same hosts tables w v p.made q.made lines others) w.procedures v.procedures p.fine.there.procedures q.fine.there.procedures (ap (λ (u : unit.Units). u.procedures) same_units) in
+      let services = made_alike _ _ (service_unit i w.lines.items) (service_unit j v.lines.items) service_made (SameService e f) (service_same hosts tables w v p.made q.made lines others) w.services v.services p.fine.there.services q.fine.there.services (ap (λ (u : unit.Units). u.services) same_units) in
+      let processes = made_alike _ _ (process_unit i w.lines.items) (process_unit j v.lines.items) process_made (SameProcess e f) (process_same hosts tables w v p.made q.made lines others) w.processes v.processes p.fine.there.processes q.fine.there.processes (ap (λ (u : unit.Units). u.processes) same_units) in
       record {
         channels = both_made (SameChannel e f) e.channels f.channels (map channel_made w.channels) (map channel_made v.channels) p.made.channels q.made.channels channels;
         procedures = both_made (SameProcedure e f) e.procedures f.procedures (map procedure_made w.procedures) (map procedure_made v.procedures) p.made.procedures q.made.procedures procedures;

@@ -75,7 +75,7 @@ module _ (e e' : Endpoints) (i : Input) (names_are : e'.names ≡ i.names.now) (
   mutual
     pub body_same : (c : CodeTree) (b : body.Body) → BodySays e c (written_body i b) → IsCodeSpelled e c → IsBodyThere i b → SameCode N T c (code_of b)
     body_same c (body.Does d rest) (does {a = a} {c = q} p r) h g = same.does (action_same a d p h.0 g.0) (body_same q rest r h.1 g.1)
-    body_same c (body.Offers k a others) (offers {arms = arms} p q r) h g = same.offers (said k h.0 p) (said a h.1 q) (arms_same arms others r h.2 g)
+    body_same c (body.Offers k a others) (offers {arms = arms} p q r) h g = same.offers (said k h.0 p) (said a h.1 q) (arms_same arms others r h.2 g.2)
     body_same c (body.Tests t first second) (tests {t = u} {c = q} {d = p} o a b) h g =
         same.tests (term_same e e' i names_are texts_are u (term_of t) h.0 g.0 o) (body_same q first a h.1 g.1) (body_same p second b h.2 g.2)
     body_same c (body.Calls at sig) (calls {ss = ss} p q o) h g = same.calls (said sig.name h.0 p) (said sig.param h.1 q) (all_said ss sig.sessions h.2 o)
@@ -84,4 +84,4 @@ module _ (e e' : Endpoints) (i : Input) (names_are : e'.names ≡ i.names.now) (
     arms_same : (arms : Arms) (others : body.Arms) → ArmsSay e arms (written_arms i others) → AreArmsSpelled e arms → AreArmsThere i others → SameArms N T arms (arms_of others)
     arms_same arms body.NoArms no_arm h g = same.no_arm
     arms_same arms (body.Arm l b others) (one_arm {c = c} {arms = rest} p q r) h g =
-        same.one_arm (said l h.0 p) (body_same c b q h.1 g.0) here (arms_same rest others r h.2 g.1)
+        same.one_arm (said l h.0 p) (body_same c b q h.1 g.1) here (arms_same rest others r h.2 g.2)
