@@ -1,11 +1,13 @@
 -- Entries of names as a finite map.
-use Rattle.std.proofs.Common.{◌≡◌, ℕ, suc, ◌-◌, ◌<◌, length, drop, true, false, cond, List, [], ◌∷◌, refl, sym, ap, ◌∙◌, Some, None, arith, ◌==◌, ◌⊎◌, ◌≤◌, is_some, inl, inr}
+use Rattle.std.proofs.Common.{◌≡◌, ℕ, suc, ◌-◌, ◌<◌, length, drop, Bool, true, false, cond, List, [], ◌∷◌, refl, sym, ap, ◌∙◌, Option, Some, None, arith, ◌==◌, ◌⊎◌, ◌≤◌, is_some, inl, inr}
 use Rattle.std.specs.Prelude.{map, slice_get}
 use Rattle.std.proofs.lemmas.Option.{slice_get_within, get_or_from_slice_get}
 use Rattle.std.proofs.Math.Seq.{drop-cons}
 use Rattle.std.specs.Ordering.{nat_cmp, eq_by_cmp}
 use Rattle.std.specs.Map.{lookup}
 use Rattle.std.specs.FinMap as fin
+use Rattle.std.specs.Map.{keys_of}
+use Rattle.indexmap.specs.IndexMap.{set_value_at}
 use Rattle.std.proofs.lemmas.Cmp.{nat_cmp_total}
 use Rattle.std.proofs.lemmas.Bool.Decides.{nat_tests}
 use Rattle.chor_base.specs.declared.names.NameId.{NameId}
@@ -37,6 +39,28 @@ put_found old new x v h = fin.same_map nat_cmp_total fin.nat_cmp-IsAntisymmetric
 
 pub no_room : {V : Type 0} (es : List (NameId × V)) (x : NameId) (n : ℕ) → lookup (λ k. x.0 == k.0) es ≡ None → (1 ≤ n → ⊥) → ((is_some (fin.get (map_of es) x.0) ≡ true) ⊎ (1 ≤ n)) → ⊥
 no_room es x n absent none some = elim some [ inl h ↦ (let e : is_some (fin.get (map_of es) x.0) ≡ false = ap is_some (get_found es x ∙ absent) in cc) | inr h ↦ none h ]
+
+-- ---- the first entry
+
+-- a name that is the first stands for what the first entry has
+pub first_found : {V : Type 0} (es : List (NameId × V)) (x k : NameId) (v : V) → Some (k, v) ≡ slice_get es 0 → (k.0 == x.0) ≡ true → lookup (λ j. x.0 == j.0) es ≡ Some v
+first_found [] x k v at h = absurd cc
+first_found (e ∷ es) x k v at h =
+    let same : e ≡ (k, v) = cc in
+    let turned : (x.0 == k.0) ≡ true = grind (arith, nat_tests) in
+    ap (λ f. lookup (λ j. x.0 == j.0) (f ∷ es)) same ∙ ap (λ b. cond b (Some v) (lookup (λ j. x.0 == j.0) es)) turned
+
+put_over : {V : Type 0} (v w : V) (rest : Option V) (a b : Bool) → b ≡ a → cond a (Some v) rest ≡ cond b (Some v) (cond a (Some w) rest)
+put_over v w rest true b h = sym (ap (λ t. cond t (Some v) (Some w)) h)
+put_over v w rest false b h = sym (ap (λ t. cond t (Some v) rest) h)
+
+-- where the first entry's value becomes another, its name stands for that
+pub first_put : {V : Type 0} (es : List (NameId × V)) (x : NameId) (v : V) → slice_get (keys_of es) 0 ≡ Some x → (q : NameId) → lookup (λ k. q.0 == k.0) (set_value_at es 0 v) ≡ cond (x.0 == q.0) (Some v) (lookup (λ k. q.0 == k.0) es)
+first_put [] x v at q = absurd cc
+first_put (e ∷ es) x v at q =
+    let same : e.0 ≡ x = cc in
+    let number : e.0.0 ≡ x.0 = ap (λ (n : NameId). n.0) same in
+    put_over v e.1 (lookup (λ k. q.0 == k.0) es) (q.0 == e.0.0) (x.0 == q.0) (grind (arith, nat_tests))
 
 -- ---- a copy, made from the last entry to the first
 

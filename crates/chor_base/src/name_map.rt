@@ -1,6 +1,7 @@
 //! Finite maps from names.
 
-ghost use Rattle.std.specs.Prelude.{◌≡◌, ◌≤◌, ◌+◌, ◌⊎◌, IfOk, OnOk, IsOk, IsTrue, is_some, true};
+ghost use Rattle.std.specs.Prelude.{◌≡◌, ◌≤◌, ◌+◌, ◌⊎◌, IfOk, OnOk, IsOk, IsTrue, is_some, true, Some, ◌<◌, slice_get};
+ghost use Rattle.indexmap.specs.IndexMap.{keys, index_map_len, with_value_at};
 ghost use Rattle.std.specs.Ordering.{nat_cmp};
 ghost use Rattle.std.specs.FinMap as fin;
 
@@ -35,6 +36,27 @@ impl<V> Model for NameMap<V> {
     ghost view = { λ a. record { map = map_of a.entries.entries; spare = spare a.entries } };
 }
 
+// Whether a name is the first of these.
+fn is_first<V>(entries: &IndexMap<NameId, V>, name: NameId) -> bool
+    ensures { result ≡ true → slice_get (keys entries.now) 0 ≡ Some name }
+{
+    match entries.get_index(0) {
+        Some((first, _)) => *first == name,
+        None => false,
+    }
+}
+
+// The first of these stands for something else.
+fn put_first<V: Copy>(entries: &mut IndexMap<NameId, V>, value: V)
+    requires { 0 < index_map_len entries.old }
+    ensures { entries.new ≡ with_value_at entries.old 0 value }
+{
+    match entries.get_index_mut(0) {
+        Some(first) => *first = value,
+        None => unreachable!(),
+    }
+}
+
 impl<V> NameMap<V> {
     /// No name stands for anything. It takes no memory.
     pub fn new(alloc: Global) -> Self
@@ -62,11 +84,14 @@ impl<V: Copy> NameMap<V> {
         Ok(NameMap { entries })
     }
 
-    /// What a name stands for, if anything.
+    /// What a name stands for, if anything. The name that came first is found without a hash.
     pub fn get(&self, name: NameId) -> Option<V>
         ensures { result ≡ fin.get self.now.map name.0 }
     {
-        self.entries.get(&name).copied()
+        match self.entries.get_index(0) {
+            Some((first, value)) if *first == name => Some(*value),
+            _ => self.entries.get(&name).copied(),
+        }
     }
 
     /// Takes memory for one name more. Afterwards `set` of any name takes none.
@@ -86,6 +111,10 @@ impl<V: Copy> NameMap<V> {
         ensures map { self.new.map ≡ fin.insert self.old.map name.0 value }
         ensures spare { self.old.spare ≤ self.new.spare + 1 }
     {
+        if is_first(&self.entries, name) {
+            put_first(&mut self.entries, value);
+            return;
+        }
         match self.entries.insert(name, value) {
             Ok(_) => {}
             Err(_) => unreachable!(),
