@@ -1,6 +1,6 @@
 -- Bindings as a finite map.
 use Rattle.std.proofs.Common.{◌≡◌, ℕ, ◌+◌, ◌<◌, ◌≤◌, length, drop, Bool, true, false, cond, not, List, [], ◌∷◌, ◌++◌, refl, sym, ap, ◌∙◌, Option, Some, None, arith, ◌==◌}
-use Rattle.std.specs.Prelude.{map, filter, slice_index_or}
+use Rattle.std.specs.Prelude.{map, filter, slice_get, slice_index_or}
 use Rattle.std.proofs.lemmas.List.{drop_more, drop_all}
 use Rattle.std.specs.Ordering.{nat_cmp, eq_by_cmp}
 use Rattle.std.specs.FinMap as fin
@@ -89,6 +89,14 @@ put_last bs b = same_sessions _ _ (λ q.
     go q true h = lookup_push rest b q (lookup_without bs b.session.0 q ∙ ap (λ t. cond t None (lookup bs q)) h) ∙ ap (λ t. cond t (Some (b.sid, b.role)) None) h
     go q false h = lookup_before rest b q h ∙ lookup_without bs b.session.0 q ∙ ap (λ t. cond t None (lookup bs q)) h
 
+-- the first binding is the one of its name
+pub found_first : (bs : List Binding) (q : ℕ) (b : Binding) → Some b ≡ slice_get bs 0 → (b.session.0 == q) ≡ true → lookup bs q ≡ Some (b.sid, b.role)
+found_first [] q b at h = absurd cc
+found_first (a ∷ bs) q b at h = let same : b ≡ a = cc in ap (λ (z : Binding). lookup (z ∷ bs) q) (sym same) ∙ taken _ _ _ h
+  where
+    taken : {X : Type 0} (t : Bool) (u v : X) → t ≡ true → cond t u v ≡ u
+    taken t u v e = ap (λ (w : Bool). cond w u v) e
+
 -- ---- turns of loops
 
 taken : {X : Type 0} (t : Bool) (a b : X) → t ≡ true → cond t a b ≡ a
@@ -162,8 +170,9 @@ kept p n b hp hn =
     ∙ ap (λ (k : ℕ). fin.insert fin.empty k (b.sid, b.role)) same
     ∙ sym (put_last [] b)
 
-pub kept_passed : (params names : List NameId) (bs : List Binding) (d : NameId) (z : Binding) → length params ≡ 1 → length names ≡ 1 → length bs ≡ 1 → z ≡ slice_index_or bs 0 z → ((slice_index_or params 0 d).0 == z.session.0) ≡ true → ((slice_index_or names 0 d).0 == z.session.0) ≡ true → passed params names (sessions_of bs) ≡ sessions_of bs
-kept_passed (p ∷ []) (n ∷ []) (b ∷ []) d z lp ln lb at hp hn = kept p n b (ap (λ (a : Binding). p.0 == a.session.0) (sym at) ∙ hp) (ap (λ (a : Binding). n.0 == a.session.0) (sym at) ∙ hn)
+pub kept_passed : (params names : List NameId) (bs : List Binding) (d : NameId) (z : Binding) → length params ≡ 1 → length names ≡ 1 → length bs ≡ 1 → Some z ≡ slice_get bs 0 → ((slice_index_or params 0 d).0 == z.session.0) ≡ true → ((slice_index_or names 0 d).0 == z.session.0) ≡ true → passed params names (sessions_of bs) ≡ sessions_of bs
+kept_passed (p ∷ []) (n ∷ []) (b ∷ []) d z lp ln lb at hp hn =
+    let same : b ≡ z = cc in kept p n b (ap (λ (a : Binding). p.0 == a.session.0) same ∙ hp) (ap (λ (a : Binding). n.0 == a.session.0) same ∙ hn)
 kept_passed [] names bs d z lp ln lb at hp hn = absurd cc
 kept_passed (p ∷ q ∷ params) names bs d z lp ln lb at hp hn = absurd (omega (arith, lp))
 kept_passed (p ∷ []) [] bs d z lp ln lb at hp hn = absurd cc

@@ -183,8 +183,11 @@ impl Machine {
         else {
             return;
         };
-        let place = place_from(procedures, self.called, *name, *param);
-        if let Some(place) = place.or(place_from(procedures, 0, *name, *param)) {
+        let place = match place_from(procedures, self.called, *name, *param) {
+            Some(place) => Some(place),
+            None => place_from(procedures, 0, *name, *param),
+        };
+        if let Some(place) = place {
             self.called = place;
         }
     }

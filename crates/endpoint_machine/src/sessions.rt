@@ -21,6 +21,8 @@ pub struct Binding {
 #[derive(Drop)]
 pub struct Bindings {
     items: Vec<Binding>,
+    // The first of them once more, so that a look at it needs no memory of the list.
+    first: Option<Binding>,
 }
 
 impl Model for Bindings {
@@ -36,6 +38,10 @@ impl Model for Bindings {
     ghost coded = { Prim.hlevel (codes, fin.code) };
 
     ghost view = { λ a. record { map = sessions_of a.items.items; spare = vec_capacity a.items - vec_len a.items } };
+
+    ghost use Rattle.std.specs.Prelude.{◌≡◌, slice_get};
+
+    ghost invariant = { λ a. a.first ≡ slice_get a.items.items 0 };
 }
 
 // Drops the bindings of a name.
@@ -54,6 +60,7 @@ impl Bindings {
     {
         Bindings {
             items: Vec::new(alloc),
+            first: None,
         }
     }
 
@@ -61,6 +68,11 @@ impl Bindings {
     pub fn get(&self, name: NameId) -> Option<(u32, NameId)>
         ensures { result ≡ fin.get self.now.map name.0 }
     {
+        if let Some(first) = self.first {
+            if first.session == name {
+                return Some((first.sid, first.role));
+            }
+        }
         for binding in &self.items {
             if binding.session == name {
                 return Some((binding.sid, binding.role));
@@ -86,6 +98,7 @@ impl Bindings {
         ensures kept { self.old.spare ≤ self.new.spare }
     {
         forget(&mut self.items, name);
+        self.first = self.items.first().copied();
     }
 
     /// Lets a name stand for a role of a session.
@@ -104,6 +117,7 @@ impl Bindings {
             Ok(()) => {}
             Err(_) => unreachable!(),
         }
+        self.first = self.items.first().copied();
     }
 
     // Lets no name stand for anything.
@@ -112,6 +126,7 @@ impl Bindings {
         ensures kept { self.old.spare ≤ self.new.spare }
     {
         self.items.clear();
+        self.first = None;
     }
 
     /// Whether the one name here is the one that a call passes, and its procedure's name too. Then the
@@ -119,11 +134,13 @@ impl Bindings {
     pub fn is_kept(&self, params: &[NameId], names: &[NameId]) -> bool
         ensures { result ≡ true → passed params.now names.now self.now.map ≡ self.now.map }
     {
+        let Some(first) = self.first else {
+            return false;
+        };
         if params.len() != 1 || names.len() != 1 || self.items.len() != 1 {
             return false;
         }
-        let session = self.items[0].session;
-        params[0] == session && names[0] == session
+        params[0] == first.session && names[0] == first.session
     }
 
     /// The sessions that a call passes under its procedure's names, and no others.
