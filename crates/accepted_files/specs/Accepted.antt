@@ -12,7 +12,7 @@ use Rattle.endpoint_code.specs.NetworkRuns.{IsNetworkRun, all_ended}
 use Rattle.well_formed.specs.Asked.{IsAnswered}
 use Rattle.well_formed.specs.Linear.{ParameterSets}
 use Rattle.typing_rules.specs.Guarded.{IsGuarded}
-use Rattle.conforming_runs.specs.History.{SessionsConform, SessionsEnd}
+use Rattle.typed_runs.specs.History.{SessionsConform, SessionsEnd}
 use Rattle.typed_sources.specs.Stands.{kind_in, states_in}
 use Rattle.typed_sources.specs.Laws.{IsAccepted}
 use Rattle.linearity.specs.OrderFaults.{IsOrderFault}

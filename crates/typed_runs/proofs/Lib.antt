@@ -4,3 +4,11 @@ pub mod PastNodes
 pub mod AtHead
 pub mod StepsKept
 pub mod OnePath
+pub mod Renamed
+pub mod StartsRenamed
+pub mod NewNumbers
+pub mod Started
+pub mod StartKept
+pub mod Roots
+pub mod Conforming
+pub mod NeverStuck

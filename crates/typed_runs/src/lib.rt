@@ -1,2 +1,4 @@
-//! Typed choreographies that run: what is known at each node, and what each event of one process changes.
+//! What is known at each node of a typed choreography that runs. Each event and each start keep it
+//! typed, also under other references; its sessions follow their protocols, and something can happen
+//! until its end.
 #![tactic(auto)]

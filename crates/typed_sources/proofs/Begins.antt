@@ -18,7 +18,7 @@ use Rattle.typed_runs.specs.Context.{Context}
 use Rattle.typed_runs.specs.Typing.{HasProtocol, HasEnded}
 use Rattle.typed_runs.specs.Changes.{HoldersInScope}
 use Rattle.typed_runs.proofs.Small.{on_or_off}
-use Rattle.typed_starts.specs.Renames.{Renames}
+use Rattle.typed_runs.specs.Renames.{Renames}
 use Rattle.typed_sources.specs.Stands.{states_in, at, holder_at, protocol_at, Stands}
 use Rattle.typed_sources.proofs.Checked.{some_is}
 use Rattle.typed_sources.specs.Calls.{IsTypedCall}

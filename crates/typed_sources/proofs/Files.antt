@@ -23,13 +23,13 @@ use Rattle.typing_rules.specs.Environment.{at_main}
 use Rattle.typed_runs.specs.Context.{Context}
 use Rattle.typed_runs.specs.Typing.{IsTypedIn, AllEnded, Reaches}
 use Rattle.typed_runs.proofs.Small.{on_or_off}
-use Rattle.conforming_runs.specs.History.{nothing_told, told_after, SessionsConform, SessionsEnd}
-use Rattle.conforming_runs.proofs.NeverStuck.{IsBare, never_stuck}
+use Rattle.typed_runs.specs.History.{nothing_told, told_after, SessionsConform, SessionsEnd}
+use Rattle.typed_runs.proofs.NeverStuck.{IsBare, never_stuck}
 use Rattle.well_formed.specs.Asked.{AllAsked, CanAnswer, IsAnswered}
-use Rattle.conforming_runs.specs.Going.{CanStep, IsNoCall}
+use Rattle.typed_runs.specs.Going.{CanStep, IsNoCall}
 use Rattle.well_formed.proofs.Asked.{asked_bodies, asked_instance, asked_along}
-use Rattle.conforming_runs.proofs.Roots.{IsRoot}
-use Rattle.conforming_runs.proofs.Conforming.{Holds, run_holds, run_told, conforms, conforms_and_ended}
+use Rattle.typed_runs.proofs.Roots.{IsRoot}
+use Rattle.typed_runs.proofs.Conforming.{Holds, run_holds, run_told, conforms, conforms_and_ended}
 use Rattle.typed_sources.specs.Stands.{kind_in, states_in}
 use Rattle.typed_sources.proofs.Statements.{ProtocolsFit}
 use Rattle.typed_sources.specs.Calls.{AreAsDeclared, IsTypedCall}

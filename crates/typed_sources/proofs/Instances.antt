@@ -11,7 +11,7 @@ use Rattle.well_formed.proofs.References.{self_ref, same_ref, true_eq, left_or, 
 use Rattle.typed_runs.specs.Context.{Context, bound_to, unset, after}
 use Rattle.typed_runs.specs.Typing.{HasProtocol, AllKnown, AllNew, HasEnded}
 use Rattle.typed_runs.proofs.Small.{on_or_off}
-use Rattle.typed_starts.specs.Renames.{Renames}
+use Rattle.typed_runs.specs.Renames.{Renames}
 use Rattle.typed_sources.specs.Stands.{kind_in, states_in}
 use Rattle.typed_sources.proofs.Depths.{among_deep, less_not}
 

@@ -15,7 +15,7 @@ use Rattle.typing_rules.specs.Environment.{at_main}
 use Rattle.typed_runs.specs.Context.{Context}
 use Rattle.typed_runs.specs.Changes.{HoldersInScope}
 use Rattle.typed_runs.proofs.Small.{on_or_off}
-use Rattle.typed_starts.specs.Renames.{Renames, Stays}
+use Rattle.typed_runs.specs.Renames.{Renames, Stays}
 use Rattle.typed_sources.specs.Stands.{states_in, Stands}
 use Rattle.typed_sources.proofs.Statements.{ProtocolsFit}
 use Rattle.typed_sources.specs.Calls.{IsTypedCall}

@@ -14,7 +14,7 @@ use Rattle.chor_semantics.specs.Runs.{IsTerminated, ended, nobody, quiet, called
 use Rattle.typed_runs.specs.Context.{Context}
 use Rattle.typed_runs.specs.Typing.{AtCalls, IsTypedIn, AllKnown}
 use Rattle.well_formed.specs.Asked.{AllAsked, CanAnswer}
-use Rattle.conforming_runs.specs.Going.{CanStep, IsNoCall}
+use Rattle.typed_runs.specs.Going.{CanStep, IsNoCall}
 
 -- nothing but numbers is in scope
 pub record IsBare (e : Context) : Type 0 where

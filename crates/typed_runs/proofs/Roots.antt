@@ -25,7 +25,7 @@ use Rattle.typed_runs.proofs.SortedValues.{Agrees}
 use Rattle.typed_runs.proofs.PastNodes.{role_same, setting_out}
 use Rattle.typed_runs.proofs.Small.{on_or_off}
 use Rattle.typed_runs.proofs.StepsKept.{is_start}
-use Rattle.typed_starts.proofs.Started.{some_same, not_both}
+use Rattle.typed_runs.proofs.Started.{some_same, not_both}
 
 -- nothing but numbers below the counters is in scope, and variables have values of their sorts
 pub record IsRoot (vars : List Variables) (sid : ℕ) (e : Context) : Type 0 where

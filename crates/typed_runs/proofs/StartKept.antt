@@ -19,10 +19,10 @@ use Rattle.typed_runs.specs.Typing.{HasProtocol, IsTypedContent, IsTypedMessage,
 use Rattle.typed_runs.specs.Changes.{lives, started, HoldersInScope, NumbersAreNew}
 use Rattle.typed_runs.proofs.PastNodes.{role_same, same_context, not_service}
 use Rattle.typed_runs.proofs.Small.{on_or_off}
-use Rattle.typed_starts.specs.Renames.{Renames, Stays}
-use Rattle.typed_starts.proofs.Renamed.{value_told}
-use Rattle.typed_starts.proofs.NewNumbers.{live_active}
-use Rattle.typed_starts.proofs.Started.{some_same, pids, no_named, begun_typed}
+use Rattle.typed_runs.specs.Renames.{Renames, Stays}
+use Rattle.typed_runs.proofs.Renamed.{value_told}
+use Rattle.typed_runs.proofs.NewNumbers.{live_active}
+use Rattle.typed_runs.proofs.Started.{some_same, pids, no_named, begun_typed}
 
 abbrev pub is_part : Ref → List (Ref × NameId) → Type 0
 is_part q parts = among q (map (λ p. p.0) parts) ≡ true

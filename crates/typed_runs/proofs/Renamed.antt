@@ -20,7 +20,7 @@ use Rattle.typed_runs.specs.Told.{Told, Act, receiving}
 use Rattle.typed_runs.specs.Context.{Context, Hands, handed, SetsSort, put_sort, with_setting, after, exchanged, more_in, told_content, told_load, told_value, told_sort, told_part, sort_in}
 use Rattle.typed_runs.specs.Typing.{HasProtocol, AllKnown, IsTypedNode, AllEnded, HasEnded}
 use Rattle.typed_runs.proofs.Small.{append_nil}
-use Rattle.typed_starts.specs.Renames.{Renames}
+use Rattle.typed_runs.specs.Renames.{Renames}
 
 -- ---- sorts
 

@@ -11,8 +11,8 @@ use Rattle.well_formed.proofs.References.{self_ref, same_ref, differ_ref, turned
 use Rattle.typed_runs.specs.Context.{Context, bound_to, unset, after}
 use Rattle.typed_runs.specs.Typing.{HasProtocol, AllKnown, AllNew, IsNotEmpty, IsTypedNode, AtCalls, IsTypedIn, HasEnded}
 use Rattle.typed_runs.proofs.Small.{on_or_off}
-use Rattle.typed_starts.specs.Renames.{Renames, Stays}
-use Rattle.typed_starts.proofs.Renamed.{sort_more, renamed_communication, renamed_transit, renamed_own, renamed_end}
+use Rattle.typed_runs.specs.Renames.{Renames, Stays}
+use Rattle.typed_runs.proofs.Renamed.{sort_more, renamed_communication, renamed_transit, renamed_own, renamed_end}
 
 true_or_false : (b : Bool) → b ≡ true → b ≡ false → ⊥
 true_or_false b i j = cc

@@ -27,11 +27,11 @@ use Rattle.typed_runs.specs.Changes.{Change, changed, change_of, event_acts, loa
 use Rattle.typed_runs.proofs.SortedValues.{Agrees}
 use Rattle.typed_runs.proofs.StepsKept.{is_start, kept, change_same}
 use Rattle.typed_runs.proofs.OnePath.{one_path}
-use Rattle.typed_starts.specs.Renames.{Renames, Stays}
-use Rattle.typed_starts.proofs.Started.{not_both, pids, pids_append, no_named}
-use Rattle.typed_starts.proofs.StartKept.{Began, start_kept, first_among}
-use Rattle.conforming_runs.specs.History.{Account, told_by, told_after, IsTold, AllTold}
-use Rattle.conforming_runs.proofs.Roots.{IsRoot, split, root_changed, below, not_start, same_sid, assigned_long, agrees_after}
+use Rattle.typed_runs.specs.Renames.{Renames, Stays}
+use Rattle.typed_runs.proofs.Started.{not_both, pids, pids_append, no_named}
+use Rattle.typed_runs.proofs.StartKept.{Began, start_kept, first_among}
+use Rattle.typed_runs.specs.History.{Account, told_by, told_after, IsTold, AllTold}
+use Rattle.typed_runs.proofs.Roots.{IsRoot, split, root_changed, below, not_start, same_sid, assigned_long, agrees_after}
 
 -- ---- new processes
 

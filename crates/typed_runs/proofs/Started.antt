@@ -12,9 +12,9 @@ use Rattle.typed_runs.specs.Context.{Context, bound_to, after}
 use Rattle.typed_runs.specs.Typing.{HasProtocol, AllNew, AtCalls, IsTypedIn, HasEnded}
 use Rattle.typed_runs.specs.Changes.{lives, started, HoldersInScope, NumbersAreNew}
 use Rattle.typed_runs.proofs.Small.{on_or_off}
-use Rattle.typed_starts.specs.Renames.{Renames, Stays}
-use Rattle.typed_starts.proofs.StartsRenamed.{put_typed}
-use Rattle.typed_starts.proofs.NewNumbers.{number_on, number_off, numbers_live, numbers_off, numbers_new, numbers_apart, live_active, first_new}
+use Rattle.typed_runs.specs.Renames.{Renames, Stays}
+use Rattle.typed_runs.proofs.StartsRenamed.{put_typed}
+use Rattle.typed_runs.proofs.NewNumbers.{number_on, number_off, numbers_live, numbers_off, numbers_new, numbers_apart, live_active, first_new}
 
 pub some_same : (a b : Ref) → ◌≡◌ {A = Option Ref} (Some a) (Some b) → a ≡ b
 some_same a b h = cc

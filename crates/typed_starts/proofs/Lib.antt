@@ -1,5 +1,0 @@
-pub mod Renamed
-pub mod StartsRenamed
-pub mod NewNumbers
-pub mod Started
-pub mod StartKept

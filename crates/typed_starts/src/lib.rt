@@ -1,2 +1,0 @@
-//! Typed choreographies stay typed under other references, and by each start.
-#![tactic(auto)]
