@@ -17,7 +17,7 @@ use Rattle.endpoint_code.specs.declared.endpoints.Channel.{Channel}
 use Rattle.endpoint_code.specs.declared.endpoints.Endpoints.{Endpoints}
 use Rattle.endpoint_code.specs.Network.{Machine, NetworkState, Place, Sessions, place_of, node_at, channel_of, queue_of}
 use Rattle.endpoint_code.specs.NetworkRuns.{ends_there, has_ended, all_ended}
-use Rattle.pruning.specs.Follows.{SessionMap, Act, Agrees, HoldsAt, place_after, act_of, fork_of, BothHold, Stands, standing, HoldsOf, follows_act, follows_test, follows_call, Follows}
+use Rattle.well_formed.specs.Follows.{SessionMap, Act, Agrees, HoldsAt, place_after, act_of, fork_of, BothHold, Stands, standing, HoldsOf, follows_act, follows_test, follows_call, Follows}
 use Rattle.well_formed.specs.WellFormed.{Scope, IsProcess, StartFits, NodeFits, CallFits, IsWellFormed}
 use Rattle.well_formed.specs.Linear.{ParameterSets}
 use Rattle.well_formed.specs.Holders.{ListedHolders}

@@ -13,7 +13,7 @@ use Rattle.chor_semantics.specs.Sources.{procedures_of, first_configuration, num
 use Rattle.endpoint_code.specs.declared.endpoints.Process.{Process}
 use Rattle.endpoint_code.specs.declared.endpoints.Endpoints.{Endpoints}
 use Rattle.endpoint_code.specs.Network.{Machine, standing, standing_all, first_state}
-use Rattle.pruning.specs.Follows.{IsEqualUpToPruning}
+use Rattle.well_formed.specs.Follows.{IsEqualUpToPruning}
 use Rattle.well_formed.specs.WellFormed.{IsIn, names_in_scope, declared_scope, ArePlain}
 use Rattle.well_formed.specs.Linear.{ParameterSets, everyone}
 use Rattle.well_formed.specs.Holders.{ListedHolders, HoldersFit}

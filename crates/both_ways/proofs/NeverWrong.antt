@@ -17,7 +17,7 @@ use Rattle.endpoint_code.specs.declared.code.CodeNode.{CodeNode}
 use Rattle.endpoint_code.specs.declared.code.CodeNode.TheVariants as code
 use Rattle.endpoint_code.specs.declared.endpoints.Endpoints.{Endpoints}
 use Rattle.endpoint_code.specs.Network.{Machine, NetworkState, NetworkSteps, acts, Place, Taking, Goes, place_of, queue_of, arm_at, in_arm, takes_value, takes_label, takes_part, takes, takes_from, went, makes, machine_makes, place_makes, node_makes, PlaceAnswers, MachineAnswers, node_at}
-use Rattle.pruning.specs.Follows.{SessionMap, StandsFor, Act, Gets, Received, Into, Label, Part, message_received, act_of, Agrees, HoldsAt, place_after, arm_place, fork_of, NoFork}
+use Rattle.well_formed.specs.Follows.{SessionMap, StandsFor, Act, Gets, Received, Into, Label, Part, message_received, act_of, Agrees, HoldsAt, place_after, arm_place, fork_of, NoFork}
 use Rattle.well_formed.specs.WellFormed.{Scope, scope_after, IsPlain, NodeFits, MessageFits, TransitFits, IsWellFormed}
 use Rattle.correspondence.proofs.Next.{Next, here, skip, decides, fork, calls, next_more}
 use Rattle.well_formed.specs.Linear.{ParameterSets}

@@ -17,7 +17,7 @@ use Rattle.endpoint_code.specs.declared.code.CodeId.{CodeId}
 use Rattle.endpoint_code.specs.declared.endpoints.Channel.{Channel}
 use Rattle.endpoint_code.specs.declared.endpoints.Endpoints.{Endpoints}
 use Rattle.endpoint_code.specs.Network.{Sessions, Machine, NetworkState, Makes, node_joins, place_joins, joins, one_joiner, joiners, with_machines, served, served_parts, channel_of, begun, one_pair, paired, starts_with, channel_starts, starts, node_at, NetworkSteps, begins}
-use Rattle.pruning.specs.Follows.{SessionMap, Joins, joins as joins_act, act_of, Agrees, HoldsAt, place_after, Nothing, standing, HoldsOf, follows_act, follows_test, follows_call, Follows}
+use Rattle.well_formed.specs.Follows.{SessionMap, Joins, joins as joins_act, act_of, Agrees, HoldsAt, place_after, Nothing, standing, HoldsOf, follows_act, follows_test, follows_call, Follows}
 use Rattle.well_formed.specs.WellFormed.{Scope, scope_after, NodeFits, StartFits, CallFits, IsWellFormed}
 use Rattle.well_formed.specs.Linear.{ParameterSets}
 use Rattle.well_formed.specs.Holders.{ListedHolders}

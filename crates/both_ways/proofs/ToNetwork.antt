@@ -26,7 +26,7 @@ use Rattle.endpoint_code.specs.declared.endpoints.Channel.{Channel}
 use Rattle.endpoint_code.specs.declared.endpoints.Endpoints.{Endpoints}
 use Rattle.endpoint_code.specs.Network.{Sessions, Machine, NetworkState, Place, Makes, place_of, place_in, body_place, node_makes, place_makes, machine_makes, makes, moved, with_queue, queue_of, has_room, put_if, puts, part_load, takes, takes_from, went, takes_value, takes_label, takes_part, in_arm, Taking, Goes as GoesOn, arm_at, node_at, at_node as network_node, procedure_of, passed, PlaceAnswers, MachineAnswers, NetworkSteps, acts}
 use Rattle.endpoint_code.specs.Faults.{begins_with_call}
-use Rattle.pruning.specs.Follows.{SessionMap, StandsFor, passed as passed_names, Act, Puts, Gets, Does, Joins, Into, Label, Part, message_received, act_of, Agrees, Nowhere, HoldsAt, arm_place, place_after, Forks, fork_of, BothHold, Nothing, Body, standing, body_standing, HoldsOf, follows_act, follows_test, follows_call, Follows}
+use Rattle.well_formed.specs.Follows.{SessionMap, StandsFor, passed as passed_names, Act, Puts, Gets, Does, Joins, Into, Label, Part, message_received, act_of, Agrees, Nowhere, HoldsAt, arm_place, place_after, Forks, fork_of, BothHold, Nothing, Body, standing, body_standing, HoldsOf, follows_act, follows_test, follows_call, Follows}
 use Rattle.well_formed.specs.WellFormed.{Scope, IsProcess, scope_after, NodeFits, CommunicationFits, TransitFits, CallFits, IsWellFormed, IsPlain}
 use Rattle.well_formed.specs.Linear.{ParameterSets}
 use Rattle.well_formed.specs.Holders.{ListedHolders}

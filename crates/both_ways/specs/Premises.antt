@@ -15,7 +15,7 @@ use Rattle.endpoint_code.specs.declared.endpoints.Process.{Process}
 use Rattle.endpoint_code.specs.declared.endpoints.Endpoints.{Endpoints}
 use Rattle.endpoint_code.specs.Network.{NetworkState, queue_of, has_room, channel_of, procedure_of, node_at}
 use Rattle.endpoint_code.specs.Faults.{begins_with_call}
-use Rattle.pruning.specs.Follows.{IsEqualUpToPruning}
+use Rattle.well_formed.specs.Follows.{IsEqualUpToPruning}
 use Rattle.well_formed.specs.WellFormed.{Scope, AreDistinctRefs, AreDistinctRoles, CallFits, IsWellFormed, AllFit, names_in_scope, declared_scope}
 use Rattle.well_formed.specs.SourceTrees.{IsSource, AllSources}
 use Rattle.well_formed.specs.Guarded.{AllGuarded}

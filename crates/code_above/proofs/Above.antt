@@ -22,10 +22,9 @@ use Rattle.endpoint_code.specs.Above.{IsAbove, AreAbove, HasAbove}
 use Rattle.endpoint_code.specs.Labels.{has_label, HasDistinctLabels, AreDistinctArms}
 use Rattle.endpoint_code.specs.Network.{procedure_of, arm_at, node_at}
 use Rattle.endpoint_code.proofs.CodeTables.{code_at-node}
-use Rattle.endpoint_code.proofs.Decides.{name_same}
-use Rattle.pruning.specs.Follows.{SessionMap, Into, Label, Part, Act, Joins, Puts, Gets, Does, act_of, Agrees, At, HoldsAt, arm_place, place_after, fork_of, BothHold, standing, body_standing, passed, HoldsOf, follows_act, follows_test, follows_end, follows_call, follows_over, Follows}
+use Rattle.endpoint_code.proofs.Decides.{name_same, node_head, above_head}
+use Rattle.well_formed.specs.Follows.{SessionMap, Into, Label, Part, Act, Joins, Puts, Gets, Does, act_of, Agrees, At, HoldsAt, arm_place, place_after, fork_of, BothHold, standing, body_standing, passed, HoldsOf, follows_act, follows_test, follows_end, follows_call, follows_over, Follows}
 use Rattle.endpoint_code.specs.Covers.{IsCovered, IsUnitCovered, AreUnitsCovered}
-use Rattle.endpoint_code.proofs.Decides.{node_head, above_head}
 use Rattle.code_above.proofs.Nodes.{inv_join, inv_send, inv_recv, inv_pick, inv_branch, inv_throw, inv_catch, inv_set, inv_show, inv_host, inv_if, inv_call, inv_end, rest_above, arms_above, first_above, second_above, here_or_later, both_above, labelled, nothing_there}
 
 module _ (e e' : Endpoints) (units : AreUnitsCovered e e') where

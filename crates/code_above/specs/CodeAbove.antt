@@ -5,7 +5,7 @@ use Rattle.chor_semantics.specs.Sources.{Procedure}
 use Rattle.endpoint_code.specs.declared.code.CodeId.{CodeId}
 use Rattle.endpoint_code.specs.declared.endpoints.Endpoints.{Endpoints}
 use Rattle.endpoint_code.specs.Covers.{IsCovered, AreUnitsCovered}
-use Rattle.pruning.specs.Follows.{SessionMap, Follows}
+use Rattle.well_formed.specs.Follows.{SessionMap, Follows}
 
 -- code above code that follows a choreography at process p follows it too, with the same fuel, where also the procedures'
 -- codes are above

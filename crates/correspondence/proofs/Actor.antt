@@ -19,7 +19,7 @@ use Rattle.endpoint_code.specs.declared.code.CodeNode.TheVariants as code
 use Rattle.endpoint_code.specs.declared.endpoints.Channel.{Channel}
 use Rattle.endpoint_code.specs.declared.endpoints.Endpoints.{Endpoints}
 use Rattle.endpoint_code.specs.Network.{node_at, arm_at}
-use Rattle.pruning.specs.Follows.{SessionMap, with_session, Act, Joins, Puts, Gets, Does, Received, Label, Part, received_of, message_received, act_of, Agrees, Place, Nowhere, Here, HoldsAt, arm_place, place_after, Fork, NoFork, Forks, fork_of, BothHold, Stands, standing, HoldsOf, follows_act, follows_test, follows_call, Follows}
+use Rattle.well_formed.specs.Follows.{SessionMap, with_session, Act, Joins, Puts, Gets, Does, Received, Label, Part, received_of, message_received, act_of, Agrees, Place, Nowhere, Here, HoldsAt, arm_place, place_after, Fork, NoFork, Forks, fork_of, BothHold, Stands, standing, HoldsOf, follows_act, follows_test, follows_call, Follows}
 use Rattle.well_formed.specs.WellFormed.{Scope, scope_after, NodeFits, CommunicationFits, CallFits, IsWellFormed}
 use Rattle.well_formed.proofs.Absent.{IsNoDeeper, IsAbsent}
 use Rattle.correspondence.proofs.Acts.{own_event, own_effect, IsBy}

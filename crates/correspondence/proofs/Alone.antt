@@ -19,7 +19,7 @@ use Rattle.chor_semantics.specs.Sources.{Procedure, Configuration}
 use Rattle.chor_semantics.specs.Steps.{Effect, Keeps, Assigns, Moves, assigned, vars_after, sid_after, vars_of}
 use Rattle.endpoint_code.specs.declared.endpoints.Endpoints.{Endpoints}
 use Rattle.endpoint_code.specs.Network.{Machine, NetworkState, queue_of}
-use Rattle.pruning.specs.Follows.{IsEqualUpToPruning}
+use Rattle.well_formed.specs.Follows.{IsEqualUpToPruning}
 use Rattle.well_formed.specs.WellFormed.{IsPlain, IsWellFormed, ArePlain}
 use Rattle.well_formed.specs.Linear.{ParameterSets, everyone}
 use Rattle.well_formed.specs.Holders.{ListedHolders, holder_by, load_hands, HolderIn}

@@ -21,7 +21,7 @@ use Rattle.endpoint_code.specs.declared.code.CodeNode.{CodeNode}
 use Rattle.endpoint_code.specs.declared.code.CodeNode.TheVariants as code
 use Rattle.endpoint_code.specs.declared.endpoints.Endpoints.{Endpoints}
 use Rattle.endpoint_code.specs.Network.{Sessions, Machine, NetworkState, Place, Makes, place_of, node_makes, place_makes, machine_makes, makes, moved, with_queue, queue_of, has_room, put_if, puts, part_load, takes, takes_from, went, takes_value, takes_label, takes_part, in_arm, Taking, Goes as GoesOn, arm_at, PlaceAnswers, MachineAnswers}
-use Rattle.pruning.specs.Follows.{SessionMap, StandsFor, with_session, Act, Puts, Gets, Does, Received, Into, Label, Part, message_received, act_of, Agrees, Here, arm_place, place_after, fork_of}
+use Rattle.well_formed.specs.Follows.{SessionMap, StandsFor, with_session, Act, Puts, Gets, Does, Received, Into, Label, Part, message_received, act_of, Agrees, Here, arm_place, place_after, fork_of}
 use Rattle.well_formed.specs.WellFormed.{IsPlain}
 use Rattle.well_formed.specs.Linear.{ParameterSets}
 use Rattle.well_formed.specs.Holders.{ListedHolders}

@@ -10,7 +10,7 @@ use Rattle.endpoint_code.specs.declared.code.CodeNode.{CodeNode}
 use Rattle.endpoint_code.specs.declared.code.CodeNode.TheVariants.{End}
 use Rattle.endpoint_code.specs.declared.endpoints.Endpoints.{Endpoints}
 use Rattle.endpoint_code.specs.Network.{node_at}
-use Rattle.pruning.specs.Follows.{SessionMap, Act, act_of, At, Agrees, HoldsAt, Place, Nowhere, Here, place_after, Fork, NoFork, Forks, fork_of, BothHold, Stands, standing, HoldsOf, follows_act, follows_test, follows_end, follows_call, follows_over, Follows}
+use Rattle.well_formed.specs.Follows.{SessionMap, Act, act_of, At, Agrees, HoldsAt, Place, Nowhere, Here, place_after, Fork, NoFork, Forks, fork_of, BothHold, Stands, standing, HoldsOf, follows_act, follows_test, follows_end, follows_call, follows_over, Follows}
 use Rattle.correspondence.proofs.Next.{Next, here, skip, decides, fork, calls, next_more}
 use Rattle.well_formed.specs.Guarded.{IsGuardedFor}
 use Rattle.well_formed.proofs.References.{act_none}

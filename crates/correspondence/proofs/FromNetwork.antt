@@ -23,7 +23,7 @@ use Rattle.endpoint_code.specs.declared.code.CodeNode.TheVariants as code
 use Rattle.endpoint_code.specs.declared.endpoints.Endpoints.{Endpoints}
 use Rattle.endpoint_code.specs.Network.{Sessions, Machine, NetworkState, Place, place_of, moved, with_queue, queue_of, node_at}
 use Rattle.endpoint_code.proofs.Queues.{loads-same, loads-other}
-use Rattle.pruning.specs.Follows.{SessionMap, Act, Puts, Gets, Does, Joins, Agrees, Here, HoldsAt, place_after, fork_of, NoFork, Fork, Forks, Follows}
+use Rattle.well_formed.specs.Follows.{SessionMap, Act, Puts, Gets, Does, Joins, Agrees, Here, HoldsAt, place_after, fork_of, NoFork, Fork, Forks, Follows}
 use Rattle.well_formed.specs.Linear.{ParameterSets}
 use Rattle.correspondence.proofs.Next.{Next, next_more}
 use Rattle.well_formed.specs.Holders.{ListedHolders, HoldersFit}

@@ -14,7 +14,7 @@ use Rattle.endpoint_code.specs.declared.code.CodeNode.TheVariants as code
 use Rattle.endpoint_code.specs.declared.endpoints.Procedure.{Procedure as ProcedureCode}
 use Rattle.endpoint_code.specs.declared.endpoints.Endpoints.{Endpoints}
 use Rattle.endpoint_code.specs.Network.{Sessions, Machine, Place, place_in, body_place, passed, procedure_of, node_at}
-use Rattle.pruning.specs.Follows.{SessionMap, no_sessions, with_session, without_session, passed_one, passed as passed_names, Stands, Body, standing, body_standing, Follows}
+use Rattle.well_formed.specs.Follows.{SessionMap, no_sessions, with_session, without_session, passed_one, passed as passed_names, Stands, Body, standing, body_standing, Follows}
 use Rattle.correspondence.specs.Corresponds.{live_session, session_map}
 use Rattle.correspondence.proofs.Calls.{through}
 

@@ -12,7 +12,7 @@ use Rattle.chor_semantics.specs.Choreography.{Ref, Live, Named, ref_eq, among, m
 use Rattle.chor_semantics.specs.Sources.{Procedure}
 use Rattle.chor_semantics.specs.Steps.{Effect, Moves, head, delay, both, unfolded, load_of, receipt, procedure_named, body_of}
 use Rattle.endpoint_code.specs.declared.endpoints.Channel.{Channel}
-use Rattle.pruning.specs.Follows.{Puts, Gets, Does, Received, received_of, message_received, act_of, joins, role_in}
+use Rattle.well_formed.specs.Follows.{Puts, Gets, Does, Received, received_of, message_received, act_of, joins, role_in}
 use Rattle.well_formed.specs.WellFormed.{Scope, scope_after, CallFits, IsWellFormed}
 use Rattle.correspondence.proofs.Next.{Next, here, skip, decides, fork, calls}
 use Rattle.well_formed.specs.Holders.{is_role, HolderFits, holder_after, ListedHolders, PassedHeld, HoldersFit}

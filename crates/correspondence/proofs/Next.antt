@@ -5,7 +5,7 @@ use Rattle.chor_base.specs.Expr.{Term}
 use Rattle.chor_semantics.specs.Choreography.{Ref, Live, ref_eq, Node, Choreography, Then, Either, Calls}
 use Rattle.chor_semantics.specs.Sources.{Procedure}
 use Rattle.chor_semantics.specs.Steps.{procedure_named, body_of}
-use Rattle.pruning.specs.Follows.{Joins, act_of}
+use Rattle.well_formed.specs.Follows.{Joins, act_of}
 
 -- on every path p's next node is one of which Q holds, or its own conditional on an expression of which T holds.
 -- It is found after finitely many calls

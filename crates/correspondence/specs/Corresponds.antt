@@ -8,7 +8,7 @@ use Rattle.chor_semantics.specs.Sources.{Procedure, Configuration}
 use Rattle.endpoint_code.specs.declared.endpoints.Channel.{Channel}
 use Rattle.endpoint_code.specs.declared.endpoints.Endpoints.{Endpoints}
 use Rattle.endpoint_code.specs.Network.{Machine, NetworkState, Sessions, queue_of, channel_of}
-use Rattle.pruning.specs.Follows.{SessionMap, IsEqualUpToPruning}
+use Rattle.well_formed.specs.Follows.{SessionMap, IsEqualUpToPruning}
 use Rattle.well_formed.specs.WellFormed.{IsWellFormed, ArePlain, Scope}
 use Rattle.well_formed.specs.Linear.{ParameterSets, IsLinear, everyone}
 use Rattle.well_formed.specs.Holders.{ListedHolders, HoldersFit, HolderIn}

@@ -5,7 +5,7 @@ use Rattle.chor_semantics.specs.Choreography.{Named, Node, Starts, Communicates,
 use Rattle.chor_semantics.specs.Sources.{Procedure}
 use Rattle.endpoint_code.specs.declared.endpoints.Endpoints.{Endpoints}
 use Rattle.endpoint_code.specs.Network.{service_of}
-use Rattle.pruning.specs.Follows.{no_sessions, with_session, IsEqualUpToPruning}
+use Rattle.well_formed.specs.Follows.{no_sessions, with_session, IsEqualUpToPruning}
 
 -- the code of each of these services follows what stands after the start, at the name of its new process; in it the
 -- session has the channel's name

@@ -13,7 +13,7 @@ use Rattle.endpoint_code.specs.declared.endpoints.Endpoints.{Endpoints}
 use Rattle.endpoint_code.specs.Trees.{code_at}
 use Rattle.endpoint_code.proofs.AboveOrder.{above_self}
 use Rattle.projection.specs.Projects.{Projects, body_at}
-use Rattle.pruning.specs.Follows.{SessionMap, IsEqualUpToPruning}
+use Rattle.well_formed.specs.Follows.{SessionMap, IsEqualUpToPruning}
 use Rattle.projection_follows.proofs.AlongTrees.{self_test}
 use Rattle.projection_follows.proofs.Passing.{code_distinct}
 use Rattle.projection_follows.proofs.ThroughCalls.{follows}

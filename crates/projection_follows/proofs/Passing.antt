@@ -13,7 +13,7 @@ use Rattle.chor_semantics.specs.Steps.{procedure_named, bound_all}
 use Rattle.endpoint_code.specs.Trees.{CodeTree}
 use Rattle.endpoint_code.specs.Labels.{HasDistinctLabels}
 use Rattle.projection.specs.Codes.{is_named, proc_named, param_for, holds, sessions_for, passed_for, name_of, call_code, call_as, IsCodeOf, acts, learns, absent, decides, merges, calls, ends}
-use Rattle.pruning.specs.Follows.{SessionMap, passed, passed_one}
+use Rattle.well_formed.specs.Follows.{SessionMap, passed, passed_one}
 use Rattle.projection_follows.proofs.AlongTrees.{self_test}
 use Rattle.projection_follows.specs.Roles.{Roles, holder_role, roles_of, has_name}
 use Rattle.projection_follows.proofs.Plays.{IsPassedFor, IsNotPassed, PassesRoles, TellsApart, Knows}

@@ -9,7 +9,7 @@ use Rattle.chor_tree.specs.declared.file.SessionParam.{SessionParam}
 use Rattle.chor_tree.specs.declared.tree.Node.{Node as TreeNode}
 use Rattle.chor_semantics.specs.Sources.{tree_in, trees_of}
 use Rattle.projection.specs.Codes.{is_named, role_in, proc_named, param_for, holds}
-use Rattle.pruning.specs.Follows.{SessionMap}
+use Rattle.well_formed.specs.Follows.{SessionMap}
 use Rattle.endpoint_code.specs.declared.code.CodeId.{CodeId}
 use Rattle.endpoint_code.specs.declared.endpoints.Endpoints.{Endpoints}
 use Rattle.endpoint_code.specs.Trees.{CodeTree, code_at}

@@ -8,12 +8,11 @@ use Rattle.chor_base.specs.declared.names.NameId.{NameId}
 use Rattle.chor_tree.specs.declared.file.File.{File}
 use Rattle.chor_tree.specs.declared.file.Named.{Named as Written}
 use Rattle.chor_semantics.specs.Choreography.{Ref, Live, Named, ref_eq, among}
-use Rattle.chor_semantics.specs.Sources.{procedure_from, procedures_of}
+use Rattle.chor_semantics.specs.Sources.{procedure_from, procedures_of, first_configuration}
 use Rattle.endpoint_code.specs.declared.endpoints.Process.{Process}
 use Rattle.endpoint_code.specs.declared.endpoints.Endpoints.{Endpoints}
 use Rattle.projection.specs.Projects.{Projects, IsProcessOf, body_at}
-use Rattle.chor_semantics.specs.Sources.{first_configuration}
-use Rattle.pruning.specs.Follows.{SessionMap, IsEqualUpToPruning}
+use Rattle.well_formed.specs.Follows.{SessionMap, IsEqualUpToPruning}
 use Rattle.well_formed.specs.WellFormed.{AllIn, AreNoDeeper, AreDistinctRefs, names_in_scope, declared_scope}
 use Rattle.well_formed.specs.Linear.{ParameterSets}
 use Rattle.well_formed.specs.Holders.{ListedHolders}

@@ -22,7 +22,7 @@ use Rattle.endpoint_code.specs.Above.{IsAbove}
 use Rattle.endpoint_code.specs.Labels.{HasDistinctLabels}
 use Rattle.projection.specs.Codes.{IsCodeOf, proc_named}
 use Rattle.projection.specs.Projects.{Projects, Started, IsStartCode, IsServiceCode, IsServiceOf, start_at, starts_in, starts_in_procs, starts_of, service_roles, started_services, serving, session_as, body_at}
-use Rattle.pruning.specs.Follows.{no_sessions, with_session, Follows, IsEqualUpToPruning}
+use Rattle.well_formed.specs.Follows.{no_sessions, with_session, Follows, IsEqualUpToPruning}
 use Rattle.correspondence.specs.Services.{EachServiceFollows, ServicesFollow}
 use Rattle.projection_follows.proofs.AlongTrees.{self_test}
 use Rattle.projection_follows.proofs.FreeNames.{shallow_apart}

@@ -15,7 +15,7 @@ use Rattle.endpoint_code.specs.declared.endpoints.Process.{Process}
 use Rattle.endpoint_code.specs.declared.endpoints.Endpoints.{Endpoints}
 use Rattle.endpoint_code.specs.Network.{NetworkState, procedure_of, node_at}
 use Rattle.endpoint_code.specs.NetworkRuns.{IsNetworkRun}
-use Rattle.pruning.specs.Follows.{SessionMap, passed, Follows, IsEqualUpToPruning}
+use Rattle.well_formed.specs.Follows.{SessionMap, passed, Follows, IsEqualUpToPruning}
 use Rattle.well_formed.specs.WellFormed.{Scope, CallFits}
 use Rattle.well_formed.specs.Linear.{ParameterSets}
 use Rattle.well_formed.specs.Holders.{ListedHolders}

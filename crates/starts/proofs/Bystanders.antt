@@ -14,7 +14,7 @@ use Rattle.endpoint_code.specs.declared.code.CodeId.{CodeId}
 use Rattle.endpoint_code.specs.declared.endpoints.Channel.{Channel}
 use Rattle.endpoint_code.specs.declared.endpoints.Endpoints.{Endpoints}
 use Rattle.endpoint_code.specs.Network.{node_at}
-use Rattle.pruning.specs.Follows.{SessionMap, Act, act_of, Agrees, Place, Nowhere, Here, HoldsAt, place_after, Fork, NoFork, Forks, fork_of, BothHold, Standing, Nothing, Body, Stands, standing, HoldsOf, follows_act, follows_test, follows_call, Follows}
+use Rattle.well_formed.specs.Follows.{SessionMap, Act, act_of, Agrees, Place, Nowhere, Here, HoldsAt, place_after, Fork, NoFork, Forks, fork_of, BothHold, Standing, Nothing, Body, Stands, standing, HoldsOf, follows_act, follows_test, follows_call, Follows}
 use Rattle.well_formed.specs.WellFormed.{Scope, IsIn, AllIn, IsProcess, firsts, entered, scope_after, StartFits, CallFits, IsWellFormed}
 use Rattle.well_formed.proofs.Absent.{IsNoDeeper, IsAbsent}
 use Rattle.well_formed.proofs.References.{left_or, right_or, or_false, none_act, NotStart}

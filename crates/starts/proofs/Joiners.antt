@@ -18,7 +18,7 @@ use Rattle.endpoint_code.specs.declared.code.CodeNode.TheVariants as code
 use Rattle.endpoint_code.specs.declared.endpoints.Channel.{Channel}
 use Rattle.endpoint_code.specs.declared.endpoints.Endpoints.{Endpoints}
 use Rattle.endpoint_code.specs.Network.{node_at, service_of}
-use Rattle.pruning.specs.Follows.{SessionMap, no_sessions, with_session, Act, Joins, act_of, joins, role_in, Agrees, HoldsAt, place_after, Stands, standing, HoldsOf, follows_act, follows_test, follows_call, Follows}
+use Rattle.well_formed.specs.Follows.{SessionMap, no_sessions, with_session, Act, Joins, act_of, joins, role_in, Agrees, HoldsAt, place_after, Stands, standing, HoldsOf, follows_act, follows_test, follows_call, Follows}
 use Rattle.well_formed.specs.WellFormed.{Scope, AllIn, AreDistinctRefs, AllNew, firsts, entered, scope_after, NodeFits, StartFits, CallFits, IsWellFormed}
 use Rattle.well_formed.proofs.Absent.{IsNoDeeper, IsAbsent}
 use Rattle.correspondence.specs.Services.{EachServiceFollows, ServicesFollowAt, ServicesFollow}

@@ -9,7 +9,7 @@ use Rattle.endpoint_code.specs.declared.endpoints.Channel.{Channel}
 use Rattle.endpoint_code.specs.declared.endpoints.Procedure.{Procedure as ProcedureCode}
 use Rattle.endpoint_code.specs.declared.endpoints.Endpoints.{Endpoints}
 use Rattle.endpoint_code.specs.Network.{procedure_of, arm_at}
-use Rattle.pruning.specs.Follows.{SessionMap, no_sessions, with_session, without_session, passed_one, passed, Act, Joins, Puts, Gets, Does, Into, Label, Part, received_of, message_received, act_of, joins, role_in, Place, Nowhere, Here, arm_place, place_after, Standing, Nothing, Body, Stands, body_standing, standing}
+use Rattle.well_formed.specs.Follows.{SessionMap, no_sessions, with_session, without_session, passed_one, passed, Act, Joins, Puts, Gets, Does, Into, Label, Part, received_of, message_received, act_of, joins, role_in, Place, Nowhere, Here, arm_place, place_after, Standing, Nothing, Body, Stands, body_standing, standing}
 use Rattle.well_formed.specs.WellFormed.{Scope, IsSession, scope_after, NodeFits, MessageFits, CommunicationFits}
 use Rattle.well_formed.proofs.References.{or_left, or_rights, self_ref, differ_ref, clash}
 use Rattle.starts.proofs.Renamed.{put_one, put_map}

@@ -15,7 +15,7 @@ use Rattle.chor_semantics.specs.Steps.{Effect, Moves, head, test, delay, both, u
 use Rattle.endpoint_code.specs.declared.endpoints.Channel.{Channel}
 use Rattle.endpoint_code.specs.declared.endpoints.Endpoints.{Endpoints}
 use Rattle.endpoint_code.specs.Network.{service_of}
-use Rattle.pruning.specs.Follows.{SessionMap, no_sessions, with_session, Follows}
+use Rattle.well_formed.specs.Follows.{SessionMap, no_sessions, with_session, Follows}
 use Rattle.well_formed.specs.WellFormed.{Scope, IsSession, AllNew, entered, scope_after, NodeFits, CallFits, IsWellFormed}
 use Rattle.well_formed.proofs.Absent.{IsNoDeeper, IsAbsent}
 use Rattle.correspondence.specs.Services.{EachServiceFollows, ServicesFollowAt, ServicesFollow}

@@ -13,7 +13,7 @@ use Rattle.endpoint_code.specs.declared.endpoints.Channel.{Channel}
 use Rattle.endpoint_code.specs.declared.endpoints.Procedure.{Procedure as ProcedureCode}
 use Rattle.endpoint_code.specs.declared.endpoints.Endpoints.{Endpoints}
 use Rattle.endpoint_code.specs.Network.{node_at, procedure_of, arm_at}
-use Rattle.pruning.specs.Follows.{SessionMap, with_session, without_session, passed_one, passed, Act, Joins, Puts, Gets, Does, Received, Into, Label, Part, received_of, message_received, act_of, joins, role_in, At, Agrees, HoldsAt, arm_place, place_after, Fork, NoFork, Forks, fork_of, BothHold, Standing, Nothing, Body, Stands, body_standing, standing, HoldsOf, follows_act, follows_test, follows_end, follows_call, follows_over, Follows}
+use Rattle.well_formed.specs.Follows.{SessionMap, with_session, without_session, passed_one, passed, Act, Joins, Puts, Gets, Does, Received, Into, Label, Part, received_of, message_received, act_of, joins, role_in, At, Agrees, HoldsAt, arm_place, place_after, Fork, NoFork, Forks, fork_of, BothHold, Standing, Nothing, Body, Stands, body_standing, standing, HoldsOf, follows_act, follows_test, follows_end, follows_call, follows_over, Follows}
 use Rattle.well_formed.specs.WellFormed.{Scope, IsIn, AllIn, IsProcess, firsts, scope_after, NodeFits, CallFits, IsWellFormed}
 use Rattle.well_formed.proofs.References.{self_ref, same_ref}
 use Rattle.well_formed.proofs.Renames.{Renames, processes_after, sessions_after}

@@ -15,7 +15,7 @@ use Rattle.endpoint_code.specs.declared.code.CodeNode.TheVariants as code
 use Rattle.endpoint_code.specs.declared.endpoints.Channel.{Channel}
 use Rattle.endpoint_code.specs.declared.endpoints.Endpoints.{Endpoints}
 use Rattle.endpoint_code.specs.Network.{Sessions, Machine, NetworkState, Makes, joiners, with_machines, service_of, served, served_parts, channel_of, begun, one_pair, paired, starts_with, channel_starts, starts, queue_of, node_at}
-use Rattle.pruning.specs.Follows.{SessionMap, no_sessions, with_session, Act, Joins, act_of, Agrees, fork_of, IsEqualUpToPruning, Follows}
+use Rattle.well_formed.specs.Follows.{SessionMap, no_sessions, with_session, Act, Joins, act_of, Agrees, fork_of, IsEqualUpToPruning, Follows}
 use Rattle.well_formed.specs.WellFormed.{AreDistinctRoles, IsWellFormed, ArePlain}
 use Rattle.well_formed.specs.Linear.{ParameterSets, everyone}
 use Rattle.correspondence.proofs.Next.{Next, next_more, NoTerm, JoinsAt, AllNext, Joint}

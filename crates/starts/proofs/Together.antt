@@ -13,7 +13,7 @@ use Rattle.chor_semantics.specs.Sources.{Procedure}
 use Rattle.chor_semantics.specs.Steps.{Keeps, Makes, Moves, head, delay, both, unfolded, begun, live_parts, new_parts, procedure_named, body_of}
 use Rattle.endpoint_code.specs.declared.endpoints.Channel.{Channel}
 use Rattle.endpoint_code.specs.Network.{served_parts, channel_of}
-use Rattle.pruning.specs.Follows.{Joins, Puts, Gets, Does, received_of, message_received, act_of, joins, role_in}
+use Rattle.well_formed.specs.Follows.{Joins, Puts, Gets, Does, received_of, message_received, act_of, joins, role_in}
 use Rattle.well_formed.specs.WellFormed.{role_among, AreDistinctRoles, Scope, AllIn, firsts, service_refs, scope_after, NodeFits, StartFits, CallFits, IsWellFormed}
 use Rattle.well_formed.specs.Linear.{Members, ParameterSets, all_in, after_start, members_after, joins_from, given, all_given, IsLinear}
 use Rattle.correspondence.proofs.Next.{Next, here, skip, decides, fork, calls, NoTerm, JoinsAt, AllNext, AllHere, AllSkip, AllApart, Joint, at_start, past, in_both, in_body}

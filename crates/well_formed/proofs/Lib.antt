@@ -1,3 +1,4 @@
+pub mod Fuel
 pub mod Absent
 pub mod References
 pub mod Heads

@@ -1,3 +1,4 @@
+pub mod Follows
 pub mod WellFormed
 pub mod SourceTrees
 pub mod Guarded

@@ -8,7 +8,7 @@ use Rattle.endpoint_code.specs.declared.code.CodeId.{CodeId}
 use Rattle.endpoint_code.specs.declared.code.CodeNode.{CodeNode}
 use Rattle.endpoint_code.specs.declared.endpoints.Endpoints.{Endpoints}
 use Rattle.endpoint_code.specs.Network.{node_at}
-use Rattle.pruning.specs.Follows.{SessionMap, Act, act_of, At, Place, Nowhere, Here, HoldsAt, place_after, Fork, NoFork, Forks, fork_of, BothHold, Standing, Nothing, Body, Stands, standing, HoldsOf, follows_act, follows_test, follows_end, follows_call, follows_over, Follows}
+use Rattle.well_formed.specs.Follows.{SessionMap, Act, act_of, At, Place, Nowhere, Here, HoldsAt, place_after, Fork, NoFork, Forks, fork_of, BothHold, Standing, Nothing, Body, Stands, standing, HoldsOf, follows_act, follows_test, follows_end, follows_call, follows_over, Follows}
 
 -- a fact that implies another at each place
 abbrev pub Implies : At → At → Type 0

@@ -1,5 +1,0 @@
-use Rattle.pruning.proofs.Fuel.{follows_less}
-use Rattle.pruning.proofs.less_fuel.Goals as goal
-
-pub returns : goal.returns
-returns c e procs n p t q m h = follows_less e procs p n t q m h
