@@ -31,8 +31,8 @@ use Rattle.file_trees.proofs.Declared.{main_held, bodies_held}
 use Rattle.file_trees.proofs.Channels.{channels_from}
 use Rattle.file_trees.proofs.Files.{active_there, roles_apart, processes_apart, main_fits, all_fit}
 use Rattle.file_trees.proofs.Guards.{all_guarded}
-use Rattle.file_roles.proofs.Parts.{proc_same}
-use Rattle.file_roles.proofs.Begins.{holds_its_roles}
+use Rattle.accepted_files.proofs.Parts.{proc_same}
+use Rattle.accepted_files.proofs.Begins.{holds_its_roles}
 use Rattle.accepted_files.specs.Accepted.{IsChecked}
 use Rattle.accepted_files.proofs.Wanted.{is_started, main_wanted, body_wanted}
 use Rattle.accepted_files.proofs.Apart.{main_apart, procedure_apart}

@@ -1,5 +1,11 @@
+pub mod Parts
+pub mod Along
+pub mod Begins
+pub mod StartedChannels
 pub mod Wanted
 pub mod Apart
 pub mod Sets
 pub mod Accepted
 pub mod Ended
+pub mod Happens
+pub mod Closed

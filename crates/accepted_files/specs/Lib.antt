@@ -1,1 +1,4 @@
+pub mod Roles
 pub mod Accepted
+pub mod Scheduled
+pub mod Runs

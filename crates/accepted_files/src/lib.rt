@@ -1,7 +1,17 @@
-//! From a file without faults to the runs of its projection's network.
+//! From a file without faults, in which each process holds the roles that it plays, to the runs of
+//! its projection's network, and from the scheduled run of that network to runs of the choreography.
 #![tactic(auto)]
 
+ghost use Rattle.accepted_files.specs.Roles.{EverybodyHoldsItsRoles};
 ghost use Rattle.accepted_files.specs.Accepted.{CheckedIsProjection, NetworkRunsAreRuns, RunsAreNetworkRuns, NetworkRunsConform, EndedNetworkEnds, NeverStuck};
+ghost use Rattle.accepted_files.specs.Scheduled.{NothingHappens, ScheduledRunsClose};
+ghost use Rattle.accepted_files.specs.Runs.{ScheduledRunsAreRuns};
+
+/// In a file without faults of names, protocols and types everybody holds its roles: the processes
+/// of main, the parameters of procedures, and the new processes of each start.
+pub fn everybody_holds_its_roles()
+    ensures { EverybodyHoldsItsRoles }
+{}
 
 /// The projection of a file without faults meets all that is asked of a projection.
 pub fn checked_is_projection()
@@ -25,4 +35,27 @@ pub fn checked_never_stuck()
     ensures { NeverStuck }
 {
     projection_follows::projection_never_stuck();
+}
+
+/// Where no process of a network can step, no event can happen.
+pub fn nothing_happens()
+    ensures { NothingHappens }
+{}
+
+/// The scheduled run of the network of a checked file's projection is a run of the choreography,
+/// to its end or as long as was asked for. It is never stuck.
+pub fn scheduled_runs_close()
+    ensures { ScheduledRunsClose }
+{
+    nothing_happens();
+    checked_never_stuck();
+    checked_runs();
+}
+
+/// It is first in, first out too, and each session follows its protocol.
+pub fn scheduled_runs_are_runs()
+    ensures { ScheduledRunsAreRuns }
+{
+    scheduled_runs_close();
+    checked_runs();
 }

@@ -39,7 +39,7 @@ use Rattle.file_trees.proofs.Owned.{KeepsOwners, two_parties, GivenFits, given_f
 use Rattle.file_trees.proofs.Channels.{channel_from}
 use Rattle.file_trees.proofs.Named.{IsNewStart, SessionsKept, AreNamed}
 use Rattle.file_trees.proofs.Scopes.{none_of}
-use Rattle.file_roles.proofs.Parts.{active_role, proc_same, passed_holds, listed_role}
+use Rattle.accepted_files.proofs.Parts.{active_role, proc_same, passed_holds, listed_role}
 use Rattle.held_sessions.specs.Held.{Held, with_held, GivesHeld, GainsNew, held_after, Exchanges, JoinsNew, HoldsListed, PassesFor, PassesAtCall, UsesHeld}
 use Rattle.faultless_projections.proofs.Knows.{HasRole, Knows, AreThere, DiffersThere, start_roles, parts_apart}
 use Rattle.faultless_projections.proofs.Passed.{KnowsPassed, sent, gained, neither, none_held}

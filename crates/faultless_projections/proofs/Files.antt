@@ -29,7 +29,7 @@ use Rattle.file_trees.proofs.Declared.{main_keeps, body_keeps}
 use Rattle.file_trees.proofs.Channels.{StartsIn, channel_there}
 use Rattle.file_trees.proofs.Files.{each_first, main_named, procedure_named, params_apart, sessions_named}
 use Rattle.file_trees.proofs.Roles.{once_apart}
-use Rattle.file_roles.proofs.StartedChannels.{named_so, main_starts, body_starts}
+use Rattle.accepted_files.proofs.StartedChannels.{named_so, main_starts, body_starts}
 use Rattle.projection.specs.Projects.{Projects, starts_in, starts_in_procs, starts_of, body_at, is_some_start, channel_from}
 use Rattle.held_sessions.specs.Held.{UsesHeld, StartUses}
 use Rattle.faultless_projections.proofs.Knows.{Knows, AreThere, DiffersThere}

@@ -10,8 +10,8 @@ use Rattle.endpoint_code.specs.Scheduled.{Close, Ended, Limit, Stuck, IsSchedule
 use Rattle.well_formed.specs.Asked.{IsAnswered}
 use Rattle.transcript.specs.Text.{Words, transcript}
 use Rattle.program_runs.specs.Transcripts.{closing_text, is_stuck, IsTranscriptOf}
-use Rattle.scheduled_runs.specs.Laws.{ClosesWell}
-use Rattle.scheduled_runs.specs.Runs.{IsRunOf, ScheduledRunsAreRuns}
+use Rattle.accepted_files.specs.Scheduled.{ClosesWell}
+use Rattle.accepted_files.specs.Runs.{IsRunOf, ScheduledRunsAreRuns}
 use Rattle.projected_programs.specs.Laws.{AreProjected, IsRunTranscript}
 use Rattle.projected_programs.proofs.Checked.{is_checked}
 use Rattle.projected_programs.proofs.Books.{same_book}

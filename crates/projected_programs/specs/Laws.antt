@@ -18,7 +18,7 @@ use Rattle.transcript.specs.Text.{transcript}
 use Rattle.program_runs.specs.Transcripts.{closing_text, IsTranscriptOf}
 use Rattle.source_runs.specs.Books.{book_of}
 use Rattle.event_reader.specs.Known.{HasEvent}
-use Rattle.scheduled_runs.specs.Runs.{IsRunOf}
+use Rattle.accepted_files.specs.Runs.{IsRunOf}
 
 -- e are the endpoint programs of a source that violates no rule, where these host functions are there, each with an exact meaning
 pub record AreProjected (functions : List Function) (bytes : List ℕ) (f : File) (e : Endpoints) : Type 0 where

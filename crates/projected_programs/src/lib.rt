@@ -25,7 +25,7 @@ pub fn projected_text_runs()
     same_faults::copies_are_faultless();
     same_transcripts::transcripts_agree();
     answered_files::asked_functions_answer();
-    scheduled_runs::scheduled_runs_are_runs();
+    accepted_files::scheduled_runs_are_runs();
 }
 
 /// The events of a run of an accepted source's choreography can be told by lines, where there are

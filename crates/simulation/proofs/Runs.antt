@@ -14,7 +14,7 @@ use Rattle.endpoint_runs.specs.declared.parts.Schedule.{Schedule}
 use Rattle.endpoint_runs.specs.declared.run.Closed.{Closed}
 use Rattle.endpoint_runs.specs.declared.run.Closed.TheVariants.{Ended, Limit, Stuck}
 use Rattle.endpoint_runs.specs.Runs.{IsRun, close_of as closing_of}
-use Rattle.scheduled_runs.specs.Runs.{IsChecked, IsRunOf, ScheduledRunsAreRuns}
+use Rattle.accepted_files.specs.Runs.{IsChecked, IsRunOf, ScheduledRunsAreRuns}
 use Rattle.transcript.specs.Text.{Words, transcript}
 use Rattle.program_runs.specs.Transcripts.{closing_text}
 use Rattle.simulation.specs.Accepted.{AcceptedView, IsAccepted}

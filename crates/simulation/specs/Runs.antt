@@ -7,8 +7,8 @@ use Rattle.chor_tree.specs.declared.file.File.{File}
 use Rattle.endpoint_code.specs.declared.endpoints.Endpoints.{Endpoints}
 use Rattle.endpoint_code.specs.Scheduled.{Close, Ended, Limit}
 use Rattle.net_core.specs.Picks.{entries_of}
-pub use Rattle.scheduled_runs.specs.Laws.{ClosesWell}
-pub use Rattle.scheduled_runs.specs.Runs.{IsRunOf}
+pub use Rattle.accepted_files.specs.Scheduled.{ClosesWell}
+pub use Rattle.accepted_files.specs.Runs.{IsRunOf}
 use Rattle.chor_host.specs.Functions.{Function, hosts_in}
 use Rattle.simulation.specs.declared.running.Outcome.{Outcome}
 use Rattle.simulation.specs.Accepted.{AcceptedView}

@@ -3,7 +3,7 @@ use Rattle.std.specs.Prelude.{ℕ, ◌≡◌, Bool, List, length}
 use Rattle.chor_base.specs.declared.event.Event.{Event}
 use Rattle.chor_host.specs.Functions.{Function, hosts_in}
 use Rattle.endpoint_runs.specs.declared.parts.Schedule.{Schedule}
-use Rattle.scheduled_runs.specs.Runs.{IsRunOf}
+use Rattle.accepted_files.specs.Runs.{IsRunOf}
 use Rattle.transcript.specs.Text.{Words, transcript}
 use Rattle.program_runs.specs.Transcripts.{closing_text}
 use Rattle.simulation.specs.Accepted.{AcceptedView}

@@ -5,7 +5,7 @@ ghost use Rattle.chor_host.specs.Functions.{names_of, hosts_in};
 ghost use Rattle.chor_host.specs.Tables.{functions_of};
 ghost use Rattle.well_formed.specs.Asked.{IsAnswered};
 ghost use Rattle.faultless_projections.specs.Laws.{ProjectionIsFaultless};
-ghost use Rattle.scheduled_runs.specs.Runs.{ScheduledRunsAreRuns};
+ghost use Rattle.accepted_files.specs.Runs.{ScheduledRunsAreRuns};
 ghost use Rattle.simulation.specs.Runs.{IsOutcomeOf};
 
 use crate::accepted::Accepted;
@@ -64,7 +64,7 @@ pub(crate) fn laws()
     ensures runs { ScheduledRunsAreRuns }
 {
     faultless_projections::projection_is_faultless();
-    scheduled_runs::scheduled_runs_are_runs();
+    accepted_files::scheduled_runs_are_runs();
 }
 
 // Each host function that an accepted file asks has an answer.

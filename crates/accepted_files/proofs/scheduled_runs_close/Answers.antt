@@ -7,10 +7,10 @@ use Rattle.projection_follows.proofs.Realizes.{realizes}
 use Rattle.file_trees.specs.Lists.{lists_of}
 use Rattle.accepted_files.proofs.Accepted.{sets, has_active, is_projection}
 use Rattle.accepted_files.proofs.Ended.{ended_run}
-use Rattle.scheduled_runs.specs.Laws.{ClosesWell}
-use Rattle.scheduled_runs.proofs.Happens.{ended_none}
-use Rattle.scheduled_runs.proofs.Closed.{closes_last, nobody_waits}
-use Rattle.scheduled_runs.proofs.scheduled_runs_close.Goals as goal
+use Rattle.accepted_files.specs.Scheduled.{ClosesWell}
+use Rattle.accepted_files.proofs.Happens.{ended_none}
+use Rattle.accepted_files.proofs.Closed.{closes_last, nobody_waits}
+use Rattle.accepted_files.proofs.scheduled_runs_close.Goals as goal
 
 pub returns : goal.returns
 returns c f words checked e pr hosts answered seed steps h last close run = go close (closes_last e hosts None seed steps h (first_state e) last 0 close run)

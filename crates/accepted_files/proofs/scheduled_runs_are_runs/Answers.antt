@@ -3,7 +3,7 @@ use Rattle.endpoint_code.specs.Network.{first_state}
 use Rattle.endpoint_code.specs.NetworkRuns.{IsNetworkRun}
 use Rattle.endpoint_code.proofs.Chosen.{scheduled_leads}
 use Rattle.endpoint_code.proofs.Fifo.{network_fifo}
-use Rattle.scheduled_runs.proofs.scheduled_runs_are_runs.Goals as goal
+use Rattle.accepted_files.proofs.scheduled_runs_are_runs.Goals as goal
 
 pub returns : goal.returns
 returns c f words checked e pr hosts answered seed steps h last close run =

@@ -25,7 +25,7 @@ use Rattle.typing_rules.specs.Checks.{statement_checks}
 use Rattle.typing_rules.specs.TypeFaults.{holder_fault}
 use Rattle.typing_rules.specs.After.{after_statement}
 use Rattle.typed_sources.proofs.Checked.{first_passes, asked, some_is}
-use Rattle.typed_sources.proofs.Opened.{IsNamedStart, holder_other, holder_new}
+use Rattle.typed_sources.proofs.Opened.{IsNamedStart, holder_other, holder_new, not_is}
 use Rattle.typed_sources.proofs.Arguments.{owners_of, holder_elsewhere, no_owner}
 use Rattle.typed_sources.specs.Laws.{IsAccepted}
 use Rattle.source_blocks.specs.Blocks.{node_of, choreography_of}
@@ -37,13 +37,12 @@ use Rattle.projection.specs.Codes.{proc_named}
 use Rattle.projection.specs.Projects.{body_at}
 use Rattle.projection_follows.specs.Roles.{with_role, has_name, params_of, holder_role, roles_of, HoldsRoles, EachServiceHolds, ServicesHoldAt, ServicesHold}
 use Rattle.projection_follows.specs.Premises.{ProceduresHold, MainHolds, AllServicesHold, HoldsItsRoles}
-use Rattle.typed_sources.proofs.Opened.{not_is}
 use Rattle.file_trees.proofs.Owned.{KeepsOwners, statement_owned}
 use Rattle.file_trees.proofs.Declared.{main_keeps, body_keeps}
 use Rattle.file_trees.proofs.Files.{params_apart}
 use Rattle.file_trees.proofs.Scopes.{none_of}
-use Rattle.file_roles.proofs.Parts.{part_role, proc_same, head_role}
-use Rattle.file_roles.proofs.Along.{Knows, block_holds}
+use Rattle.accepted_files.proofs.Parts.{part_role, proc_same, head_role}
+use Rattle.accepted_files.proofs.Along.{Knows, block_holds}
 
 -- ---- where a procedure begins
 

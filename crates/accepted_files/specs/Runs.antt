@@ -12,7 +12,7 @@ use Rattle.typed_runs.specs.History.{SessionsConform}
 use Rattle.typed_sources.specs.Stands.{kind_in, states_in}
 use Rattle.projection.specs.Projects.{Projects}
 pub use Rattle.accepted_files.specs.Accepted.{IsChecked}
-use Rattle.scheduled_runs.specs.Laws.{ClosesWell}
+use Rattle.accepted_files.specs.Scheduled.{ClosesWell}
 
 -- These events are the scheduled run of the network of the file's endpoint programs, which closes so: a run of the file's
 -- choreography, first in, first out, each of whose sessions follows its protocol

@@ -37,7 +37,7 @@ use Rattle.projection_follows.specs.Roles.{Roles, with_role, HoldsRole, GivesAwa
 use Rattle.typed_sources.proofs.Scopes.{among_front}
 use Rattle.file_trees.proofs.Owned.{KeepsOwners, two_parties, GivenFits, given_fits, statement_owned, call_sessions}
 use Rattle.file_trees.proofs.Scopes.{none_of}
-use Rattle.file_roles.proofs.Parts.{active_role, proc_same, passed_holds, listed_role}
+use Rattle.accepted_files.proofs.Parts.{active_role, proc_same, passed_holds, listed_role}
 
 -- it knows the roles that it holds
 abbrev pub Knows : NameId → Roles → Environment → Type 0

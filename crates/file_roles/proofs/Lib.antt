@@ -1,4 +1,0 @@
-pub mod Parts
-pub mod Along
-pub mod Begins
-pub mod StartedChannels
