@@ -1,3 +1,9 @@
+pub mod SameNames
+pub mod Ordering
+pub mod Faults
+pub mod Bodies
+pub mod Files
+pub mod Whole
 pub mod Reordered
 pub mod Terms
 pub mod There

@@ -27,9 +27,9 @@ use Rattle.canonical_laws.proofs.Tables.{distinct_names, distinct_texts}
 use Rattle.same_programs.specs.Programs.{SameCodeAt, SameChannel, SameProcedure, SameService, SameProcess, SamePrograms, IsCopy}
 use Rattle.same_programs.specs.Codes.{SameCode}
 use Rattle.printed_tokens.specs.Symbols.{ordered_at}
-use Rattle.printed_names.proofs.Faults.{ChannelSame, ProcedureSame, ServiceSame, ProcessSame, CodeSaid}
-use Rattle.printed_names.proofs.Whole.{same_units}
-use Rattle.printed_endpoints.specs.Laws.{AreReadBack}
+use Rattle.printed_endpoints.proofs.Faults.{ChannelSame, ProcedureSame, ServiceSame, ProcessSame, CodeSaid}
+use Rattle.printed_endpoints.proofs.Whole.{same_units}
+use Rattle.printed_endpoints.specs.ReadBack.{AreReadBack}
 use Rattle.printed_endpoints.proofs.There.{body_there}
 use Rattle.printed_endpoints.proofs.Codes.{N, T, name_same, names_same, body_same}
 use Rattle.printed_endpoints.proofs.Reordered.{code_back}

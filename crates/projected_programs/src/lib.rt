@@ -11,7 +11,7 @@ pub fn projected_text_is_taken()
     writable_projections::projection_is_writable();
     faultless_projections::projection_is_faultless();
     asked_projections::projection_asks_known();
-    printed_names::text_is_taken();
+    printed_endpoints::text_is_taken();
 }
 
 /// What is read from that text has no transcript but that of the source's own run: first in, first

@@ -1,6 +1,6 @@
 -- Units that say programs without a fault have none.
 use Rattle.std.proofs.Common.{◌≡◌, ◌==◌, ◌&&◌, ◌||◌, List, [], ◌∷◌, map, refl, sym, ◌∙◌, subst}
-use Rattle.std.specs.List.{AllZip, flat_map}
+use Rattle.std.specs.List.{AllZip, flat_map, AllByRecursion}
 use Rattle.chor_base.specs.declared.names.NameId.{NameId}
 use Rattle.chor_base.specs.Words.{AllDistinct}
 use Rattle.endpoint_reader.specs.declared.input.Input.{Input}
@@ -20,11 +20,10 @@ use Rattle.endpoint_code.specs.Trees as tree
 use Rattle.endpoint_names.specs.Bodies.{body_at}
 use Rattle.faultless_endpoints.proofs.Lists.{two_nothings}
 use Rattle.printed_tokens.specs.Symbols.{ordered_at}
-use Rattle.printed_tokens.specs.Spelled.{IsCodeSpelled}
-use Rattle.printed_units.specs.Says.{BodySays}
-use Rattle.printed_names.proofs.SameNames.{same_number}
+use Rattle.printed_tokens.specs.Spelled.{IsCodeSpelled, IsChannelSpelled, IsProcedureSpelled, IsServiceSpelled, IsProcessSpelled, AreSpelled}
+use Rattle.printed_units.specs.Says.{BodySays, ChannelSays, ProcedureSays, ServiceSays, ProcessSays, AreUnitsOf}
+use Rattle.printed_endpoints.proofs.SameNames.{same_number}
 use Rattle.std.specs.Prelude.{All}
-use Rattle.std.specs.List.{AllByRecursion}
 use Rattle.std.proofs.lemmas.List.Elements.{All-head, All-tail}
 use Rattle.chor_base.specs.declared.fault.Fault.{Fault}
 use Rattle.endpoint_reader.specs.declared.lines.LineId.{LineId}
@@ -35,10 +34,8 @@ use Rattle.endpoint_code.specs.declared.code.CodeId.{CodeId}
 use Rattle.endpoint_code.specs.Faults as code
 use Rattle.endpoint_making.specs.Making.{procedure_made, service_made}
 use Rattle.faultless_endpoints.proofs.Trees.{bodies_written}
-use Rattle.printed_tokens.specs.Spelled.{IsChannelSpelled, IsProcedureSpelled, IsServiceSpelled, IsProcessSpelled, AreSpelled}
 use Rattle.printed_tokens.proofs.Ordering.{ordered_spelled}
-use Rattle.printed_units.specs.Says.{ChannelSays, ProcedureSays, ServiceSays, ProcessSays, AreUnitsOf}
-use Rattle.printed_names.proofs.Faults.{IsSame, AreSame, is_same, are_same, ChannelSame, ProcedureSame, ServiceSame, ProcessSame, CodeSaid, UnitsSame}
+use Rattle.printed_endpoints.proofs.Faults.{IsSame, AreSame, is_same, are_same, ChannelSame, ProcedureSame, ServiceSame, ProcessSame, CodeSaid, UnitsSame}
 
 -- where each of the one list is fine, nothing is told of the other
 pub no_faults : {X Y : Type 0} (R : X → Y → Type 0) (P Q : X → Type 0) (f : Y → List Fault) → ((x : X) (y : Y) → R x y → P x → Q x → f y ≡ [])

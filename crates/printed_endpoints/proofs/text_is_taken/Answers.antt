@@ -1,5 +1,5 @@
-use Rattle.printed_names.proofs.Whole.{units_are_faultless, text_is_taken}
-use Rattle.printed_names.proofs.text_is_taken.Goals as goal
+use Rattle.printed_endpoints.proofs.Whole.{units_are_faultless, text_is_taken}
+use Rattle.printed_endpoints.proofs.text_is_taken.Goals as goal
 
 pub returns-clause-units : goal.returns-clause-units
 returns-clause-units c = units_are_faultless

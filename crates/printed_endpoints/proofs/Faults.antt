@@ -35,7 +35,7 @@ use Rattle.faultless_endpoints.proofs.Once.{keys_in, AreOnce, same_alone}
 use Rattle.printed_tokens.specs.Symbols.{ordered_at}
 use Rattle.printed_tokens.specs.Spelled.{IsNamed, AreNamed, IsCodeSpelled, AreArmsSpelled}
 use Rattle.printed_units.specs.Says.{Names, AllName, BodySays, ArmsSay, no_arm, one_arm}
-use Rattle.printed_names.proofs.SameNames.{Same, AllSame, same_number, same_among}
+use Rattle.printed_endpoints.proofs.SameNames.{Same, AllSame, same_number, same_among}
 
 -- a word has bytes
 has_bytes : {s : Symbol} {w : List ℕ} → IsLexeme s w → (u : List ℕ) → s ≡ word u → 0 < length w

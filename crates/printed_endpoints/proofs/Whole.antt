@@ -1,5 +1,5 @@
 -- The text of programs without a fault violates no rule of endpoint files.
-use Rattle.std.proofs.Common.{◌≡◌, ℕ, Bool, true, false, not, List, [], ◌∷◌, ◌++◌, map, is_some, refl, sym, ap, ◌∙◌, subst, arith}
+use Rattle.std.proofs.Common.{◌≡◌, ℕ, Bool, true, false, not, List, [], ◌∷◌, ◌++◌, map, is_some, refl, sym, ap, ◌∙◌, subst, arith, inl, inr}
 use Rattle.std.specs.List.{flat_map, AllByRecursion}
 use Rattle.asked_codes.specs.Asked.{AsksTree, BodiesAskKnown}
 use Rattle.chor_base.specs.declared.names.NameId.{NameId}
@@ -21,15 +21,14 @@ use Rattle.endpoint_code.specs.Trees as tree
 use Rattle.endpoint_names.specs.Keys.{sign_of_name, sign_of_channel, sign_of_procedure, sign_of_service, sign_of_process}
 use Rattle.endpoint_names.specs.Bodies.{Body, body_at}
 use Rattle.endpoint_names.specs.Bodies as body
-use Rattle.endpoint_names.specs.Faults.{fault_at, names_in, repeated, channel_of, procedure_of, unknown_channel, inactive, unbound, bound_again, bound_after, wrong_call, Setting, setting, action_faults, call_faults, body_faults, arms_faults}
+use Rattle.endpoint_names.specs.Faults.{fault_at, names_in, repeated, channel_of, procedure_of, unknown_channel, inactive, unbound, bound_again, bound_after, wrong_call, Setting, setting, action_faults, call_faults, body_faults, arms_faults, channel_faults, unprovided, unserved, procedure_faults, service_faults, process_faults, faults_of_channels, faults_of_procedures, faults_of_services, faults_of_processes, name_faults}
 use Rattle.faultless_endpoints.specs.Reading.{written_body}
 use Rattle.faultless_endpoints.proofs.Lists.{two_nothings, faultless_so}
-use Rattle.faultless_endpoints.proofs.Once.{names_distinct}
+use Rattle.faultless_endpoints.proofs.Once.{names_distinct, units_apart, services_single, known_service}
 use Rattle.printed_tokens.specs.Symbols.{ordered_at}
 use Rattle.printed_units.specs.Says.{BodySays, calls}
-use Rattle.printed_names.proofs.SameNames.{same_distinct}
+use Rattle.printed_endpoints.proofs.SameNames.{same_distinct, both_same}
 use Rattle.std.specs.Prelude.{All, Contains, slice_index_or}
-use Rattle.std.proofs.Common.{inl, inr}
 use Rattle.chor_base.specs.Faults.{fault as told}
 use Rattle.std.proofs.lemmas.List.{map-append}
 use Rattle.std.proofs.lemmas.List.Elements.{All-head, All-tail, All-from_recursion}
@@ -41,21 +40,17 @@ use Rattle.endpoint_code.specs.declared.code.CodeNode.{CodeNode}
 use Rattle.endpoint_code.specs.declared.code.CodeNode.TheVariants as node
 use Rattle.endpoint_code.specs.Faults as code
 use Rattle.endpoint_code.proofs.CodeTables.{code_at-node}
-use Rattle.endpoint_names.specs.Class.{IsFaultless, opening_faults, begin_faults}
+use Rattle.endpoint_names.specs.Class.{IsFaultless, opening_faults, begin_faults, IsBroken}
 use Rattle.endpoint_names.specs.Faults as fault
-use Rattle.faultless_endpoints.proofs.Once.{units_apart, services_single, known_service}
 use Rattle.faultless_endpoints.proofs.Backward.{IsFine, tree_fine}
 use Rattle.printed_tokens.specs.Ordered.{in_order}
-use Rattle.printed_names.proofs.SameNames.{both_same}
-use Rattle.printed_names.proofs.Ordering.{fine_ordered}
-use Rattle.printed_names.proofs.Faults.{IsSame, AreSame, ChannelSame, ProcedureSame, ServiceSame, ProcessSame, CodeSaid, UnitsSame, among, channel_found}
-use Rattle.printed_names.proofs.Bodies.{body_fine}
+use Rattle.printed_endpoints.proofs.Ordering.{fine_ordered}
+use Rattle.printed_endpoints.proofs.Faults.{IsSame, AreSame, ChannelSame, ProcedureSame, ServiceSame, ProcessSame, CodeSaid, UnitsSame, among, channel_found}
+use Rattle.printed_endpoints.proofs.Bodies.{body_fine}
 use Rattle.chor_base.specs.declared.rule.Refusal.{Refusal}
 use Rattle.chor_base.specs.declared.rule.Denied.TheVariants.{Refused}
 use Rattle.endpoint_units.specs.Wholes.{IsWritten}
-use Rattle.endpoint_names.specs.Faults.{channel_faults, unprovided, unserved, procedure_faults, service_faults, process_faults, faults_of_channels, faults_of_procedures, faults_of_services, faults_of_processes, name_faults}
 use Rattle.endpoint_check.specs.Programs.{lexemes_of, IsInputOf, ViolatesPrograms, unread, broken, grammar, names}
-use Rattle.endpoint_names.specs.Class.{IsBroken}
 use Rattle.endpoint_reader.proofs.Spelled.{spelled}
 use Rattle.endpoint_text.specs.Text.{endpoints_text}
 use Rattle.chor_lexer.specs.Tokens.{IsTokens}
@@ -63,7 +58,7 @@ use Rattle.canonical_laws.proofs.Tables.{distinct_names}
 use Rattle.printed_tokens.proofs.Cutting.{is_taken}
 use Rattle.printed_units.specs.Laws.{AreWritable}
 use Rattle.printed_units.proofs.Units.{units_say_them, tokens_are_taken}
-use Rattle.printed_names.proofs.Files.{no_faults, units_same, channel_names, process_names, apart, service_there, single}
+use Rattle.printed_endpoints.proofs.Files.{no_faults, units_same, channel_names, process_names, apart, service_there, single}
 
 -- every function is known to who knows all
 any_node : (n : CodeNode) → code.asks_known (λ x. true) n ≡ true

@@ -30,8 +30,8 @@ use Rattle.asked_codes.specs.Asked.{asks_so}
 use Rattle.faultless_endpoints.proofs.Backward.{IsFine, AreFine}
 use Rattle.printed_tokens.specs.Spelled.{IsNamed, AreNamed, IsActionSpelled, IsCodeSpelled, AreArmsSpelled}
 use Rattle.printed_units.specs.Says.{Names, AllName, DeedSays, joins, sends, receives, selects, gives, gains, sets, shows, asks, BodySays, does, offers, tests, calls, ends, ArmsSay, no_arm, one_arm}
-use Rattle.printed_names.proofs.SameNames.{as_many, same_without, same_distinct, same_all_among}
-use Rattle.printed_names.proofs.Faults.{AreSame, is_same, are_same, UnitsSame, among, channel_found, procedure_found, labels_once}
+use Rattle.printed_endpoints.proofs.SameNames.{as_many, same_without, same_distinct, same_all_among}
+use Rattle.printed_endpoints.proofs.Faults.{AreSame, is_same, are_same, UnitsSame, among, channel_found, procedure_found, labels_once}
 
 all_there : (bs : List NameId) (ks : List Named) → all_among (names_in ks) bs ≡ true → flat_map (unbound bs) ks ≡ []
 all_there bs [] h = refl
