@@ -1,3 +1,10 @@
+mod Found
+mod Answered
+pub mod Tables
+mod AskedCodes
+mod AskedBodies
+mod AskedServices
+pub mod AskedWhole
 pub mod Names
 pub mod Knows
 pub mod Passed

@@ -10,7 +10,7 @@ use Rattle.endpoint_code.specs.declared.endpoints.Endpoints.{Endpoints}
 use Rattle.endpoint_code.specs.Scheduled.{Close}
 use Rattle.endpoint_text.specs.Text.{endpoints_text}
 use Rattle.endpoint_check.specs.Programs.{AreProgramsOf, ViolatesPrograms}
-pub use Rattle.answered_files.specs.Laws.{AreExact}
+pub use Rattle.faultless_projections.specs.Laws.{AreExact}
 use Rattle.projection.specs.Projects.{Projects}
 use Rattle.source_check.specs.Source.{IsAccepted}
 use Rattle.source_check.specs.declared.rules.Rules.TheVariants.{All}

@@ -10,7 +10,7 @@ pub fn projected_text_is_taken()
 {
     writable_projections::projection_is_writable();
     faultless_projections::projection_is_faultless();
-    asked_projections::projection_asks_known();
+    faultless_projections::projection_asks_known();
     printed_endpoints::text_is_taken();
 }
 
@@ -24,7 +24,7 @@ pub fn projected_text_runs()
     printed_endpoints::text_reads_back();
     same_faults::copies_are_faultless();
     same_transcripts::transcripts_agree();
-    answered_files::asked_functions_answer();
+    faultless_projections::asked_functions_answer();
     accepted_files::scheduled_runs_are_runs();
 }
 

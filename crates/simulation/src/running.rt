@@ -72,7 +72,7 @@ pub(crate) fn functions_answer(accepted: &Accepted, hosts: &HostTable)
     requires { accepted.now.typed.hosts ≡ names_of (functions_of hosts.now) }
     ensures { IsAnswered accepted.now.typed.file (hosts_in accepted.now.typed.file.names (functions_of hosts.now)) }
 {
-    answered_files::asked_functions_answer();
+    faultless_projections::asked_functions_answer();
     // that no name stands twice
     let _count = accepted.typed().file().names.len();
 }

@@ -15,7 +15,7 @@ use Rattle.projection.specs.Projects.{Started, start_at, starts_in, starts_in_pr
 use Rattle.projection.proofs.OneCode.{code_distinct}
 use Rattle.asked_codes.specs.Asked.{AsksTree}
 use Rattle.asked_codes.proofs.Merged.{least_asks}
-use Rattle.asked_projections.proofs.Codes.{Known, both_known, code_known}
+use Rattle.faultless_projections.proofs.AskedCodes.{Known, both_known, code_known}
 
 pub each_append : {X : Type 0} (P : X → Type 0) (xs ys : List X) → AllByRecursion P xs → AllByRecursion P ys → AllByRecursion P (xs ++ ys)
 each_append P [] ys h k = k

@@ -12,7 +12,7 @@ use Rattle.chor_host.specs.Functions.{Function, names_of, hosts_in, meaning_of}
 use Rattle.chor_host.specs.Exact.{IsExact}
 use Rattle.chor_host.proofs.Meanings.{by_number}
 use Rattle.well_formed.specs.Asked.{CanAnswer}
-use Rattle.answered_files.specs.Laws.{AreExact}
+use Rattle.faultless_projections.specs.Laws.{AreExact}
 
 -- the first function of a name has an exact meaning
 exact_of : (w : List ℕ) (functions : List Function) → AreExact functions → list_any (bytes_eq w) (names_of functions) ≡ true → (m : Meaning) × (meaning_of functions w ≡ Some m) × IsExact m

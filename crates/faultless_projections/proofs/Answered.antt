@@ -33,8 +33,8 @@ use Rattle.typed_sources.proofs.Resolved.{no_items, both_empty}
 use Rattle.typed_sources.proofs.ProcedureHeads.{no_fault_at}
 use Rattle.file_trees.proofs.Followers.{low, only, other}
 use Rattle.chor_host.specs.Functions.{Function, names_of, hosts_in}
-use Rattle.answered_files.specs.Laws.{AreExact}
-use Rattle.answered_files.proofs.Found.{has_answer}
+use Rattle.faultless_projections.specs.Laws.{AreExact}
+use Rattle.faultless_projections.proofs.Found.{has_answer}
 
 in_table : (ns : List Node) (i : ℕ) → i < length ns → (n : Node) × (slice_get ns i ≡ Some n) × Contains ns n
 in_table [] i l = absurd (omega (arith, l))

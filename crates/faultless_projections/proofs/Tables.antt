@@ -5,7 +5,7 @@ use denote.Param.Members.{Mut}
 use Rattle.chor_host.specs.declared.function.HostFn.{HostFn}
 use Rattle.chor_host.specs.Functions.{Function, function_of}
 use Rattle.chor_host.specs.Exact.{IsExact}
-use Rattle.answered_files.specs.Laws.{AreExact}
+use Rattle.faultless_projections.specs.Laws.{AreExact}
 
 module _ {X : Type 0} {g : Mut X (ℤ × (ℤ × Unit {0})) ℤ} where
   pub all_exact : (functions : List (HostFn X g)) → AreExact (map function_of functions)

@@ -23,7 +23,7 @@ use Rattle.chor_semantics.specs.Choreography.{Choreography}
 use Rattle.source_blocks.specs.Blocks.{choreography_of}
 use Rattle.source_blocks.proofs.Blocks.{block_choreography}
 use Rattle.projection.specs.Projects.{body_at}
-use Rattle.asked_projections.proofs.Codes.{Known}
+use Rattle.faultless_projections.proofs.AskedCodes.{Known}
 
 -- ---- lists
 

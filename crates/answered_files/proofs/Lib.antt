@@ -1,3 +1,0 @@
-mod Found
-mod Answered
-pub mod Tables

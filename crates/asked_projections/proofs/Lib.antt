@@ -1,4 +1,0 @@
-mod Codes
-mod Bodies
-mod Services
-pub mod Whole

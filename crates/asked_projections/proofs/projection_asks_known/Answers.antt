@@ -1,5 +1,0 @@
-use Rattle.asked_projections.proofs.Whole.{bodies_known}
-use Rattle.asked_projections.proofs.projection_asks_known.Goals as goal
-
-pub returns : goal.returns
-returns x f words clean e pr = bodies_known f words clean e pr
