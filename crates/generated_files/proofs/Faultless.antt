@@ -11,15 +11,15 @@ use Rattle.source_check.specs.declared.rules.Rules.TheVariants.{All}
 use Rattle.source_check.specs.Classes.{HasNoMergeFault, classes_of, IsFaultless, Breaks}
 use Rattle.source_check.specs.Source.{IsBroken}
 use Rattle.source_check.proofs.OneClass.{none_first}
-use Rattle.generated_sources.specs.Generated.{IsGenerated}
-use Rattle.generated_sources.proofs.Resolved.{all_resolved}
-use Rattle.generated_protocols.proofs.Stated as stated
-use Rattle.generated_protocols.proofs.Views as view
-use Rattle.generated_types.proofs.Typed.{all_typed}
-use Rattle.generated_types.proofs.Guarded.{all_guarded}
-use Rattle.generated_order.proofs.Ordered.{all_ordered}
-use Rattle.generated_merging.proofs.Branches as branch
-use Rattle.generated_merging.proofs.Starts as start
+use Rattle.generated_files.specs.Generated.{IsGenerated}
+use Rattle.generated_files.proofs.Resolved.{all_resolved}
+use Rattle.generated_files.proofs.Stated as stated
+use Rattle.generated_files.proofs.Views as view
+use Rattle.generated_files.proofs.Typed.{all_typed}
+use Rattle.generated_files.proofs.Guarded.{all_guarded}
+use Rattle.generated_files.proofs.Ordered.{all_ordered}
+use Rattle.generated_files.proofs.Branches as branch
+use Rattle.generated_files.proofs.Starts as start
 
 module _ (f : File) (count : ℕ) (g : IsGenerated f count) where
   linear : (x : Fault) → ¬ IsLinearityFault f x

@@ -16,7 +16,7 @@ use Rattle.net_core.specs.Picks.{entries_of}
 use Rattle.simulation.specs.Accepted.{AcceptedView}
 use Rattle.simulation.specs.Runs.{IsOutcomeOf}
 use Rattle.simulation.specs.declared.running.Outcome.{Outcome}
-use Rattle.generated_sources.specs.Generated.{IsGenerated}
+use Rattle.generated_files.specs.Generated.{IsGenerated}
 use Rattle.generated_runs.specs.Counts.{events_of, sessions_in, processes_after}
 use Rattle.generated_runs.specs.Texts.{summary_line, IsLineFor, IsSummary}
 

@@ -6,7 +6,7 @@ use Rattle.chor_base.specs.declared.event.Entry.{Entry}
 use Rattle.chor_tree.specs.declared.file.File.{File}
 use Rattle.chor_host.specs.Functions.{Function, hosts_in}
 use Rattle.chor_print.specs.Text.{canonical_text}
-use Rattle.generated_sources.specs.Generated.{IsGenerated}
+use Rattle.generated_files.specs.Generated.{IsGenerated}
 use Rattle.endpoint_code.specs.declared.endpoints.Endpoints.{Endpoints}
 use Rattle.simulation.specs.Runs.{close_of, IsRunOf}
 use Rattle.generated_runs.specs.Counts.{events_of, sessions_in, processes_after}

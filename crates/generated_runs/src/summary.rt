@@ -3,7 +3,7 @@
 ghost use Rattle.std.specs.Prelude.{◌≡◌, ◌≤◌, IfOk};
 ghost use Rattle.chor_host.specs.Functions.{names_of};
 ghost use Rattle.chor_host.specs.Tables.{functions_of};
-ghost use Rattle.generated_sources.specs.Generated.{IsGenerated};
+ghost use Rattle.generated_files.specs.Generated.{IsGenerated};
 ghost use Rattle.generated_runs.specs.Texts.{IsSummary, IsLineFor, summary_line};
 
 use crate::counts::{Counts, counts_of};

@@ -1,0 +1,5 @@
+use Rattle.generated_files.proofs.Starts.{all_merge}
+use Rattle.generated_files.proofs.generated_starts_merge.Goals as goal
+
+pub returns : goal.returns
+returns c f count g = all_merge f count g

@@ -1,5 +1,0 @@
-pub mod Stated
-pub mod Marks
-pub mod RoundViews
-pub mod ForkViews
-pub mod Views

@@ -1,5 +1,0 @@
-use Rattle.generated_protocols.proofs.Stated.{all_fine}
-use Rattle.generated_protocols.proofs.generated_protocols_are_fine.Goals as goal
-
-pub returns : goal.returns
-returns c f count g = all_fine f count g

@@ -1,3 +1,0 @@
-pub mod Clear
-pub mod Typed
-pub mod Guarded
