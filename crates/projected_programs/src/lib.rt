@@ -8,7 +8,7 @@ ghost use Rattle.projected_programs.specs.Laws.{ProjectedTextIsTaken, ProjectedT
 pub fn projected_text_is_taken()
     ensures { ProjectedTextIsTaken }
 {
-    writable_projections::projection_is_writable();
+    writable_sources::projection_is_writable();
     faultless_projections::projection_is_faultless();
     faultless_projections::projection_asks_known();
     printed_endpoints::text_is_taken();
@@ -19,7 +19,7 @@ pub fn projected_text_is_taken()
 pub fn projected_text_runs()
     ensures { ProjectedTextRuns }
 {
-    writable_projections::projection_is_writable();
+    writable_sources::projection_is_writable();
     faultless_projections::projection_is_faultless();
     printed_endpoints::text_reads_back();
     same_faults::copies_are_faultless();
@@ -33,7 +33,7 @@ pub fn projected_text_runs()
 pub fn source_runs_are_told()
     ensures { SourceRunsAreTold }
 {
-    writable_projections::projection_is_writable();
+    writable_sources::projection_is_writable();
     faultless_projections::projection_is_faultless();
     accepted_files::checked_runs();
     told_events::few_told();

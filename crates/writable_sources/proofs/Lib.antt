@@ -1,3 +1,9 @@
+pub mod Merged
+pub mod Codes
+pub mod Services
 pub mod Limits
 pub mod Blocks
 pub mod Sources
+pub mod Starts
+pub mod Units
+pub mod Whole

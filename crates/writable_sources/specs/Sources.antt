@@ -7,7 +7,7 @@ use Rattle.chor_tree.specs.Source.{Procedure, Source}
 use Rattle.endpoint_code.specs.declared.endpoints.Endpoints.{Endpoints}
 use Rattle.printed_tokens.specs.Spelled.{IsNamed}
 use Rattle.source_blocks.specs.Blocks.{choreography_of}
-use Rattle.writable_codes.specs.Written.{IsWritableIn}
+use Rattle.writable_sources.specs.Written.{IsWritableIn}
 
 abbrev pub AreNamedThere : Endpoints → List Named → Type 0
 AreNamedThere e xs = AllByRecursion (λ x. IsNamed e x.name) xs

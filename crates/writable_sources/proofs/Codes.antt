@@ -12,8 +12,8 @@ use Rattle.printed_tokens.specs.Spelled.{IsNamed, AreNamed, IsActionSpelled}
 use Rattle.printed_units.specs.Limits.{IsActionShort}
 use Rattle.projection.specs.Codes.{Part, Absent, Acts, Learns, name_of, is_named, role_in, joins, sends, receives, acts_alone, part_in, proc_named, param_for, holds, passed_for, call_as, call_code, IsCodeOf, acts, learns, absent, decides, merges, calls, ends}
 use Rattle.projection.proofs.OneCode.{code_distinct}
-use Rattle.writable_codes.specs.Written.{IsNamedRef, IsWritableContent, IsWritableOwn, IsWritableNode, IsWritableIn, IsWritableHead, IsWritableCode}
-use Rattle.writable_codes.proofs.Merged.{fits_more, least_writable}
+use Rattle.writable_sources.specs.Written.{IsNamedRef, IsWritableContent, IsWritableOwn, IsWritableNode, IsWritableIn, IsWritableHead, IsWritableCode}
+use Rattle.writable_sources.proofs.Merged.{fits_more, least_writable}
 
 module _ (e : Endpoints) where
   -- ---- what a process does at a node

@@ -8,7 +8,7 @@ use Rattle.chor_lexer.proofs.Each.{each_append}
 use Rattle.chor_semantics.specs.Choreography.{Node, Starts, Communicates, InTransit, Alone, Choreography, Then, Either, Calls, Ends}
 use Rattle.endpoint_code.specs.declared.endpoints.Endpoints.{Endpoints}
 use Rattle.projection.specs.Projects.{Started, start_at, starts_in, starts_in_procs, starts_of, body_at}
-use Rattle.writable_codes.specs.Written.{IsWritableIn}
+use Rattle.writable_sources.specs.Written.{IsWritableIn}
 
 module _ (e : Endpoints) where
   -- with room for more nodes

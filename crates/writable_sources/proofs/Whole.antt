@@ -17,10 +17,10 @@ use Rattle.projection.specs.Projects.{Projects, starts_of, body_at, is_some_star
 use Rattle.source_blocks.specs.Blocks.{choreography_of}
 use Rattle.source_blocks.proofs.Blocks.{block_choreography}
 use Rattle.source_check.specs.Source.{IsFileOf}
-use Rattle.writable_codes.specs.Written.{IsWritableIn, IsWritableHead}
+use Rattle.writable_sources.specs.Written.{IsWritableIn, IsWritableHead}
 use Rattle.writable_sources.specs.Sources.{IsWritableService, IsWritableProcedure, IsWritableSource}
 use Rattle.writable_sources.proofs.Sources.{source_writable}
-use Rattle.writable_projections.proofs.Units.{change, map_all, map_back, filter_all, IsChannelWritable, channel_written, IsProcedureWritable, procedures_written, IsServiceWritable, services_written, IsProcessWritable, processes_written}
+use Rattle.writable_sources.proofs.Units.{change, map_all, map_back, filter_all, IsChannelWritable, channel_written, IsProcedureWritable, procedures_written, IsServiceWritable, services_written, IsProcessWritable, processes_written}
 
 module _ (bytes : List ℕ) (f : File) (is : IsFileOf bytes f) (e : Endpoints) (pr : Projects f e) where
   -- ---- the source

@@ -1,5 +1,5 @@
-use Rattle.writable_projections.proofs.Whole.{text_writable}
-use Rattle.writable_projections.proofs.projection_is_writable.Goals as goal
+use Rattle.writable_sources.proofs.Whole.{text_writable}
+use Rattle.writable_sources.proofs.projection_is_writable.Goals as goal
 
 pub returns-clause-text : goal.returns-clause-text
 returns-clause-text c bytes f h e pr = text_writable bytes f h e pr

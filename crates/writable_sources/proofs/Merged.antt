@@ -10,7 +10,7 @@ use Rattle.printed_tokens.specs.Spelled.{IsCodeSpelled, AreArmsSpelled, IsNamed}
 use Rattle.printed_units.specs.Limits.{HasArm, Fits, EachFits}
 use Rattle.merged_codes.specs.Merges.{IsMerge, both_do, both_offer, both_test, both_call, both_end, AreMergedArms, left_over, alone, in_both, IsMergeOf, no_other, one_other}
 use Rattle.merged_codes.proofs.Least.{least_made}
-use Rattle.writable_codes.specs.Written.{IsWritableCode}
+use Rattle.writable_sources.specs.Written.{IsWritableCode}
 
 module _ (e : Endpoints) where
   -- ---- room for more nodes

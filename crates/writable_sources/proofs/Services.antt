@@ -11,9 +11,9 @@ use Rattle.endpoint_code.specs.Trees.{CodeTree}
 use Rattle.printed_tokens.specs.Spelled.{IsNamed}
 use Rattle.projection.specs.Projects.{Started, is_some_start, session_as, IsStartCode, IsServiceCode}
 use Rattle.projection.proofs.OneCode.{code_distinct}
-use Rattle.writable_codes.specs.Written.{IsNamedRef, IsWritableContent, IsWritableNode, IsWritableIn, IsWritableHead, IsWritableCode}
-use Rattle.writable_codes.proofs.Merged.{least_writable}
-use Rattle.writable_codes.proofs.Codes.{code_writable}
+use Rattle.writable_sources.specs.Written.{IsNamedRef, IsWritableContent, IsWritableNode, IsWritableIn, IsWritableHead, IsWritableCode}
+use Rattle.writable_sources.proofs.Merged.{least_writable}
+use Rattle.writable_sources.proofs.Codes.{code_writable}
 
 module _ (e : Endpoints) where
   -- ---- another name for a session

@@ -19,11 +19,11 @@ use Rattle.printed_tokens.specs.Spelled.{IsNamed, AreNamed, IsChannelSpelled, Is
 use Rattle.printed_units.specs.Limits.{IsBodyWithin, IsChannelWithin, IsProcedureWithin}
 use Rattle.projection.specs.Codes.{holds, sessions_for}
 use Rattle.projection.specs.Projects.{body_at, is_some_start, starts_of, channel_from, names_of, parameters_of, service_roles, IsProcedureOf, IsServiceOf, IsProcessOf}
-use Rattle.writable_codes.specs.Written.{IsWritableIn, IsWritableHead}
-use Rattle.writable_codes.proofs.Codes.{code_writable}
-use Rattle.writable_codes.proofs.Services.{service_writable}
+use Rattle.writable_sources.specs.Written.{IsWritableIn, IsWritableHead}
+use Rattle.writable_sources.proofs.Codes.{code_writable}
+use Rattle.writable_sources.proofs.Services.{service_writable}
 use Rattle.writable_sources.specs.Sources.{AreNamedThere, IsWritableService}
-use Rattle.writable_projections.proofs.Starts.{all_followed}
+use Rattle.writable_sources.proofs.Starts.{all_followed}
 
 -- ---- lists
 

@@ -1,3 +1,0 @@
-pub mod Merged
-pub mod Codes
-pub mod Services

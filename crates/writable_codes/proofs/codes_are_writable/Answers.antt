@@ -1,5 +1,0 @@
-use Rattle.writable_codes.proofs.Codes.{code_writable}
-use Rattle.writable_codes.proofs.codes_are_writable.Goals as goal
-
-pub returns : goal.returns
-returns x e procs heads r n c t h w = code_writable e procs heads r n c t h w
