@@ -23,11 +23,11 @@ use Rattle.endpoint_code.specs.Labels.{has_label, HasDistinctLabels, AreDistinct
 use Rattle.endpoint_code.specs.Network as network
 use Rattle.endpoint_code.specs.Trees.{Action, Asks, CodeTree, Does, Offers, Tests, Calls, Ends, Arms, NoArms, Arm, arms_in, trees_of, code_at}
 use Rattle.endpoint_code.proofs.CodeTables.{code_at-node}
-use Rattle.scoped_codes.specs.Scoped.{IsScopedAction, IsScopedTree, AreScopedArms, IsScopedCall}
+use Rattle.merged_codes.specs.Scoped.{IsScopedAction, IsScopedTree, AreScopedArms, IsScopedCall}
 use Rattle.endpoint_names.specs.Keys.{alone, both, same_key, sign_of_name, sign_of_channel, sign_of_procedure, first_by}
 use Rattle.endpoint_names.specs.Bodies as body
 use Rattle.endpoint_names.specs.Faults.{fault_at, names_in, repeated, channel_of, procedure_of, unknown_channel, inactive, unbound, bound_again, bound_after, wrong_call, setting, action_faults, call_faults, body_faults, arms_faults}
-use Rattle.asked_codes.specs.Asked.{asks_so, AsksTree, AsksArms}
+use Rattle.merged_codes.specs.Asked.{asks_so, AsksTree, AsksArms}
 use Rattle.endpoint_names.proofs.Keys.{number_turned, left_true, right_true}
 use Rattle.endpoint_making.specs.Codes.{code_id, action_of, code_of, arms_of}
 use Rattle.endpoint_making.specs.Making.{channel_made, procedure_made, IsMadeOf}

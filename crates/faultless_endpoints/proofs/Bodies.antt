@@ -23,8 +23,8 @@ use Rattle.endpoint_code.specs.Network as network
 use Rattle.endpoint_code.specs.Trees as tree
 use Rattle.node_table.proofs.Tables.{trees_length}
 use Rattle.endpoint_code.proofs.CodeTables.{length-trees_of}
-use Rattle.scoped_codes.specs.Scoped as scoped
-use Rattle.scoped_codes.proofs.Tables.{tree_tells}
+use Rattle.merged_codes.specs.Scoped as scoped
+use Rattle.merged_codes.proofs.ScopedTables.{tree_tells}
 use Rattle.endpoint_names.specs.Keys.{alone, both, same_key, is_known, sign_of_name, sign_of_channel, sign_of_procedure, first_by}
 use Rattle.endpoint_names.specs.Bodies.{Body, Does, Offers, Tests, Calls, Ends, Arms, NoArms, Arm, labels_of, line_body, bodies_of, body_at}
 use Rattle.endpoint_names.specs.Faults.{fault_at, names_in, repeated, channel_of, procedure_of, unknown_channel, inactive, unbound, bound_again, bound_after, wrong_call, setting, action_faults, call_faults, body_faults, arms_faults}

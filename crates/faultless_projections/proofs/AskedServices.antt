@@ -13,8 +13,8 @@ use Rattle.endpoint_code.specs.Trees.{CodeTree, Ends as Stops}
 use Rattle.well_formed.proofs.Asked.{asked_put}
 use Rattle.projection.specs.Projects.{Started, start_at, starts_in, starts_in_procs, starts_of, body_at, session_as, IsStartCode, IsServiceCode}
 use Rattle.projection.proofs.OneCode.{code_distinct}
-use Rattle.asked_codes.specs.Asked.{AsksTree}
-use Rattle.asked_codes.proofs.Merged.{least_asks}
+use Rattle.merged_codes.specs.Asked.{AsksTree}
+use Rattle.merged_codes.proofs.AskedMerged.{least_asks}
 use Rattle.faultless_projections.proofs.AskedCodes.{Known, both_known, code_known}
 
 pub each_append : {X : Type 0} (P : X → Type 0) (xs ys : List X) → AllByRecursion P xs → AllByRecursion P ys → AllByRecursion P (xs ++ ys)

@@ -19,7 +19,7 @@ use Rattle.endpoint_code.specs.Faults.{is_listed}
 use Rattle.endpoint_code.specs.Trees.{code_at}
 use Rattle.well_formed.specs.Asked.{AllAsked}
 use Rattle.projection.specs.Projects.{body_at, starts_of, parameters_of, service_roles, started_services, IsProcedureOf, IsServiceOf, IsProcessOf, Projects}
-use Rattle.asked_codes.specs.Asked.{AsksTree, BodiesAskKnown}
+use Rattle.merged_codes.specs.Asked.{AsksTree, BodiesAskKnown}
 use Rattle.faultless_projections.proofs.AskedBodies.{is_known, main_known, procs_known}
 use Rattle.faultless_projections.proofs.AskedCodes.{Known, code_known}
 use Rattle.faultless_projections.proofs.AskedServices.{each_append, all_started, service_known}

@@ -35,8 +35,8 @@ use Rattle.projection_follows.specs.Premises.{EachGuarded}
 use Rattle.projection_follows.proofs.FromProjects.{has_units}
 use Rattle.projection_follows.proofs.NoCall.{no_call_first}
 use Rattle.projection_follows.proofs.Units.{HasUnits}
-use Rattle.scoped_codes.specs.Scoped.{IsScopedCode}
-use Rattle.scoped_codes.proofs.Tables.{tree_tells}
+use Rattle.merged_codes.specs.Scoped.{IsScopedCode}
+use Rattle.merged_codes.proofs.ScopedTables.{tree_tells}
 use Rattle.held_sessions.proofs.Codes.{code_scoped}
 use Rattle.held_sessions.proofs.Services.{service_scoped}
 use Rattle.faultless_projections.proofs.Names.{distinct_names, distinct_roles}

@@ -10,7 +10,7 @@ use Rattle.typing_rules.specs.Guarded.{IsGuarded}
 use Rattle.endpoint_code.specs.declared.endpoints.Endpoints.{Endpoints}
 use Rattle.endpoint_code.specs.Faults.{IsFaultless}
 use Rattle.well_formed.specs.Asked.{IsAnswered}
-use Rattle.asked_codes.specs.Asked.{BodiesAskKnown}
+use Rattle.merged_codes.specs.Asked.{BodiesAskKnown}
 use Rattle.typed_sources.specs.Laws.{IsAccepted}
 use Rattle.projection.specs.Projects.{Projects}
 

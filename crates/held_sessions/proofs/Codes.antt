@@ -16,8 +16,8 @@ use Rattle.projection.proofs.OneCode.{code_distinct}
 use Rattle.projection_follows.specs.Roles.{has_name}
 use Rattle.projection_follows.proofs.Units.{HasUnits}
 use Rattle.held_sessions.specs.Held.{Held, with_held, GivesHeld, GainsNew, held_after, Exchanges, JoinsNew, HoldsListed, PassesFor, PassesAtCall, UsesHeld, Agrees}
-use Rattle.scoped_codes.specs.Scoped.{bound_after, IsScopedAction, IsScopedTree, IsScopedCode}
-use Rattle.scoped_codes.proofs.Merged.{least_scoped}
+use Rattle.merged_codes.specs.Scoped.{bound_after, IsScopedAction, IsScopedTree, IsScopedCode}
+use Rattle.merged_codes.proofs.ScopedMerged.{least_scoped}
 
 -- ---- lists of bound sessions
 

@@ -10,8 +10,8 @@ use Rattle.endpoint_code.specs.Trees.{CodeTree}
 use Rattle.well_formed.proofs.References.{true_eq}
 use Rattle.projection.specs.Projects.{Started, is_some_start, session_as, IsStartCode, IsServiceCode}
 use Rattle.projection_follows.proofs.Units.{HasUnits}
-use Rattle.scoped_codes.specs.Scoped.{IsScopedCode}
-use Rattle.scoped_codes.proofs.Merged.{least_scoped}
+use Rattle.merged_codes.specs.Scoped.{IsScopedCode}
+use Rattle.merged_codes.proofs.ScopedMerged.{least_scoped}
 use Rattle.held_sessions.specs.Held.{Agrees, only_in, StartUses}
 use Rattle.held_sessions.proofs.Codes.{code_scoped}
 use Rattle.held_sessions.proofs.Renamed.{uses_renamed}

@@ -8,7 +8,7 @@ use Rattle.endpoint_code.specs.declared.endpoints.Endpoints.{Endpoints}
 use Rattle.endpoint_code.specs.Trees.{CodeTree}
 use Rattle.projection.specs.Codes.{IsCodeOf}
 use Rattle.projection.specs.Projects.{Projects, Started, is_some_start, IsServiceCode}
-use Rattle.scoped_codes.specs.Scoped.{IsScopedCode}
+use Rattle.merged_codes.specs.Scoped.{IsScopedCode}
 use Rattle.held_sessions.specs.Held.{Held, UsesHeld, Agrees, StartUses}
 
 -- their code uses its session names well, where the sessions in which they hold a role are bound

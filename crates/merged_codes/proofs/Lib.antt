@@ -1,1 +1,4 @@
 pub mod Least
+pub mod AskedMerged
+pub mod ScopedTables
+pub mod ScopedMerged

@@ -1,2 +1,4 @@
 pub mod Merges
+pub mod Asked
+pub mod Scoped
 pub mod Laws

@@ -16,8 +16,8 @@ use Rattle.endpoint_reader.specs.Nodes.{deed_of}
 use Rattle.endpoint_code.specs.declared.endpoints.Endpoints.{Endpoints}
 use Rattle.endpoint_code.specs.Faults.{is_among, AreDistinct, all_among, is_listed}
 use Rattle.endpoint_code.specs.Trees.{Action, CodeTree, Arms}
-use Rattle.scoped_codes.specs.Scoped as scoped
-use Rattle.scoped_codes.specs.Scoped.{IsScopedAction, IsScopedCall}
+use Rattle.merged_codes.specs.Scoped as scoped
+use Rattle.merged_codes.specs.Scoped.{IsScopedAction, IsScopedCall}
 use Rattle.endpoint_names.specs.Keys.{sign_of_name}
 use Rattle.endpoint_names.specs.Bodies.{Body, body_at}
 use Rattle.endpoint_names.specs.Bodies as body
@@ -26,7 +26,7 @@ use Rattle.endpoint_names.proofs.Keys.{left_true, right_true}
 use Rattle.faultless_endpoints.specs.Reading.{written_body, written_arms}
 use Rattle.faultless_endpoints.proofs.Lists.{two_nothings, faultless, faultless_so, count_same}
 use Rattle.faultless_endpoints.proofs.Once.{not_again, names_distinct}
-use Rattle.asked_codes.specs.Asked.{asks_so}
+use Rattle.merged_codes.specs.Asked.{asks_so}
 use Rattle.faultless_endpoints.proofs.Backward.{IsFine, AreFine}
 use Rattle.printed_tokens.specs.Spelled.{IsNamed, AreNamed, IsActionSpelled, IsCodeSpelled, AreArmsSpelled}
 use Rattle.printed_units.specs.Says.{Names, AllName, DeedSays, joins, sends, receives, selects, gives, gains, sets, shows, asks, BodySays, does, offers, tests, calls, ends, ArmsSay, no_arm, one_arm}

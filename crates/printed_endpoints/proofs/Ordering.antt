@@ -8,8 +8,8 @@ use Rattle.endpoint_code.specs.Labels.{has_label, HasDistinctLabels, AreDistinct
 use Rattle.endpoint_code.specs.Trees.{CodeTree, Does, Offers, Tests, Calls, Ends, Arms, NoArms, Arm}
 use Rattle.endpoint_names.proofs.Keys.{number_turned}
 use Rattle.endpoint_text.specs.Ascending.{is_before}
-use Rattle.scoped_codes.specs.Scoped.{bound_after, IsScopedTree, AreScopedArms}
-use Rattle.asked_codes.specs.Asked.{AsksTree, AsksArms}
+use Rattle.merged_codes.specs.Scoped.{bound_after, IsScopedTree, AreScopedArms}
+use Rattle.merged_codes.specs.Asked.{AsksTree, AsksArms}
 use Rattle.faultless_endpoints.proofs.Backward.{IsFine}
 use Rattle.printed_tokens.specs.Ordered.{with_arm, in_order, arms_in_order}
 

@@ -1,7 +1,7 @@
 -- The text of programs without a fault violates no rule of endpoint files.
 use Rattle.std.proofs.Common.{◌≡◌, ℕ, Bool, true, false, not, List, [], ◌∷◌, ◌++◌, map, is_some, refl, sym, ap, ◌∙◌, subst, arith, inl, inr}
 use Rattle.std.specs.List.{flat_map, AllByRecursion}
-use Rattle.asked_codes.specs.Asked.{AsksTree, BodiesAskKnown}
+use Rattle.merged_codes.specs.Asked.{AsksTree, BodiesAskKnown}
 use Rattle.chor_base.specs.declared.names.NameId.{NameId}
 use Rattle.chor_base.specs.Words.{AllDistinct}
 use Rattle.endpoint_reader.specs.declared.input.Input.{Input}

@@ -9,7 +9,7 @@ use Rattle.endpoint_names.specs.Faults.{setting}
 use Rattle.endpoint_names.specs.Class.{IsFaultless}
 use Rattle.endpoint_code.specs.declared.endpoints.Endpoints.{Endpoints}
 use Rattle.endpoint_code.specs.Faults as code
-use Rattle.asked_codes.specs.Asked.{BodiesAskKnown}
+use Rattle.merged_codes.specs.Asked.{BodiesAskKnown}
 use Rattle.endpoint_check.specs.Programs.{lexemes_of, IsInputOf, ViolatesPrograms}
 use Rattle.endpoint_text.specs.Text.{endpoints_text}
 use Rattle.printed_units.specs.Laws.{AreWritable}

@@ -3,7 +3,7 @@ use Rattle.std.specs.Prelude.{◌≤◌, ◌^◌, ℕ, List, length}
 use Rattle.endpoint_check.specs.Programs.{AreProgramsOf}
 use Rattle.endpoint_code.specs.declared.endpoints.Endpoints.{Endpoints}
 use Rattle.endpoint_code.specs.Faults.{IsFaultless}
-use Rattle.asked_codes.specs.Asked.{BodiesAskKnown}
+use Rattle.merged_codes.specs.Asked.{BodiesAskKnown}
 use Rattle.endpoint_text.specs.Text.{endpoints_text}
 use Rattle.printed_units.specs.Laws.{AreWritable}
 

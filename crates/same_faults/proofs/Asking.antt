@@ -21,7 +21,7 @@ use Rattle.endpoint_code.proofs.CodeTables.{code_at-node}
 use Rattle.same_programs.specs.Words.{SameName, SameText}
 use Rattle.same_programs.specs.Codes.{SameAction, joins, sends, receives, selects, gives, gains, sets, shows, asks, SameCode, does, offers, tests, calls, ends, SameArms, no_arm, one_arm}
 use Rattle.same_programs.specs.Programs.{SameCodeAt, SameProcedure, SameService, SameProcess, IsCopy}
-use Rattle.asked_codes.specs.Asked.{asks_so, AsksTree, AsksArms}
+use Rattle.merged_codes.specs.Asked.{asks_so, AsksTree, AsksArms}
 use Rattle.same_faults.specs.Laws.{IsUsed, begins_procedure, begins_service, begins_process, follows, AreUsed}
 use Rattle.same_faults.proofs.Lists.{all_over}
 

@@ -12,7 +12,7 @@ use Rattle.endpoint_code.specs.declared.endpoints.Process.{Process}
 use Rattle.endpoint_code.specs.declared.endpoints.Endpoints.{Endpoints}
 use Rattle.endpoint_code.specs.Faults.{is_among, AreDistinct, IsScoped, unit_among, AreApart, no_unit, one_unit, has_service, AreSingle, no_service, one_service, IsServed, begins_with_call, IsFaultless}
 use Rattle.endpoint_code.specs.Network.{node_at, channel_of}
-use Rattle.scoped_codes.proofs.Tables.{tree_tells}
+use Rattle.merged_codes.proofs.ScopedTables.{tree_tells}
 use Rattle.same_programs.specs.Words.{SameName, BothOrNeither}
 use Rattle.same_programs.specs.Programs.{SameChannel, SameProcedure, SameService, SameProcess, IsCopy}
 use Rattle.same_programs.proofs.Tests.{both_tests, one_test}

@@ -13,7 +13,7 @@ use Rattle.endpoint_code.specs.Network.{channel_of, procedure_of}
 use Rattle.endpoint_code.specs.Trees.{Action, CodeTree, Arms, arms_in, trees_of, code_at}
 use Rattle.endpoint_code.proofs.AboveOrder.{neither, flip}
 use Rattle.endpoint_code.proofs.CodeTables.{code_at-node}
-use Rattle.scoped_codes.specs.Scoped.{bound_after, IsScopedAction, IsScopedTree, AreScopedArms, IsScopedCall}
+use Rattle.merged_codes.specs.Scoped.{bound_after, IsScopedAction, IsScopedTree, AreScopedArms, IsScopedCall}
 use Rattle.same_programs.specs.Words.{SameName, SameText, BothOrNeither}
 use Rattle.same_programs.specs.Codes.{SameAction, joins, sends, receives, selects, gives, gains, sets, shows, asks, SameCode, does, offers, tests, calls, ends, SameArms, no_arm, one_arm}
 use Rattle.same_programs.specs.Programs.{IsCopy}

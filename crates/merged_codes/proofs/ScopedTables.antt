@@ -13,7 +13,7 @@ use Rattle.endpoint_code.specs.Labels.{has_label, HasDistinctLabels, AreDistinct
 use Rattle.endpoint_code.specs.Network.{node_at}
 use Rattle.endpoint_code.specs.Trees.{CodeTree, arms_in, node_tree, trees_of, code_at}
 use Rattle.endpoint_code.proofs.CodeTables.{code_at-node}
-use Rattle.scoped_codes.specs.Scoped.{IsScopedTree, AreScopedArms, IsScopedCode}
+use Rattle.merged_codes.specs.Scoped.{IsScopedTree, AreScopedArms, IsScopedCode}
 
 -- a node stands at each place of a table
 record Stands (nodes : List CodeNode) (i : ℕ) : Type 0 where

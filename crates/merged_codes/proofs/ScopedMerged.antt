@@ -15,7 +15,7 @@ use Rattle.endpoint_code.proofs.AboveOrder.{above_self, above_trans, has_there, 
 use Rattle.endpoint_code.proofs.Decides.{name_same}
 use Rattle.branch_merge.specs.Bounds.{IsLeast, AreLeast}
 use Rattle.branch_merge.proofs.Bounds.{least_self, least_does, least_tests, least_offers, least_rest, least_alone, least_paired}
-use Rattle.scoped_codes.specs.Scoped.{bound_after, IsScopedAction, IsScopedCall, IsScopedTree, AreScopedArms, IsScopedCode}
+use Rattle.merged_codes.specs.Scoped.{bound_after, IsScopedAction, IsScopedCall, IsScopedTree, AreScopedArms, IsScopedCode}
 
 module _ (e : Endpoints) where
   -- ---- a code with fewer labels

@@ -1,5 +1,0 @@
-use Rattle.asked_codes.proofs.Merged.{least_asks}
-use Rattle.asked_codes.proofs.least_asks_known.Goals as goal
-
-pub returns : goal.returns
-returns x known c cs q d w l = least_asks known c cs q d w l

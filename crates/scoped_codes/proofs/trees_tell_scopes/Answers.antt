@@ -1,5 +1,0 @@
-use Rattle.scoped_codes.proofs.Tables.{tree_tells}
-use Rattle.scoped_codes.proofs.trees_tell_scopes.Goals as goal
-
-pub returns : goal.returns
-returns c e id bs there fine = tree_tells e id bs there fine
