@@ -4,7 +4,7 @@ use Rattle.std.specs.Prelude.{◌^◌}
 use Rattle.endpoint_check.specs.Programs.{AreProgramsOf}
 use Rattle.endpoint_code.specs.declared.endpoints.Endpoints.{Endpoints}
 use Rattle.endpoint_text.specs.Text.{endpoints_text}
-use Rattle.programs_or_refused.specs.Laws.{AreProgramsOrRefused}
+use Rattle.projected_programs.specs.Laws.{AreProgramsOrRefused}
 use Rattle.printed_endpoints.proofs.Whole.{text_is_taken}
 use Rattle.printed_programs.specs.Laws.{TextIsOfPrograms}
 

@@ -3,7 +3,7 @@
 
 ghost use Rattle.printed_programs.specs.Laws.{TextIsOfPrograms};
 
-use programs_or_refused::accepted_or_refused;
+use projected_programs::accepted_or_refused;
 
 /// The text of endpoint programs without a fault, where it is no longer than a file may be, is the
 /// text of endpoint programs: what reads it has something to read.

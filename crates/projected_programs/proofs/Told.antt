@@ -17,7 +17,7 @@ use Rattle.printed_tokens.specs.Spelled.{IsWritable, IsActionSpelled, IsCodeSpel
 use Rattle.printed_units.specs.Limits.{IsChannelWithin}
 use Rattle.printed_units.specs.Laws.{AreWritable}
 use Rattle.told_events.specs.Sizes.{IsTermSized, IsActionSized, IsCodeSized, AreArmsSized, AreLiteralsSized, AreMeaningsSized}
-use Rattle.told_programs.proofs.Hosts.{functions_sized}
+use Rattle.projected_programs.proofs.Hosts.{functions_sized}
 use Rattle.told_events.specs.Told.{most_served, IsShort}
 
 -- ---- literals

@@ -1,24 +1,45 @@
--- What is proved of the endpoint programs of a source, and of their text (this project's own).
-use Rattle.std.specs.Prelude.{ℕ, ◌≡◌, ◌<◌, ◌^◌, Bool, false, List, Option, length}
+-- What is proved of all bytes as endpoint programs, of the runs of programs that are read, and of the endpoint programs of a source and
+-- their text (this project's own).
+use Rattle.std.specs.Prelude.{ℕ, ◌≡◌, ◌<◌, ◌^◌, Bool, false, List, Option, ◌⊎◌, length}
 use Rattle.std.specs.List.{AllByRecursion}
-use Rattle.chor_base.specs.declared.event.Event.{Event}
 use Rattle.chor_base.specs.declared.rule.Refusal.{Refusal}
-use Rattle.chor_host.specs.Functions.{Function, names_of, hosts_in}
+use Rattle.chor_base.specs.declared.event.Event.{Event}
 use Rattle.chor_tree.specs.declared.file.File.{File}
+use Rattle.chor_host.specs.Functions.{Function, names_of, hosts_in}
 use Rattle.chor_semantics.specs.Runs.{IsRun}
 use Rattle.endpoint_code.specs.declared.endpoints.Endpoints.{Endpoints}
+use Rattle.endpoint_code.specs.Network.{NetworkState}
+use Rattle.endpoint_code.specs.NetworkRuns.{IsNetworkRun}
 use Rattle.endpoint_code.specs.Scheduled.{Close}
-use Rattle.endpoint_text.specs.Text.{endpoints_text}
 use Rattle.endpoint_check.specs.Programs.{AreProgramsOf, ViolatesPrograms}
-pub use Rattle.faultless_projections.specs.Laws.{AreExact}
+use Rattle.endpoint_text.specs.Text.{endpoints_text}
+use Rattle.transcript.specs.Text.{transcript}
+use Rattle.source_runs.specs.Books.{book_of}
+use Rattle.program_runs.specs.Transcripts.{closing_text, IsTranscriptOf}
+use Rattle.event_reader.specs.Known.{HasEvent}
+use Rattle.told_events.specs.Told.{AreNumbersSmall, IsShort, AreTold}
 use Rattle.projection.specs.Projects.{Projects}
+use Rattle.accepted_files.specs.Runs.{IsRunOf}
+pub use Rattle.faultless_projections.specs.Laws.{AreExact}
 use Rattle.source_check.specs.Source.{IsAccepted}
 use Rattle.source_check.specs.declared.rules.Rules.TheVariants.{All}
-use Rattle.transcript.specs.Text.{transcript}
-use Rattle.program_runs.specs.Transcripts.{closing_text, IsTranscriptOf}
-use Rattle.source_runs.specs.Books.{book_of}
-use Rattle.event_reader.specs.Known.{HasEvent}
-use Rattle.accepted_files.specs.Runs.{IsRunOf}
+
+-- The bytes are the text of endpoint programs, or violate a rule at some place
+abbrev pub AreProgramsOrRefused : List (List ℕ) → List ℕ → Type 0
+AreProgramsOrRefused hosts bytes = ((e : Endpoints) × AreProgramsOf hosts bytes e) ⊎ ((r : Refusal) × ViolatesPrograms hosts bytes r)
+
+-- Programs that the bytes are the text of tell the events of each run in which processes and sessions have numbers of 32 bits, where host
+-- functions are these
+abbrev pub RunsAreTold : List Function → List ℕ → Type 0
+RunsAreTold functions bytes =
+    (e : Endpoints) (capacity : Option ℕ) (h : List Event) (last : NetworkState) → AreProgramsOf (names_of functions) bytes e
+    → IsNetworkRun e (hosts_in e.names functions) capacity h last → AreNumbersSmall last → AreTold e h
+
+-- And those of each run of few events
+abbrev pub ShortRunsAreTold : List Function → List ℕ → Type 0
+ShortRunsAreTold functions bytes =
+    (e : Endpoints) (capacity : Option ℕ) (h : List Event) (last : NetworkState) → AreProgramsOf (names_of functions) bytes e
+    → IsNetworkRun e (hosts_in e.names functions) capacity h last → IsShort e h → AreTold e h
 
 -- e are the endpoint programs of a source that violates no rule, where these host functions are there, each with an exact meaning
 pub record AreProjected (functions : List Function) (bytes : List ℕ) (f : File) (e : Endpoints) : Type 0 where
@@ -26,7 +47,7 @@ pub record AreProjected (functions : List Function) (bytes : List ℕ) (f : File
   pub accepted : IsAccepted All (names_of functions) bytes f
   pub projects : Projects f e
 
--- their text violates none of the rules of endpoint files
+-- The text of a source's endpoint programs violates none of the rules of endpoint files
 abbrev pub ProjectedTextIsTaken : Type 0
 ProjectedTextIsTaken =
     (functions : List Function) (bytes : List ℕ) (f : File) (e : Endpoints) → AreProjected functions bytes f e

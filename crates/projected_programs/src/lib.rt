@@ -1,7 +1,34 @@
-//! What the endpoint programs of a source do, and what is read from their text.
+//! Bytes are endpoint programs or violate a rule; programs that are read tell each event of their
+//! runs; and what the endpoint programs of a source do, and those that are read from their text.
 #![tactic(auto)]
 
-ghost use Rattle.projected_programs.specs.Laws.{ProjectedTextIsTaken, ProjectedTextRuns, SourceRunsAreTold};
+ghost use Rattle.std.specs.Prelude.{◌≤◌, ◌^◌, ℕ, List, length};
+ghost use Rattle.chor_host.specs.Tables.{functions_of};
+ghost use Rattle.endpoint_code.specs.declared.endpoints.Endpoints.{Endpoints};
+ghost use Rattle.endpoint_check.specs.Programs.{AreProgramsOf};
+ghost use Rattle.told_events.specs.Sizes.{AreLiteralsSized};
+ghost use Rattle.projected_programs.specs.Laws.{AreProgramsOrRefused, RunsAreTold, ShortRunsAreTold, ProjectedTextIsTaken, ProjectedTextRuns, SourceRunsAreTold};
+
+use chor_host::HostTable;
+
+/// All bytes of a file that is not too long are the text of endpoint programs, or violate a rule of
+/// endpoint files.
+pub fn accepted_or_refused()
+    ensures { (hosts : List (List ℕ)) (bytes : List ℕ) → length bytes ≤ 2 ^ 24 → AreProgramsOrRefused hosts bytes }
+{}
+
+/// In the bodies of endpoint programs that bytes are the text of, each literal number has 64 bits with
+/// sign.
+pub fn literals_sized()
+    ensures { (hosts : List (List ℕ)) (bytes : List ℕ) (e : Endpoints) → AreProgramsOf hosts bytes e → AreLiteralsSized e }
+{}
+
+/// Endpoint programs that bytes are the text of have a name, a text or a number of its size for all
+/// that the events of their runs say, where they may ask these host functions.
+pub fn runs_told(_hosts: &HostTable)
+    ensures all { (bytes : List ℕ) → RunsAreTold (functions_of _hosts.now) bytes }
+    ensures short { (bytes : List ℕ) → ShortRunsAreTold (functions_of _hosts.now) bytes }
+{}
 
 /// The text of the endpoint programs that are the projection of an accepted source is never refused
 /// as an endpoint file.

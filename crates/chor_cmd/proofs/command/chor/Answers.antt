@@ -1,4 +1,4 @@
-use Rattle.told_programs.proofs.Hosts.{table_exact}
+use Rattle.projected_programs.proofs.Hosts.{table_exact}
 use Rattle.chor_cmd.proofs.Settled.{gives_usage, gives_too_large, gives_refusal, gives_answer, gives_replay, gives_unmatched, gives_execution, gives_projected_run, gives_generated, gives_canonical, gives_same}
 use Rattle.chor_cmd.proofs.command.chor.Goals as goal
 

@@ -8,9 +8,9 @@ use Rattle.endpoint_code.specs.Faults.{IsFaultless}
 use Rattle.endpoint_check.specs.Programs.{AreProgramsOf}
 use Rattle.faultless_endpoints.proofs.Files.{made_is_faultless}
 use Rattle.told_events.proofs.Runs.{run_told, short_run_told}
-use Rattle.told_programs.specs.Laws.{RunsAreTold, ShortRunsAreTold}
-use Rattle.told_programs.proofs.Literals.{all_sized}
-use Rattle.told_programs.proofs.Hosts.{table_sized}
+use Rattle.projected_programs.specs.Laws.{RunsAreTold, ShortRunsAreTold}
+use Rattle.projected_programs.proofs.Literals.{all_sized}
+use Rattle.projected_programs.proofs.Hosts.{table_sized}
 
 faultless : {words : List (List ℕ)} {bytes : List ℕ} {e : Endpoints} → AreProgramsOf words bytes e → IsFaultless e
 faultless {words} {e = e} p = made_is_faultless p.written p.input.names.now p.input.texts.now words e p.made p.fine.faultless

@@ -16,8 +16,8 @@ use Rattle.endpoint_reader.specs.Known.{IsThere, AreLabelsThere, IsLineThere, Ar
 use Rattle.endpoint_reader.proofs.Known.{one_more_line}
 use Rattle.endpoint_reader.proofs.Tables.{grows_none, grows_by, grows_on, no_fewer, last_there, body_stays, body_pushed}
 use Rattle.endpoint_laws.proofs.Naming.{IsBodyNamed, AreArmsNamed}
-use Rattle.programs_or_refused.proofs.Terms.{name_of, names_of, name_same, name_there, names_same, names_there, expression, expression_same, expression_there}
-use Rattle.programs_or_refused.proofs.Deeds.{action, action_same, action_there}
+use Rattle.projected_programs.proofs.Terms.{name_of, names_of, name_same, name_there, names_same, names_there, expression, expression_same, expression_there}
+use Rattle.projected_programs.proofs.Deeds.{action, action_same, action_there}
 
 module _ (i : Input) where
   -- lines with names and texts that are in the tables

@@ -7,7 +7,7 @@ use Rattle.endpoint_reader.specs.declared.node.Action.TheVariants.{Join, Send, R
 use Rattle.endpoint_reader.specs.Nodes.{deed_of}
 use Rattle.endpoint_reader.specs.Known.{IsActionThere}
 use Rattle.endpoint_laws.proofs.Naming.{IsDeedNamed}
-use Rattle.programs_or_refused.proofs.Terms.{name_of, name_same, name_there, expression, expression_same, expression_there}
+use Rattle.projected_programs.proofs.Terms.{name_of, name_same, name_there, expression, expression_same, expression_there}
 
 module _ (i : Input) where
   abbrev pub action : Deed → Action

@@ -31,10 +31,10 @@ use Rattle.endpoint_check.specs.Programs.{lexemes_of, IsInputOf, grammar, names,
 use Rattle.endpoint_check.proofs.Numbered.{numbered}
 use Rattle.endpoint_laws.proofs.Verdicts.{named_so}
 use Rattle.canonical_laws.proofs.Fresh.{fresh}
-use Rattle.programs_or_refused.specs.Laws.{AreProgramsOrRefused}
-use Rattle.programs_or_refused.proofs.Inputs.{input_of}
-use Rattle.programs_or_refused.proofs.Units.{read}
-use Rattle.programs_or_refused.proofs.Codes.{made}
+use Rattle.projected_programs.specs.Laws.{AreProgramsOrRefused}
+use Rattle.projected_programs.proofs.Inputs.{input_of}
+use Rattle.projected_programs.proofs.Units.{read}
+use Rattle.projected_programs.proofs.Codes.{made}
 
 -- ---- no fault, or a first one
 

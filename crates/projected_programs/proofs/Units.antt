@@ -19,8 +19,8 @@ use Rattle.endpoint_reader.specs.Units.{channel_unit, procedure_unit, service_un
 use Rattle.endpoint_reader.specs.Known.{IsThere, IsLineThere, AreRolesThere, IsSignatureThere, IsWrittenThere}
 use Rattle.endpoint_reader.proofs.Tables.{grows_none, grows_on, no_fewer, body_stays}
 use Rattle.endpoint_laws.proofs.Naming.{IsBodyNamed, IsChannelNamed, IsProcedureNamed, IsServiceNamed, IsProcessNamed, AreUnitsNamed}
-use Rattle.programs_or_refused.proofs.Terms.{name_of, names_of, name_same, name_there, names_same, names_there}
-use Rattle.programs_or_refused.proofs.Laid.{IsTable, laid}
+use Rattle.projected_programs.proofs.Terms.{name_of, names_of, name_same, name_there, names_same, names_there}
+use Rattle.projected_programs.proofs.Laid.{IsTable, laid}
 
 -- a kind of units with bodies: U as they are written, X as they are read
 record Kind (i : Input) (U X : Type 0) : Type 1 where

@@ -1,7 +1,0 @@
-mod Terms
-mod Deeds
-mod Laid
-mod Units
-mod Codes
-mod Inputs
-mod Verdicts

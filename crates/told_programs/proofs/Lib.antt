@@ -1,3 +1,0 @@
-mod Literals
-pub mod Hosts
-mod Runs

@@ -1,5 +1,0 @@
-use Rattle.told_programs.proofs.Runs.{runs_told, short_runs_told}
-use Rattle.told_programs.proofs.runs_told.Goals as goal
-
-pub returns : goal.returns
-returns g c = record { all = runs_told c.args._hosts.now; short = short_runs_told c.args._hosts.now }
