@@ -4,7 +4,7 @@ ghost use Rattle.std.specs.Prelude.{◌≤◌, ◌^◌, IfOk, IfErr, length};
 ghost use Rattle.chor_host.specs.Tables.{functions_of};
 ghost use Rattle.endpoint_code.specs.Faults.{IsFaultless};
 ghost use Rattle.program_runs.specs.Transcripts.{IsTranscriptOf};
-ghost use Rattle.faultless_endpoints.specs.Laws.{MadeIsFaultless};
+ghost use Rattle.endpoint_laws.specs.Laws.{MadeIsFaultless};
 ghost use Rattle.endpoint_check.specs.Programs.{IsDenialOfPrograms};
 ghost use Rattle.chor_cmd.specs.Endings.{host_names};
 ghost use Rattle.chor_cmd.specs.Outputs.{IsExecution};
@@ -29,7 +29,7 @@ pub fn executed(
     ensures run { IfOk result (λ x. IsExecution (functions_of hosts.now) options bytes.now x.text.items x.stuck) }
     ensures denied { IfErr result (IsDenialOfPrograms (host_names hosts.now) bytes.now) }
 {
-    faultless_endpoints::made_is_faultless();
+    endpoint_laws::made_is_faultless();
     let programs = read_programs(alloc, bytes, hosts)?;
     let executed = run_of(alloc, &programs, options, hosts)?;
     Ok(executed)

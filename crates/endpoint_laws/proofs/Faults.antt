@@ -22,7 +22,7 @@ use Rattle.endpoint_names.specs.Faults.{Setting, repeated, unbound, bound_again,
 use Rattle.endpoint_names.specs.Class.{opening_faults}
 use Rattle.endpoint_laws.proofs.Words.{number_of, same_number}
 use Rattle.endpoint_laws.proofs.Naming.{IsName, AreNames, IsDeedNamed, IsBodyNamed, AreArmsNamed}
-use Rattle.faultless_endpoints.specs.Reading.{written_body, written_arms}
+use Rattle.endpoint_laws.specs.Reading.{written_body, written_arms}
 
 -- ---- back from what is written
 

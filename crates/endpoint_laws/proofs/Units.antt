@@ -24,7 +24,7 @@ use Rattle.endpoint_names.specs.Bodies.{body_at}
 use Rattle.endpoint_names.specs.Faults.{Setting, repeated, names_in, channel_of, unserved, unknown_channel, body_faults, procedure_faults, service_faults, process_faults}
 use Rattle.endpoint_names.specs.Class.{opening_faults, begin_faults}
 use Rattle.endpoint_laws.proofs.Naming.{IsBodyNamed, IsChannelNamed, IsProcedureNamed, IsServiceNamed, IsProcessNamed, AreUnitsNamed}
-use Rattle.faultless_endpoints.proofs.Trees.{bodies_written}
+use Rattle.endpoint_laws.proofs.Trees.{bodies_written}
 use Rattle.endpoint_laws.proofs.Faults.{name_back, names_back, signature_back, body_back, same_name, same_names, body, opening}
 
 -- ---- lists

@@ -30,7 +30,7 @@ pub fn functions(alloc: Global) -> Result<HostTable, Fail>
 pub fn read(rt: &impl Abort, alloc: Global, text: &[u8]) -> Result<Endpoints, Fail>
     ensures { IfOk result (IsFaultlessWith (names_of known)) }
 {
-    faultless_endpoints::made_is_faultless();
+    endpoint_laws::made_is_faultless();
     if text.len() > 16_777_216 {
         panic!(rt; "too long");
     }

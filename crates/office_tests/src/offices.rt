@@ -96,7 +96,7 @@ fn seen_in(
 fn read(rt: &impl Abort, alloc: Global, text: &[u8], hosts: &HostTable) -> Result<Endpoints, Fail>
     ensures { IfOk result (IsFaultlessWith (names_of (functions_of hosts.now))) }
 {
-    faultless_endpoints::made_is_faultless();
+    endpoint_laws::made_is_faultless();
     if text.len() > 16_777_216 {
         panic!(rt; "too long");
     }

@@ -10,7 +10,7 @@ use Rattle.endpoint_code.specs.declared.endpoints.Endpoints.{Endpoints}
 use Rattle.endpoint_code.specs.Labels.{here}
 use Rattle.endpoint_names.specs.Bodies.{Body, Does, Offers, Tests, Calls, Ends, Arms, NoArms, Arm}
 use Rattle.endpoint_making.specs.Codes.{action_of, code_of, arms_of}
-use Rattle.faultless_endpoints.specs.Reading.{written_body, written_arms}
+use Rattle.endpoint_laws.specs.Reading.{written_body, written_arms}
 use Rattle.same_programs.specs.Codes as same
 use Rattle.same_programs.specs.Codes.{SameAction, SameCode, SameArms}
 use Rattle.printed_endpoints.proofs.There.{IsBodyThere, AreArmsThere}

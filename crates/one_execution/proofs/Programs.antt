@@ -25,10 +25,10 @@ use Rattle.endpoint_code.specs.declared.endpoints.Endpoints.{Endpoints}
 use Rattle.endpoint_code.specs.Trees.{CodeTree, code_at}
 use Rattle.endpoint_check.specs.Programs.{AreProgramsOf}
 use Rattle.endpoint_laws.proofs.Verdicts.{one_text}
-use Rattle.faultless_endpoints.proofs.Bodies.{code_same}
-use Rattle.faultless_endpoints.proofs.Files.{made_is_faultless}
-use Rattle.faultless_endpoints.proofs.Trees.{bodies_written}
-use Rattle.faultless_endpoints.specs.Reading.{written_body}
+use Rattle.endpoint_laws.proofs.Bodies.{code_same}
+use Rattle.endpoint_laws.proofs.Files.{made_is_faultless}
+use Rattle.endpoint_laws.proofs.Trees.{bodies_written}
+use Rattle.endpoint_laws.specs.Reading.{written_body}
 use Rattle.same_programs.specs.Codes.{SameCode}
 use Rattle.same_programs.specs.Programs.{SameCodeAt, SameChannel, SameProcedure, SameService, SameProcess, SamePrograms, IsCopy}
 use Rattle.printed_endpoints.proofs.There.{body_there}

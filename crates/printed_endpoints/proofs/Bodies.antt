@@ -23,11 +23,11 @@ use Rattle.endpoint_names.specs.Bodies.{Body, body_at}
 use Rattle.endpoint_names.specs.Bodies as body
 use Rattle.endpoint_names.specs.Faults.{fault_at, names_in, repeated, channel_of, procedure_of, unknown_channel, inactive, unbound, bound_again, bound_after, wrong_call, Setting, setting, action_faults, call_faults, body_faults, arms_faults}
 use Rattle.endpoint_names.proofs.Keys.{left_true, right_true}
-use Rattle.faultless_endpoints.specs.Reading.{written_body, written_arms}
-use Rattle.faultless_endpoints.proofs.Lists.{two_nothings, faultless, faultless_so, count_same}
-use Rattle.faultless_endpoints.proofs.Once.{not_again, names_distinct}
+use Rattle.endpoint_laws.specs.Reading.{written_body, written_arms}
+use Rattle.endpoint_laws.proofs.Lists.{two_nothings, faultless, faultless_so, count_same}
+use Rattle.endpoint_laws.proofs.Once.{not_again, names_distinct}
 use Rattle.merged_codes.specs.Asked.{asks_so}
-use Rattle.faultless_endpoints.proofs.Backward.{IsFine, AreFine}
+use Rattle.endpoint_laws.proofs.Backward.{IsFine, AreFine}
 use Rattle.printed_tokens.specs.Spelled.{IsNamed, AreNamed, IsActionSpelled, IsCodeSpelled, AreArmsSpelled}
 use Rattle.printed_units.specs.Says.{Names, AllName, DeedSays, joins, sends, receives, selects, gives, gains, sets, shows, asks, BodySays, does, offers, tests, calls, ends, ArmsSay, no_arm, one_arm}
 use Rattle.printed_endpoints.proofs.SameNames.{as_many, same_without, same_distinct, same_all_among}

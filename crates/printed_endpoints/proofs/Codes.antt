@@ -18,7 +18,7 @@ use Rattle.endpoint_code.specs.Trees.{Action, CodeTree, Arms}
 use Rattle.endpoint_names.specs.Bodies as body
 use Rattle.endpoint_names.specs.Faults.{names_in}
 use Rattle.endpoint_making.specs.Codes.{action_of, code_of, arms_of}
-use Rattle.faultless_endpoints.specs.Reading.{written_body, written_arms}
+use Rattle.endpoint_laws.specs.Reading.{written_body, written_arms}
 use Rattle.same_programs.specs.Words.{SameName, SameText}
 use Rattle.same_programs.specs.Codes as same
 use Rattle.same_programs.specs.Codes.{SameAction, SameCode, SameArms}

@@ -30,8 +30,8 @@ use Rattle.endpoint_names.specs.Bodies.{Body, body_at}
 use Rattle.endpoint_names.specs.Bodies as body
 use Rattle.endpoint_names.specs.Faults.{names_in}
 use Rattle.endpoint_names.proofs.Keys.{number_turned}
-use Rattle.faultless_endpoints.specs.Reading.{written_body, written_arms}
-use Rattle.faultless_endpoints.proofs.Once.{keys_in, AreOnce, same_alone}
+use Rattle.endpoint_laws.specs.Reading.{written_body, written_arms}
+use Rattle.endpoint_laws.proofs.Once.{keys_in, AreOnce, same_alone}
 use Rattle.printed_tokens.specs.Symbols.{ordered_at}
 use Rattle.printed_tokens.specs.Spelled.{IsNamed, AreNamed, IsCodeSpelled, AreArmsSpelled}
 use Rattle.printed_units.specs.Says.{Names, AllName, BodySays, ArmsSay, no_arm, one_arm}

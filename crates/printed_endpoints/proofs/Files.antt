@@ -18,7 +18,7 @@ use Rattle.endpoint_code.specs.Faults.{is_among, AreDistinct, all_among, is_list
 use Rattle.endpoint_code.specs.Trees.{Action, CodeTree, Arms}
 use Rattle.endpoint_code.specs.Trees as tree
 use Rattle.endpoint_names.specs.Bodies.{body_at}
-use Rattle.faultless_endpoints.proofs.Lists.{two_nothings}
+use Rattle.endpoint_laws.proofs.Lists.{two_nothings}
 use Rattle.printed_tokens.specs.Symbols.{ordered_at}
 use Rattle.printed_tokens.specs.Spelled.{IsCodeSpelled, IsChannelSpelled, IsProcedureSpelled, IsServiceSpelled, IsProcessSpelled, AreSpelled}
 use Rattle.printed_units.specs.Says.{BodySays, ChannelSays, ProcedureSays, ServiceSays, ProcessSays, AreUnitsOf}
@@ -33,7 +33,7 @@ use Rattle.endpoint_reader.specs.Units.{channel_unit, procedure_unit, service_un
 use Rattle.endpoint_code.specs.declared.code.CodeId.{CodeId}
 use Rattle.endpoint_code.specs.Faults as code
 use Rattle.endpoint_making.specs.Making.{procedure_made, service_made}
-use Rattle.faultless_endpoints.proofs.Trees.{bodies_written}
+use Rattle.endpoint_laws.proofs.Trees.{bodies_written}
 use Rattle.printed_tokens.proofs.Ordering.{ordered_spelled}
 use Rattle.printed_endpoints.proofs.Faults.{IsSame, AreSame, is_same, are_same, ChannelSame, ProcedureSame, ServiceSame, ProcessSame, CodeSaid, UnitsSame}
 

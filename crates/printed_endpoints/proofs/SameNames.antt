@@ -6,7 +6,7 @@ use Rattle.chor_base.specs.declared.names.NameId.{NameId}
 use Rattle.chor_base.specs.Words.{AllDistinct}
 use Rattle.chor_base.specs.Writing.{name_in}
 use Rattle.endpoint_code.specs.Faults.{is_among, AreDistinct, no_name, one_more, without, all_among}
-use Rattle.faultless_endpoints.proofs.Trees.{names_words}
+use Rattle.endpoint_laws.proofs.Trees.{names_words}
 
 module _ (here there : List (List ℕ)) where
   -- both tables have the name, and it is the same word

@@ -22,9 +22,9 @@ use Rattle.endpoint_names.specs.Keys.{sign_of_name, sign_of_channel, sign_of_pro
 use Rattle.endpoint_names.specs.Bodies.{Body, body_at}
 use Rattle.endpoint_names.specs.Bodies as body
 use Rattle.endpoint_names.specs.Faults.{fault_at, names_in, repeated, channel_of, procedure_of, unknown_channel, inactive, unbound, bound_again, bound_after, wrong_call, Setting, setting, action_faults, call_faults, body_faults, arms_faults, channel_faults, unprovided, unserved, procedure_faults, service_faults, process_faults, faults_of_channels, faults_of_procedures, faults_of_services, faults_of_processes, name_faults}
-use Rattle.faultless_endpoints.specs.Reading.{written_body}
-use Rattle.faultless_endpoints.proofs.Lists.{two_nothings, faultless_so}
-use Rattle.faultless_endpoints.proofs.Once.{names_distinct, units_apart, services_single, known_service}
+use Rattle.endpoint_laws.specs.Reading.{written_body}
+use Rattle.endpoint_laws.proofs.Lists.{two_nothings, faultless_so}
+use Rattle.endpoint_laws.proofs.Once.{names_distinct, units_apart, services_single, known_service}
 use Rattle.printed_tokens.specs.Symbols.{ordered_at}
 use Rattle.printed_units.specs.Says.{BodySays, calls}
 use Rattle.printed_endpoints.proofs.SameNames.{same_distinct, both_same}
@@ -42,7 +42,7 @@ use Rattle.endpoint_code.specs.Faults as code
 use Rattle.endpoint_code.proofs.CodeTables.{code_at-node}
 use Rattle.endpoint_names.specs.Class.{IsFaultless, opening_faults, begin_faults, IsBroken}
 use Rattle.endpoint_names.specs.Faults as fault
-use Rattle.faultless_endpoints.proofs.Backward.{IsFine, tree_fine}
+use Rattle.endpoint_laws.proofs.Backward.{IsFine, tree_fine}
 use Rattle.printed_tokens.specs.Ordered.{in_order}
 use Rattle.printed_endpoints.proofs.Ordering.{fine_ordered}
 use Rattle.printed_endpoints.proofs.Faults.{IsSame, AreSame, ChannelSame, ProcedureSame, ServiceSame, ProcessSame, CodeSaid, UnitsSame, among, channel_found}

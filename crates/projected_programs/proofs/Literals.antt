@@ -27,8 +27,8 @@ use Rattle.endpoint_making.proofs.Codes.{code_in}
 use Rattle.endpoint_making.proofs.Kept.{moved}
 use Rattle.endpoint_check.specs.Programs.{AreProgramsOf}
 use Rattle.endpoint_laws.proofs.Naming.{IsPhraseKnown, IsDeedNamed, IsBodyNamed, AreArmsNamed, IsProcedureNamed, IsServiceNamed, IsProcessNamed, AreUnitsNamed}
-use Rattle.faultless_endpoints.specs.Reading.{written_body, written_arms}
-use Rattle.faultless_endpoints.proofs.Trees.{bodies_written}
+use Rattle.endpoint_laws.specs.Reading.{written_body, written_arms}
+use Rattle.endpoint_laws.proofs.Trees.{bodies_written}
 use Rattle.endpoint_laws.proofs.Verdicts.{named_so}
 use Rattle.event_reader.specs.Known.{IsInt}
 use Rattle.told_events.specs.Sizes.{IsTermSized, IsActionSized, IsCodeSized, AreArmsSized, AreLiteralsSized}

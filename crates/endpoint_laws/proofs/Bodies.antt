@@ -31,8 +31,8 @@ use Rattle.endpoint_names.specs.Faults.{fault_at, names_in, repeated, channel_of
 use Rattle.endpoint_names.proofs.Keys.{number_turned}
 use Rattle.endpoint_making.specs.Codes.{code_id, action_of, code_of, arms_of}
 use Rattle.endpoint_making.specs.Making.{channel_made, procedure_made, IsMadeOf}
-use Rattle.faultless_endpoints.proofs.Lists.{nothing_of_two, no_fault, is_so}
-use Rattle.faultless_endpoints.proofs.Once.{keys_in, AreOnce, once, same_alone, distinct_names}
+use Rattle.endpoint_laws.proofs.Lists.{nothing_of_two, no_fault, is_so}
+use Rattle.endpoint_laws.proofs.Once.{keys_in, AreOnce, once, same_alone, distinct_names}
 
 -- ---- what is declared
 

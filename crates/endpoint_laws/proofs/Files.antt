@@ -24,9 +24,9 @@ use Rattle.endpoint_names.specs.Class.{opening_faults, IsFaultless}
 use Rattle.endpoint_making.specs.Codes.{code_id, code_of}
 use Rattle.endpoint_making.specs.Making.{channel_made, procedure_made, service_made, process_made, IsMadeOf}
 use Rattle.endpoint_making.proofs.Kept.{moved}
-use Rattle.faultless_endpoints.proofs.Lists.{nothing_of_two, nothing_of_all, no_fault, is_so}
-use Rattle.faultless_endpoints.proofs.Once.{distinct_names, apart_units, known_service, single_services}
-use Rattle.faultless_endpoints.proofs.Bodies.{there, found_channel, code_same, code_scoped}
+use Rattle.endpoint_laws.proofs.Lists.{nothing_of_two, nothing_of_all, no_fault, is_so}
+use Rattle.endpoint_laws.proofs.Once.{distinct_names, apart_units, known_service, single_services}
+use Rattle.endpoint_laws.proofs.Bodies.{there, found_channel, code_same, code_scoped}
 
 -- ---- a body that begins with no call
 

@@ -26,10 +26,10 @@ use Rattle.endpoint_names.specs.Faults.{fault_at, names_in, repeated, channel_of
 use Rattle.endpoint_names.specs.Class.{opening_faults, begin_faults, IsFaultless}
 use Rattle.endpoint_making.specs.Codes.{code_id, code_of}
 use Rattle.endpoint_making.specs.Making.{channel_made, procedure_made, service_made, process_made, IsMadeOf}
-use Rattle.faultless_endpoints.proofs.Lists.{two_nothings, all_nothings, faultless_so}
-use Rattle.faultless_endpoints.proofs.Once.{known_service, names_distinct, units_apart, services_single}
-use Rattle.faultless_endpoints.proofs.Bodies.{code_same, count}
-use Rattle.faultless_endpoints.proofs.Backward.{channel_there, written_scoped}
+use Rattle.endpoint_laws.proofs.Lists.{two_nothings, all_nothings, faultless_so}
+use Rattle.endpoint_laws.proofs.Once.{known_service, names_distinct, units_apart, services_single}
+use Rattle.endpoint_laws.proofs.Bodies.{code_same, count}
+use Rattle.endpoint_laws.proofs.Backward.{channel_there, written_scoped}
 
 -- what holds of all that are made holds of each item that is made
 unmade : {X Y : Type 0} (P : Y → Type 0) (f : X → Y) (xs : List X) → All P (map f xs) → All (λ x. P (f x)) xs

@@ -1,7 +1,7 @@
 -- Lines of units without a fault ask no other host function.
 use Rattle.std.proofs.Common.{◌≡◌, ◌<◌, ◌≤◌, ◌+◌, ℕ, zero, suc, true, List, [], ◌∷◌, ◌++◌, length, map, refl, ap, sym, ◌∙◌, subst, Some, arith, inl, inr}
 use Rattle.std.specs.Prelude.{All, Contains, bytes_eq, slice_get, slice_index_or}
-use Rattle.std.specs.List.{list_any}
+use Rattle.std.specs.List.{list_any, flat_map}
 use Rattle.std.proofs.lemmas.Option.{slice_get_within, slice_get-get_or}
 use Rattle.chor_base.specs.declared.names.NameId.{NameId}
 use Rattle.chor_base.specs.Writing.{name_in}
@@ -22,14 +22,13 @@ use Rattle.endpoint_code.proofs.CodeTables.{code_at-node}
 use Rattle.endpoint_names.specs.Keys.{sign_of_name, sign_of_procedure, sign_of_service, sign_of_process}
 use Rattle.endpoint_names.specs.Bodies.{Body, Does, Offers, Tests, Calls, Ends, labels_of, body_in, arms_in, line_body, bodies_of, body_at}
 use Rattle.endpoint_names.specs.Faults.{names_in, repeated, channel_of, unknown_channel, unserved, unbound, bound_after, Setting, setting, action_faults, body_faults, arms_faults, procedure_faults, service_faults, process_faults, faults_of_channels, faults_of_procedures, faults_of_services, faults_of_processes}
-use Rattle.std.specs.List.{flat_map}
 use Rattle.endpoint_names.specs.Class.{IsFaultless}
 use Rattle.endpoint_names.proofs.Tables.{body_at-line}
 use Rattle.endpoint_making.specs.Codes.{code_id, code_of}
 use Rattle.endpoint_making.specs.Making.{IsMadeOf}
-use Rattle.faultless_endpoints.specs.Laws.{IsUsed, begins_procedure, begins_service, begins_process, follows, AreUsed}
-use Rattle.faultless_endpoints.proofs.Lists.{nothing_of_two, nothing_of_all, no_fault, is_so}
-use Rattle.faultless_endpoints.proofs.Bodies.{code_same, count}
+use Rattle.endpoint_laws.specs.Laws.{IsUsed, begins_procedure, begins_service, begins_process, follows, AreUsed}
+use Rattle.endpoint_laws.proofs.Lists.{nothing_of_two, nothing_of_all, no_fault, is_so}
+use Rattle.endpoint_laws.proofs.Bodies.{code_same, count}
 
 -- the body at a number has no fault, where some sessions are bound
 abbrev IsClean : Setting → LineId → Type 0

@@ -16,8 +16,8 @@ use Rattle.endpoint_reader.specs.declared.lines.Line.{Line}
 use Rattle.endpoint_reader.specs.declared.lines.Line.TheVariants as line
 use Rattle.endpoint_reader.specs.Lines as lines
 use Rattle.endpoint_names.specs.Bodies.{Body, Ends, body_in, arms_in, line_body, bodies_of, body_at}
-use Rattle.faultless_endpoints.proofs.Lists.{count_same}
-use Rattle.faultless_endpoints.specs.Reading.{written_body, written_arms}
+use Rattle.endpoint_laws.proofs.Lists.{count_same}
+use Rattle.endpoint_laws.specs.Reading.{written_body, written_arms}
 
 module _ (i : Input) where
   in_same : (bs : List Body) (id : LineId) → written_body i (body_in bs id) ≡ lines.body_in (map (written_body i) bs) id

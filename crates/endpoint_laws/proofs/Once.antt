@@ -12,7 +12,7 @@ use Rattle.endpoint_names.specs.Keys.{alone, both, same_key, is_known, sign_of_n
 use Rattle.endpoint_names.specs.Faults.{fault_at, repeated}
 use Rattle.endpoint_names.proofs.Keys.{key_turned}
 use Rattle.endpoint_making.specs.Making.{procedure_made, service_made}
-use Rattle.faultless_endpoints.proofs.Lists.{nothing_of_two, no_fault, two_nothings, faultless}
+use Rattle.endpoint_laws.proofs.Lists.{nothing_of_two, no_fault, two_nothings, faultless}
 
 abbrev pub keys_in : List Sign → List Key
 keys_in ss = map (λ s. s.key) ss

@@ -31,9 +31,9 @@ use Rattle.merged_codes.specs.Asked.{asks_so, AsksTree, AsksArms}
 use Rattle.endpoint_names.proofs.Keys.{number_turned, left_true, right_true}
 use Rattle.endpoint_making.specs.Codes.{code_id, action_of, code_of, arms_of}
 use Rattle.endpoint_making.specs.Making.{channel_made, procedure_made, IsMadeOf}
-use Rattle.faultless_endpoints.proofs.Lists.{two_nothings, faultless, faultless_so, count_same}
-use Rattle.faultless_endpoints.proofs.Once.{keys_in, AreOnce, not_again, names_distinct, same_alone}
-use Rattle.faultless_endpoints.proofs.Bodies.{found_channel, procedures_found, bound_same, label_known, code_same}
+use Rattle.endpoint_laws.proofs.Lists.{two_nothings, faultless, faultless_so, count_same}
+use Rattle.endpoint_laws.proofs.Once.{keys_in, AreOnce, not_again, names_distinct, same_alone}
+use Rattle.endpoint_laws.proofs.Bodies.{found_channel, procedures_found, bound_same, label_known, code_same}
 
 -- all that is asked of a tree
 pub record IsFine (known : NameId → Bool) (e : Endpoints) (bs : List NameId) (c : CodeTree) : Type 0 where
