@@ -13,7 +13,7 @@ use Rattle.source_check.specs.Source.{IsFileOf, IsAccepted}
 use Rattle.source_check.specs.declared.rules.Rules.TheVariants.{All}
 use Rattle.canonical_laws.proofs.Tables.{are_words, distinct_names, distinct_texts}
 use Rattle.event_reader.specs.Known.{AreWords, ProcessesDiffer, IsBook}
-use Rattle.source_runs.specs.Books.{book_of}
+use Rattle.program_runs.specs.Books.{book_of}
 
 -- what stands in a list is among it
 there : (xs : List NameId) (i : ℕ) (x : NameId) → slice_get xs i ≡ Some x → is_among xs x ≡ true

@@ -17,7 +17,7 @@ use Rattle.event_files.specs.Networks.{ReplaysNetwork}
 use Rattle.event_files.specs.Networks as ends
 use Rattle.event_files.proofs.OneAnswer.{GoesOnByRuns}
 use Rattle.event_files.proofs.Along.{replays_too}
-use Rattle.source_runs.specs.Books.{book_of}
+use Rattle.program_runs.specs.Books.{book_of}
 use Rattle.accepted_replays.specs.Sources.{ReplaysSource}
 use Rattle.accepted_replays.specs.Laws.{RunsEndTogether}
 

@@ -16,7 +16,7 @@ use Rattle.replay.specs.declared.answer.Replayed.{Replayed}
 use Rattle.replay.specs.declared.answer.ReplayFault.{ReplayFault}
 use Rattle.event_files.specs.Networks.{TellsMore}
 use Rattle.event_files.specs.Networks as network
-use Rattle.source_runs.specs.Books.{book_of}
+use Rattle.program_runs.specs.Books.{book_of}
 use Rattle.accepted_replays.specs.Sources.{ReplaysSource}
 
 -- a run of the choreography of a checked file has ended exactly where one of its projection's network has

@@ -3,7 +3,7 @@ use Rattle.std.specs.Prelude.{ℕ, List, None, Result}
 use Rattle.chor_base.specs.Meaning.{Hosts}
 use Rattle.chor_tree.specs.declared.file.File.{File}
 use Rattle.chor_semantics.specs.Runs.{IsRun, IsEndedRun}
-use Rattle.source_runs.specs.Books.{book_of}
+use Rattle.program_runs.specs.Books.{book_of}
 use Rattle.replay.specs.declared.answer.Replayed.{Replayed}
 use Rattle.replay.specs.declared.answer.ReplayFault.{ReplayFault}
 use Rattle.event_files.specs.Files.{ReplaysFile}

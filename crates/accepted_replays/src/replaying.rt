@@ -10,7 +10,7 @@ ghost use Rattle.endpoint_code.specs.Faults.{IsFaultlessWith};
 ghost use Rattle.event_files.specs.Networks.{ReplaysNetwork};
 ghost use Rattle.event_reader.specs.Known.{AreWords, IsBook};
 ghost use Rattle.accepted_replays.specs.Laws.{RunsEndTogether};
-ghost use Rattle.source_runs.specs.Books.{book_of};
+ghost use Rattle.program_runs.specs.Books.{book_of};
 ghost use Rattle.accepted_replays.specs.Sources.{ReplaysSource};
 
 use chor_base::{List, Memory, NameId};

@@ -18,7 +18,7 @@ use Rattle.endpoint_text.specs.Text.{endpoints_text}
 use Rattle.transcript.specs.Text.{transcript}
 use Rattle.program_runs.specs.Transcripts.{closing_text, IsTranscriptOf}
 use Rattle.one_execution.proofs.Transcripts.{transcript_agrees}
-use Rattle.source_runs.specs.Books.{book_of}
+use Rattle.program_runs.specs.Books.{book_of}
 use Rattle.simulation.specs.Runs.{ClosesWell, IsRunOf}
 use Rattle.projected_programs.specs.Laws.{AreProjected, ProjectedTextIsTaken, IsRunTranscript, ProjectedTextRuns}
 use Rattle.chor_cmd.specs.declared.status.Status.{Status}

@@ -8,7 +8,7 @@ use Rattle.chor_semantics.specs.Runs.{IsRun, IsEndedRun}
 use Rattle.source_check.specs.Source.{IsFileOf}
 use Rattle.source_check.proofs.Files.{one_file}
 use Rattle.source_check.proofs.OneReading.{one_list}
-use Rattle.source_runs.proofs.Alike.{run_alike, end_alike}
+use Rattle.program_runs.proofs.Alike.{run_alike, end_alike}
 use Rattle.transcript.specs.Text.{Words}
 use Rattle.replay.specs.declared.answer.Replayed.{Replayed}
 use Rattle.replay.specs.declared.answer.ReplayFault.{ReplayFault}
@@ -16,7 +16,7 @@ use Rattle.event_files.specs.Files.{ReplaysFile}
 use Rattle.event_files.specs.Networks.{TellsMore}
 use Rattle.event_files.proofs.Along.{replays_too}
 use Rattle.event_files.proofs.OneAnswer as files
-use Rattle.source_runs.specs.Books.{book_of}
+use Rattle.program_runs.specs.Books.{book_of}
 use Rattle.accepted_replays.specs.Sources.{ReplaysSource}
 use Rattle.accepted_replays.proofs.Books.{book_accepted}
 use Rattle.accepted_replays.proofs.Runs.{goes_by_runs}

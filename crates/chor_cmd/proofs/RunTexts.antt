@@ -9,7 +9,7 @@ use Rattle.simulation.specs.Accepted.{AcceptedView}
 use Rattle.simulation.specs.Runs.{close_of}
 use Rattle.simulation.specs.Told.{IsToldOf}
 use Rattle.command_words.specs.declared.options.Options.{Options}
-use Rattle.source_runs.specs.Books.{book_of}
+use Rattle.program_runs.specs.Books.{book_of}
 use Rattle.chor_cmd.specs.Outputs.{last_line, IsRunText}
 
 same_line : (w : Words) (ended : Bool) (n : ℕ) → closing_text w n (close_of ended) ≡ last_line ended n

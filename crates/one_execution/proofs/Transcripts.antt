@@ -4,7 +4,7 @@ use Rattle.chor_host.specs.Functions.{Function, names_of}
 use Rattle.endpoint_code.specs.declared.endpoints.Endpoints.{Endpoints}
 use Rattle.endpoint_check.specs.Programs.{AreProgramsOf}
 use Rattle.program_runs.specs.Transcripts.{IsTranscriptOf}
-use Rattle.same_transcripts.proofs.Transcripts.{transcript_same}
+use Rattle.program_runs.proofs.SameTranscripts.{transcript_same}
 use Rattle.one_execution.proofs.Programs.{are_copies}
 
 pub transcript_agrees : (functions : List Function) (bytes : List ℕ) (e f : Endpoints) (seed steps : ℕ) (text : List ℕ) (stuck : Bool)

@@ -1,2 +1,5 @@
 pub mod Transcripts
 pub mod TellingOn
+pub mod Alike
+pub mod SameTexts
+pub mod SameTranscripts

@@ -1,2 +1,4 @@
 pub mod Transcripts
 pub mod Told
+pub mod Books
+pub mod Laws

@@ -9,7 +9,7 @@ use Rattle.endpoint_code.specs.declared.endpoints.Process.{Process}
 use Rattle.endpoint_code.specs.declared.endpoints.Endpoints.{Endpoints}
 use Rattle.projection.specs.Projects.{IsProcessOf, Projects}
 use Rattle.program_runs.specs.Transcripts as programs
-use Rattle.source_runs.specs.Books.{book_of}
+use Rattle.program_runs.specs.Books.{book_of}
 
 processes_named : (f : File) (e : Endpoints) (ps : List Named) (qs : List Process) → AllZip (IsProcessOf f e) ps qs → map (λ q. q.name) qs ≡ names_in ps
 processes_named f e [] [] h = refl

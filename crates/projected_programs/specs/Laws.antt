@@ -14,7 +14,7 @@ use Rattle.endpoint_code.specs.Scheduled.{Close}
 use Rattle.endpoint_check.specs.Programs.{AreProgramsOf, ViolatesPrograms}
 use Rattle.endpoint_text.specs.Text.{endpoints_text}
 use Rattle.transcript.specs.Text.{transcript}
-use Rattle.source_runs.specs.Books.{book_of}
+use Rattle.program_runs.specs.Books.{book_of}
 use Rattle.program_runs.specs.Transcripts.{closing_text, IsTranscriptOf}
 use Rattle.event_reader.specs.Known.{HasEvent}
 use Rattle.told_events.specs.Told.{AreNumbersSmall, IsShort, AreTold}

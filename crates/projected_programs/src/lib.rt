@@ -50,7 +50,7 @@ pub fn projected_text_runs()
     faultless_projections::projection_is_faultless();
     printed_endpoints::text_reads_back();
     same_faults::copies_are_faultless();
-    same_transcripts::transcripts_agree();
+    program_runs::transcripts_agree();
     faultless_projections::asked_functions_answer();
     accepted_files::scheduled_runs_are_runs();
 }

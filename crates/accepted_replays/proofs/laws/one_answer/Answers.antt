@@ -1,7 +1,7 @@
 use Rattle.std.proofs.Common.{None}
 use Rattle.chor_semantics.specs.Runs.{IsRun, IsEndedRun}
 use Rattle.event_files.proofs.OneAnswer.{one_answer}
-use Rattle.source_runs.specs.Books.{book_of}
+use Rattle.program_runs.specs.Books.{book_of}
 use Rattle.accepted_replays.proofs.Runs.{goes_by_runs}
 use Rattle.accepted_replays.proofs.laws.one_answer.Goals as goal
 

@@ -4,7 +4,7 @@ use Rattle.endpoint_code.specs.Faults.{AsksKnown, is_listed}
 use Rattle.type_check.specs.declared.typed.Typed.{Typed}
 use Rattle.known_functions.proofs.Asked.{asked}
 use Rattle.simulation.proofs.Runs.{checked}
-use Rattle.source_runs.specs.Books.{book_of}
+use Rattle.program_runs.specs.Books.{book_of}
 use Rattle.accepted_replays.proofs.Runs.{on_source}
 use Rattle.accepted_replays.proofs.replaying.replay_accepted.Goals as goal
 

@@ -1,7 +1,7 @@
 use Rattle.std.proofs.Common.{◌≡◌, ◌∙◌, ap}
 use Rattle.chor_host.specs.Tables.{functions_of}
 use Rattle.chor_tree.specs.Names.{names_in}
-use Rattle.source_runs.specs.Books.{book_of}
+use Rattle.program_runs.specs.Books.{book_of}
 use Rattle.transcript.specs.Text.{Words}
 use Rattle.chor_cmd.proofs.RunTexts.{run_text}
 use Rattle.chor_cmd.proofs.run.text_of_run.Goals as goal

@@ -8,7 +8,7 @@ use Rattle.same_programs.specs.Laws.{Agrees, IsScheduledAlike}
 use Rattle.same_programs.proofs.Hosts.{hosts_same}
 use Rattle.same_programs.proofs.Scheduling.{scheduled_same}
 use Rattle.same_programs.proofs.Zips.{zip_length}
-use Rattle.same_transcripts.proofs.Texts.{written_alike, close_kept}
+use Rattle.program_runs.proofs.SameTexts.{written_alike, close_kept}
 use Rattle.transcript.specs.Text.{transcript}
 
 pub transcript_same : (functions : List Function) (e e' : Endpoints) (seed steps : ℕ) (text : List ℕ) (stuck : Bool) → IsCopy e e' → IsTranscriptOf functions e seed steps text stuck

@@ -1,5 +1,5 @@
-use Rattle.source_runs.proofs.Alike.{run_alike, end_alike}
-use Rattle.source_runs.proofs.sources_run_alike.Goals as goal
+use Rattle.program_runs.proofs.Alike.{run_alike, end_alike}
+use Rattle.program_runs.proofs.laws.sources_run_alike.Goals as goal
 
 pub returns-clause-run : goal.returns-clause-run
 returns-clause-run c = run_alike

@@ -1,5 +1,5 @@
-use Rattle.same_transcripts.proofs.Transcripts.{transcript_same}
-use Rattle.same_transcripts.proofs.transcripts_agree.Goals as goal
+use Rattle.program_runs.proofs.SameTranscripts.{transcript_same}
+use Rattle.program_runs.proofs.laws.transcripts_agree.Goals as goal
 
 pub returns : goal.returns
 returns g functions e e' seed steps text stuck c t = transcript_same functions e e' seed steps text stuck c t

@@ -13,7 +13,7 @@ use Rattle.chor_semantics.specs.Sources.{Procedure, Configuration, procedure_fro
 use Rattle.chor_semantics.specs.Runs.{IsRun, IsRunTo, IsEndedRun, IsTerminated, Leads}
 use Rattle.source_blocks.specs.Blocks.{choreography_of}
 use Rattle.source_blocks.proofs.Blocks.{block_choreography}
-use Rattle.source_runs.specs.Laws.{SourcesRunAlike, SourcesEndAlike}
+use Rattle.program_runs.specs.Laws.{SourcesRunAlike, SourcesEndAlike}
 
 abbrev procedure_in : written.Procedure → Procedure
 procedure_in p = record {
