@@ -5,6 +5,7 @@ use Rattle.std.specs.List.{list_any, list_all}
 use Rattle.std.specs.Ordering.{nat_cmp, eq_by_cmp}
 use Rattle.std.specs.FinMap as fin
 use Rattle.std.proofs.lemmas.Cmp.{nat_cmp_total}
+use Rattle.std.proofs.lemmas.Bool.{eqb-true}
 use Rattle.std.proofs.lemmas.Bool.Decides.{nat_tests}
 use Rattle.std.proofs.lemmas.List.{map-append, append-nil, length-map, length-take-le}
 use borrow.Rule.Slice.PartMut.{put_mid}
@@ -105,14 +106,11 @@ spans_with hs is old new k s spans none own first len is_new q =
     ties : (x y : ℕ) → eq_by_cmp nat_cmp x y ≡ (x == y)
     ties x y = grind (arith, nat_tests)
 
-    same : (x y : ℕ) → (x == y) ≡ true → x ≡ y
-    same x y h = grind (arith, nat_tests)
-
     here : IsPart k (hs ++ is) s
     here = record { before = hs; part = is; after = []; is_all = sym (append-nil (hs ++ is)); begins = sym first; has = sym len; none_before = none; none_after = refl; are_own = own }
 
     go : (b : Bool) → (q.0 == k.0) ≡ b → IsSpan q (hs ++ is) (cond b (Some s) (fin.get old q.0))
-    go true e = subst (λ (n : ℕ). IsPart (record { 0 = n }) (hs ++ is) s) (sym (same q.0 k.0 e)) here
+    go true e = subst (λ (n : ℕ). IsPart (record { 0 = n }) (hs ++ is) s) (sym (eqb-true q.0 k.0 e)) here
     go false e = spans_on q hs is (fin.get old q.0) (apart k q is e own) (spans q)
 
 pub no_spans : (k : NameId) (hs : List Held) (spans : FromNames Span) → hs ≡ [] → spans ≡ fin.empty → IsSpan k hs (fin.get spans k.0)

@@ -1,5 +1,6 @@
 -- Lists of processes after one of them has changed.
 use Rattle.std.proofs.Common.{◌≡◌, ℕ, ◌==◌, ◌&&◌, Bool, true, false, cond, List, [], refl, sym, ap, ◌∙◌, Option, Some, None, arith, if◌then◌else◌}
+use Rattle.std.proofs.lemmas.Bool.{eqb-true, and_parts}
 use Rattle.std.proofs.lemmas.Bool.Decides.{nat_tests}
 use Rattle.std.specs.Map.{lookup, lookup_key}
 use Rattle.std.specs.Prelude.{slice_get}
@@ -45,24 +46,17 @@ other_list old new w o h v =
 
 -- ---- when two are the same
 
-number_same : (m n : ℕ) → (m == n) ≡ true → m ≡ n
-number_same m n h = grind (arith, nat_tests)
-
 number_itself : (n : ℕ) → (n == n) ≡ true
 number_itself n = grind (arith, nat_tests)
 
 name_same : (a b : NameId) → (a.0 == b.0) ≡ true → a ≡ b
-name_same a b h = ap (λ (n : ℕ). let r : NameId = record { 0 = n } in r) (number_same a.0 b.0 h)
-
-both_true : (a b : Bool) → (a && b) ≡ true → (a ≡ true) × (b ≡ true)
-both_true true b h = (refl, h)
-both_true false b h = absurd cc
+name_same a b h = ap (λ (n : ℕ). let r : NameId = record { 0 = n } in r) (eqb-true a.0 b.0 h)
 
 pub is_same : (w v : Awaited) → same_awaited w v ≡ true → w ≡ v
 is_same (Queue s a b) (Queue t c d) h =
-    let one = both_true (s == t) ((a.0 == c.0) && (b.0 == d.0)) h in
-    let two = both_true (a.0 == c.0) (b.0 == d.0) one.1 in
-    let i = number_same s t one.0 in
+    let one = and_parts (s == t) ((a.0 == c.0) && (b.0 == d.0)) h in
+    let two = and_parts (a.0 == c.0) (b.0 == d.0) one.1 in
+    let i = eqb-true s t one.0 in
     let j = name_same a c two.0 in
     let k = name_same b d two.1 in
     ap (λ (x : ℕ). Queue x a b) i ∙ ap (λ (x : NameId). Queue t x b) j ∙ ap (λ (x : NameId). Queue t c x) k

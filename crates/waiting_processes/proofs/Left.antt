@@ -1,7 +1,7 @@
 -- By an event no other process has moved, and no other queue has changed.
 use Rattle.std.proofs.Common.{◌≡◌, ℕ, zero, suc, ◌<◌, ◌==◌, ◌&&◌, Bool, true, false, cond, List, [], ◌∷◌, ◌++◌, length, refl, sym, ap, ◌∙◌, subst, Option, Some, None, ℤ, arith}
 use Rattle.std.specs.Prelude.{slice_get, slice_set, ◌≢◌}
-use Rattle.std.proofs.lemmas.Bool.Decides.{nat_tests}
+use Rattle.std.proofs.lemmas.Bool.{eqb-true, and_parts}
 use Rattle.std.specs.FinMap as fin
 use Rattle.chor_base.specs.declared.names.NameId.{NameId}
 use Rattle.chor_base.specs.declared.value.Load.{Load}
@@ -131,15 +131,8 @@ joining_waits : (e : Endpoints) (o : Option Machine) (c r : NameId) (s : ℕ) (w
 joining_waits e None c r s w h = absurd cc
 joining_waits e (Some m) c r s w h = at_place (place_of e m) h
   where
-    named : (a b : ℕ) → (a == b) ≡ true → a ≡ b
-    named a b i = grind (arith, nat_tests)
-
     at_join : (d q : NameId) (b : Bool) (ss : Sessions) (k : NameId) (next : CodeId) → ((d.0 == c.0) && b) ≡ true → awaited_of (Some (head.Join d q)) ≡ Some (Channel c)
-    at_join d q b ss k next i = let same : d.0 ≡ c.0 = named d.0 c.0 (left (d.0 == c.0) b i) in ap (λ (j : ℕ). Some (Channel (let name : NameId = record { 0 = j } in name))) same
-      where
-        left : (a b : Bool) → (a && b) ≡ true → a ≡ true
-        left true b i = refl
-        left false b i = absurd cc
+    at_join d q b ss k next i = let same : d.0 ≡ c.0 = eqb-true d.0 c.0 (and_parts (d.0 == c.0) b i).0 in ap (λ (j : ℕ). Some (Channel (let name : NameId = record { 0 = j } in name))) same
 
     tested : (b : Bool) (o : Machine) → cond b (Some o) None ≡ Some w → b ≡ true
     tested true o i = refl

@@ -1,7 +1,7 @@
 -- A process that an event leaves is listed where it was.
-use Rattle.std.proofs.Common.{◌≡◌, ℕ, zero, suc, ◌<◌, ◌==◌, ◌&&◌, ◌||◌, Bool, true, false, cond, List, [], ◌∷◌, length, refl, sym, ap, ◌∙◌, Option, Some, None, arith, is_some}
+use Rattle.std.proofs.Common.{◌≡◌, ℕ, zero, suc, ◌<◌, ◌==◌, ◌&&◌, ◌||◌, Bool, true, false, cond, List, [], ◌∷◌, length, refl, sym, ap, ◌∙◌, Option, Some, None, is_some}
 use Rattle.std.specs.Prelude.{slice_get}
-use Rattle.std.proofs.lemmas.Bool.Decides.{nat_tests}
+use Rattle.std.proofs.lemmas.Bool.{eqb-true, and_parts}
 use Rattle.std.proofs.lemmas.Option.{slice_get_within}
 use Rattle.std.specs.FinMap as fin
 use Rattle.chor_base.specs.declared.names.NameId.{NameId}
@@ -85,15 +85,8 @@ pub joining_head : (o : _) (c r : NameId) → joins_there o c r ≡ true → awa
 joining_head None c r h = absurd cc
 joining_head (Some p) c r h = at_node p.node p.sessions h
   where
-    named : (a b : ℕ) (t : Bool) → ((a == b) && t) ≡ true → a ≡ b
-    named a b t i = go (a == b) refl i
-      where
-        go : (s : Bool) → (a == b) ≡ s → (s && t) ≡ true → a ≡ b
-        go true j k = grind (arith, nat_tests)
-        go false j k = absurd cc
-
     at_node : (node : CodeNode) (ss : Sessions) → joins_there (Some (record { node = node; sessions = ss })) c r ≡ true → awaited_of (node_head ss node) ≡ Some (Channel c)
-    at_node (Join d q k next) ss i = ap (λ (j : ℕ). Some (Channel (let name : NameId = record { 0 = j } in name))) (named d.0 c.0 (q.0 == r.0) i)
+    at_node (Join d q k next) ss i = ap (λ (j : ℕ). Some (Channel (let name : NameId = record { 0 = j } in name))) (eqb-true d.0 c.0 (and_parts (d.0 == c.0) (q.0 == r.0) i).0)
     at_node (Send k b y next) ss i = absurd cc
     at_node (Recv k b y next) ss i = absurd cc
     at_node (Pick k b l next) ss i = absurd cc
