@@ -1,32 +1,13 @@
 -- Where the next token tells what comes, whatever it is.
-use Rattle.std.proofs.Common.{◌≡◌, ◌⊎◌, inl, inr, ℕ, Bool, true, false, ◌&&◌, ◌||◌, ◌==◌, not, List, [], ◌∷◌, ◌++◌, refl, sym, ◌∙◌, subst, arith}
+use Rattle.std.proofs.Common.{◌≡◌, ◌⊎◌, inl, inr, ℕ, Bool, true, false, ◌&&◌, ◌==◌, not, List, [], ◌∷◌, ◌++◌, sym, ◌∙◌, subst, arith}
 use Rattle.std.specs.Prelude.{bytes_eq}
+use Rattle.std.proofs.lemmas.Bool.{and_parts, or_cases, or_left, or_right, not-true}
 use Rattle.std.proofs.lemmas.Bool.Decides.{nat_tests}
 use Rattle.std.proofs.lemmas.Slice.Eq.{bytes_eq-Decides}
 use Rattle.chor_lexer.specs.Mark.{spelling}
 use Rattle.chor_lexer.specs.Lexeme.{Symbol, word, number, text, mark, last}
 use Rattle.grammar_laws.specs.Classes.{Class, a_mark, a_word, a_kept_word, a_name, a_number, exactly, a_text, the_end, is_keyword, is_of, is_among, is_apart}
 use Rattle.grammar_laws.specs.Grammars.{Grammar, empty, one, seq, alt, many, more, within, short, after, is_nullable, firsts, furthers, is_apart_from, are_apart, is_clear}
-
-pub two : (a b : Bool) → (a && b) ≡ true → (a ≡ true) × (b ≡ true)
-two true b h = (refl, h)
-two false b h = absurd cc
-
-pub some_or : (a b : Bool) → (a || b) ≡ true → (a ≡ true) ⊎ (b ≡ true)
-some_or true b h = inl refl
-some_or false b h = inr h
-
-pub or_left : (a b : Bool) → a ≡ true → (a || b) ≡ true
-or_left true b h = refl
-or_left false b h = absurd cc
-
-pub or_right : (a b : Bool) → b ≡ true → (a || b) ≡ true
-or_right true b h = refl
-or_right false b h = h
-
-pub not_so : (b : Bool) → not b ≡ true → b ≡ false
-not_so false h = refl
-not_so true h = absurd cc
 
 clash : (b : Bool) → not b ≡ true → b ≡ true → ⊥
 clash true n t = cc
@@ -74,7 +55,7 @@ class_apart _ _ last a h e = absurd cc
 
 pub among_left : (cs ds : List Class) (s : Symbol) → is_among cs s ≡ true → is_among (cs ++ ds) s ≡ true
 among_left [] ds s h = absurd cc
-among_left (c ∷ cs) ds s h = elim (some_or (is_of c s) (is_among cs s) h) [ inl e ↦ or_left (is_of c s) (is_among (cs ++ ds) s) e | inr k ↦ or_right (is_of c s) (is_among (cs ++ ds) s) (among_left cs ds s k) ]
+among_left (c ∷ cs) ds s h = elim (or_cases (is_of c s) (is_among cs s) h) [ inl e ↦ or_left (is_of c s) (is_among (cs ++ ds) s) e | inr k ↦ or_right (is_of c s) (is_among (cs ++ ds) s) (among_left cs ds s k) ]
 
 pub among_right : (cs ds : List Class) (s : Symbol) → is_among ds s ≡ true → is_among (cs ++ ds) s ≡ true
 among_right [] ds s h = h
@@ -82,7 +63,7 @@ among_right (c ∷ cs) ds s h = or_right (is_of c s) (is_among (cs ++ ds) s) (am
 
 pub among_both : (cs ds : List Class) (s : Symbol) → is_among (cs ++ ds) s ≡ true → (is_among cs s ≡ true) ⊎ (is_among ds s ≡ true)
 among_both [] ds s h = inr h
-among_both (c ∷ cs) ds s h = elim (some_or (is_of c s) (is_among (cs ++ ds) s) h) [
+among_both (c ∷ cs) ds s h = elim (or_cases (is_of c s) (is_among (cs ++ ds) s) h) [
   | inl e ↦ inl (or_left (is_of c s) (is_among cs s) e)
   | inr k ↦ elim (among_both cs ds s k) [ inl i ↦ inl (or_right (is_of c s) (is_among cs s) i) | inr i ↦ inr i ]
 ]
@@ -90,8 +71,8 @@ among_both (c ∷ cs) ds s h = elim (some_or (is_of c s) (is_among (cs ++ ds) s)
 apart_from : (c : Class) (ds : List Class) (s : Symbol) → is_apart_from c ds ≡ true → is_of c s ≡ true → is_among ds s ≡ true → ⊥
 apart_from c [] s a h k = cc
 apart_from c (d ∷ ds) s a h k =
-    let p = two (is_apart c d) (is_apart_from c ds) a in
-    elim (some_or (is_of d s) (is_among ds s) k) [ inl e ↦ class_apart c d s p.0 h e | inr i ↦ apart_from c ds s p.1 h i ]
+    let p = and_parts (is_apart c d) (is_apart_from c ds) a in
+    elim (or_cases (is_of d s) (is_among ds s) k) [ inl e ↦ class_apart c d s p.0 h e | inr i ↦ apart_from c ds s p.1 h i ]
 
 -- no symbol is among both
 abbrev pub AreApart : List Class → List Class → Type 0
@@ -100,8 +81,8 @@ AreApart cs ds = (s : Symbol) → is_among cs s ≡ true → is_among ds s ≡ t
 apart_of : (cs ds : List Class) → are_apart cs ds ≡ true → AreApart cs ds
 apart_of [] ds a s h k = cc
 apart_of (c ∷ cs) ds a s h k =
-    let p = two (is_apart_from c ds) (are_apart cs ds) a in
-    elim (some_or (is_of c s) (is_among cs s) h) [ inl e ↦ apart_from c ds s p.0 e k | inr i ↦ apart_of cs ds p.1 s i k ]
+    let p = and_parts (is_apart_from c ds) (are_apart cs ds) a in
+    elim (or_cases (is_of c s) (is_among cs s) h) [ inl e ↦ apart_from c ds s p.0 e k | inr i ↦ apart_of cs ds p.1 s i k ]
 
 -- ---- grammars
 
@@ -120,22 +101,22 @@ pub clear_of : {N : Type 0} (g : Grammar N) → is_clear g ≡ true → IsClear 
 clear_of empty h = tt
 clear_of (one c) h = tt
 clear_of (seq g h) e =
-    let p = two (are_apart (furthers g) (firsts h)) (is_clear g && is_clear h) e in
-    let q = two (is_clear g) (is_clear h) p.1 in
+    let p = and_parts (are_apart (furthers g) (firsts h)) (is_clear g && is_clear h) e in
+    let q = and_parts (is_clear g) (is_clear h) p.1 in
     (apart_of (furthers g) (firsts h) p.0, clear_of g q.0, clear_of h q.1)
 clear_of (alt g h) e =
-    let p = two (are_apart (firsts g) (firsts h) && not (is_nullable g && is_nullable h)) (is_clear g && is_clear h) e in
-    let o = two (are_apart (firsts g) (firsts h)) (not (is_nullable g && is_nullable h)) p.0 in
-    let q = two (is_clear g) (is_clear h) p.1 in
-    (apart_of (firsts g) (firsts h) o.0, not_so (is_nullable g && is_nullable h) o.1, clear_of g q.0, clear_of h q.1)
+    let p = and_parts (are_apart (firsts g) (firsts h) && not (is_nullable g && is_nullable h)) (is_clear g && is_clear h) e in
+    let o = and_parts (are_apart (firsts g) (firsts h)) (not (is_nullable g && is_nullable h)) p.0 in
+    let q = and_parts (is_clear g) (is_clear h) p.1 in
+    (apart_of (firsts g) (firsts h) o.0, not-true (is_nullable g && is_nullable h) o.1, clear_of g q.0, clear_of h q.1)
 clear_of (many e n g) h =
-    let p = two (are_apart (furthers g) (firsts g) && not (is_nullable g)) (is_clear g) h in
-    let o = two (are_apart (furthers g) (firsts g)) (not (is_nullable g)) p.0 in
-    (apart_of (furthers g) (firsts g) o.0, not_so (is_nullable g) o.1, clear_of g p.1)
+    let p = and_parts (are_apart (furthers g) (firsts g) && not (is_nullable g)) (is_clear g) h in
+    let o = and_parts (are_apart (furthers g) (firsts g)) (not (is_nullable g)) p.0 in
+    (apart_of (furthers g) (firsts g) o.0, not-true (is_nullable g) o.1, clear_of g p.1)
 clear_of (more e n c g) h =
-    let p = two (are_apart (furthers g) (c ∷ []) && not (is_nullable g)) (is_clear g) h in
-    let o = two (are_apart (furthers g) (c ∷ [])) (not (is_nullable g)) p.0 in
-    (apart_of (furthers g) (c ∷ []) o.0, not_so (is_nullable g) o.1, clear_of g p.1)
-clear_of (within e n g) h = let p = two (not (is_nullable g)) (is_clear g) h in (not_so (is_nullable g) p.0, clear_of g p.1)
+    let p = and_parts (are_apart (furthers g) (c ∷ []) && not (is_nullable g)) (is_clear g) h in
+    let o = and_parts (are_apart (furthers g) (c ∷ [])) (not (is_nullable g)) p.0 in
+    (apart_of (furthers g) (c ∷ []) o.0, not-true (is_nullable g) o.1, clear_of g p.1)
+clear_of (within e n g) h = let p = and_parts (not (is_nullable g)) (is_clear g) h in (not-true (is_nullable g) p.0, clear_of g p.1)
 clear_of (short e n g) h = clear_of g h
 clear_of (after c n) h = tt

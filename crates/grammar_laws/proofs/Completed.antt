@@ -1,6 +1,7 @@
 -- What can be completed, and where it stops.
 use Rattle.std.proofs.Common.{◌≡◌, ◌⊎◌, inl, inr, zero, suc, ℕ, Bool, true, false, ◌&&◌, ◌||◌, List, [], ◌∷◌, ◌++◌, Option, Some, None, refl, sym, ap, ◌∙◌, subst, append_assoc, arith}
 use Rattle.std.proofs.lemmas.Slice.Eq.{bytes_eq-Decides}
+use Rattle.std.proofs.lemmas.Bool.{and_parts}
 use Rattle.std.proofs.lemmas.Bool.Decides.{nat_tests}
 use Rattle.std.specs.List.{AllByRecursion}
 use Rattle.std.specs.Prelude.{◌==◌}
@@ -12,7 +13,7 @@ use Rattle.grammar_laws.specs.Classes.{Class, a_mark, a_word, a_kept_word, a_nam
 use Rattle.grammar_laws.specs.Grammars.{Grammar, empty, one, seq, alt, many, more, within, short, after, Room, cut, Value, Rules, Allowed, nowhere, anywhere, only_at, but_at, HasRoom, Derives, is_empty, is_one, in_turn, the_first, the_second, none_of_many, one_of_many, no_more, one_more, with_room, in_short, AreFew, no_token, a_token, by_rule, is_nullable, is_finished_by, is_finished, AreClear}
 use Rattle.grammar_laws.specs.Machine.{Next, goes, skips, refuses, next, at, stopped, stop}
 use Rattle.grammar_laws.specs.Faults.{CanEnd, IsFaultAt, unexpected, excess, IsFirstFault}
-use Rattle.grammar_laws.proofs.Apart.{two, IsClear, clear_of}
+use Rattle.grammar_laws.proofs.Apart.{IsClear, clear_of}
 use Rattle.grammar_laws.proofs.Nexts.{AllowedBy, inside, allowed}
 use Rattle.grammar_laws.proofs.Steps.{CanBe, Moves, moved, stays, step, back, kept}
 
@@ -91,7 +92,7 @@ module _ {N : Type 0} (r : Rules N) (p : Place) where
   ends_by : (ok : N → Bool) → ((n : N) → ok n ≡ true → Ends r p (r.rule n)) → (g : Grammar N) → IsClear g → is_finished_by ok g ≡ true → Ends r p g
   ends_by ok given empty c f = record { added = []; value = tt; there = tt; some = λ e. absurd cc; is = λ more. is_empty }
   ends_by ok given (one k) c f = record { added = token_at k p ∷ []; value = says k (token_at k p); there = (refl, tt); some = λ e q. cc; is = λ more. is_one (token_at k p) refl (sample_is k) }
-  ends_by ok given (seq g h) c f = let q = two (is_finished_by ok g) (is_finished_by ok h) f in ends_in_turn (ends_by ok given g c.1 q.0) (ends_by ok given h c.2 q.1)
+  ends_by ok given (seq g h) c f = let q = and_parts (is_finished_by ok g) (is_finished_by ok h) f in ends_in_turn (ends_by ok given g c.1 q.0) (ends_by ok given h c.2 q.1)
   ends_by ok given (alt g h) c f = elim (some_true (is_finished_by ok g) (is_finished_by ok h) f) [
     | inl i ↦ let a = ends_by ok given g c.2 i in record { added = a.added; value = inl a.value; there = a.there; some = λ e. a.some (none_of (is_nullable g) (is_nullable h) e).0; is = λ more. the_first (a.is more) }
     | inr i ↦ let a = ends_by ok given h c.3 i.0 in record { added = a.added; value = inr a.value; there = a.there; some = λ e. a.some (none_of (is_nullable g) (is_nullable h) e).1; is = λ more. the_second (a.is more) }

@@ -1,12 +1,13 @@
 -- One token.
 use Rattle.std.proofs.Common.{◌≡◌, ◌⊎◌, inl, inr, Bool, true, false, ◌&&◌, List, [], ◌∷◌, ◌++◌, Option, length, ◌≤◌, arith, refl, sym, ap, ◌∙◌, subst}
+use Rattle.std.proofs.lemmas.Bool.{and_parts, or_cases, or_left, or_right}
 use Rattle.chor_base.specs.declared.rule.Rule.{Rule}
 use Rattle.chor_lexer.specs.Lexeme.{Symbol, Lexeme}
 use Rattle.grammar_laws.specs.Classes.{Class, is_of, is_among, says}
 use Rattle.grammar_laws.specs.Grammars.{Grammar, empty, one, seq, alt, many, more, within, short, after, Room, is_full, less, Value, Rules, Allowed, HasRoom, Derives, is_empty, is_one, in_turn, the_first, the_second, none_of_many, one_of_many, no_more, one_more, with_room, in_short, AreFew, no_token, a_token, cut, by_rule, is_nullable, where_so, firsts, furthers, AreClear}
 use Rattle.grammar_laws.specs.Machine.{Next, goes, skips, refuses, taken, followed, either, limited, clipped, repeated, next}
 use Rattle.grammar_laws.proofs.Progress.{no_longer}
-use Rattle.grammar_laws.proofs.Apart.{two, some_or, or_left, or_right, among_left, among_right, among_both, AreApart, IsClear, clear_of}
+use Rattle.grammar_laws.proofs.Apart.{among_left, among_right, among_both, AreApart, IsClear, clear_of}
 use Rattle.grammar_laws.proofs.Nexts.{AllowedBy, Fits, Quiet, allowed_over, by_first, by_second, clipped_by, either_by, either_quiet, fits_under, followed_by, is_false, limited_by, never_both, quiet_repeats, quiet_skips, repeated_by, room_under, skips_clipped, skips_quiet, so_here, so_there, taken_by}
 
 -- what may be derived
@@ -98,11 +99,11 @@ module _ {N : Type 0} (r : Rules N) where
   still empty s c n f = refl
   still (one k) s c n f = absurd cc
   still (seq g h) s c n f =
-      let p = two (is_nullable g) (is_nullable h) n in
+      let p = and_parts (is_nullable g) (is_nullable h) n in
       let i = still g s c.1 p.0 (λ m. f (among_right (furthers h) (where_so (is_nullable h) (furthers g)) s (so_there (is_nullable h) (furthers g) s p.1 m))) in
       let j = still h s c.2 p.1 (λ m. f (among_left (furthers h) (where_so (is_nullable h) (furthers g)) s m)) in
       ap (λ k. followed k h (next r h s)) i ∙ j
-  still (alt g h) s c n f = elim (some_or (is_nullable g) (is_nullable h) n) [
+  still (alt g h) s c n f = elim (or_cases (is_nullable g) (is_nullable h) n) [
     | inl i ↦ skips_quiet (next r g s) (next r h s)
         (still g s c.2 i (λ m. f (among_left (furthers g ++ furthers h) (where_so (is_nullable g) (firsts h) ++ where_so (is_nullable h) (firsts g)) s (among_left (furthers g) (furthers h) s m))))
         (quiet h s (λ m. f (among_right (furthers g ++ furthers h) (where_so (is_nullable g) (firsts h) ++ where_so (is_nullable h) (firsts g)) s (among_left (where_so (is_nullable g) (firsts h)) (where_so (is_nullable h) (firsts g)) s (so_there (is_nullable g) (firsts h) s i m)))))
@@ -244,11 +245,11 @@ module _ {N : Type 0} (r : Rules N) where
   nothing empty c n us = record { value = tt; is = is_empty }
   nothing (one k) c n us = absurd cc
   nothing {Q = Q} (seq g h) c n us =
-      let p = two (is_nullable g) (is_nullable h) n in
+      let p = and_parts (is_nullable g) (is_nullable h) n in
       let a = nothing {Q = Q} g c.1 p.0 us in
       let b = nothing {Q = Q} h c.2 p.1 us in
       record { value = (a.value, b.value); is = in_turn a.is b.is }
-  nothing {Q = Q} (alt g h) c n us = elim (some_or (is_nullable g) (is_nullable h) n) [
+  nothing {Q = Q} (alt g h) c n us = elim (or_cases (is_nullable g) (is_nullable h) n) [
     | inl i ↦ let a = nothing {Q = Q} g c.2 i us in record { value = inl a.value; is = the_first a.is }
     | inr i ↦ let a = nothing {Q = Q} h c.3 i us in record { value = inr a.value; is = the_second a.is }
   ]
