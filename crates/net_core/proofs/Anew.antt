@@ -1,6 +1,7 @@
 -- Processes that are noted and judged anew.
 use Rattle.std.proofs.Common.{◌≡◌, ◌⊎◌, inl, inr, ℕ, zero, suc, ◌+◌, ◌==◌, ◌<◌, Bool, true, false, ◌||◌, List, [], ◌∷◌, ◌++◌, length, refl, sym, ap, ◌∙◌, subst, Option, Some, arith}
 use Rattle.std.specs.Prelude.{slice_get, slice_set, not, ◌≢◌, if◌then◌else◌}
+use Rattle.std.proofs.lemmas.Bool.{eqb-true, eqb-false}
 use Rattle.std.proofs.lemmas.Bool.Decides.{nat_tests}
 use Rattle.std.proofs.lemmas.Option.{slice_get_within}
 use Rattle.std.proofs.lemmas.List.{length-append}
@@ -64,12 +65,6 @@ in_one p q (suc k, h) = absurd cc
 
 pub in_none : (q : ℕ) → IsIn [] q → ⊥
 in_none q (k, h) = cc
-
-same_number : (m n : ℕ) → (m == n) ≡ true → m ≡ n
-same_number m n h = grind (arith, nat_tests)
-
-other_number : (m n : ℕ) → (m == n) ≡ false → m ≢ n
-other_number m n h e = let t : (m == n) ≡ true = grind (arith, nat_tests) in cc
 
 -- ---- places
 
@@ -141,9 +136,9 @@ module _ (e : Endpoints) (n : NetworkState) where
       stays q r = go (p == q) refl
         where
           go : (t : Bool) → (p == q) ≡ t → IsNoted e n new q
-          go true i = subst (IsNoted e n new) (same_number p q i) own
+          go true i = subst (IsNoted e n new) (eqb-true p q i) own
           go false i =
-              let apart : q ≢ p = λ s. other_number p q i (sym s) in
+              let apart : q ≢ p = λ s. eqb-false p q i (sym s) in
               record { unended = ap (λ (bs : List Bool). slice_get bs q) unended ∙ get_other old.unended p q (not (ended_at e n p)) apart ∙ r.unended; kept = λ w a. more w q (r.kept w a) }
 
   pub entered_none : (c : Candidates) → HasPlaces (length n.machines) c → Enters e n c [] false c
@@ -175,8 +170,8 @@ module _ (e : Endpoints) (n : NetworkState) where
   entered_next old new p joins l before q lt = go (p == q) refl
     where
       go : (t : Bool) → (p == q) ≡ t → IsNoted e n new q
-      go true i = l.entered q (0, ap (λ (k : ℕ). Some k) (same_number p q i))
-      go false i = let apart = other_number p q i in let less : q < p = grind (arith, nat_tests) in l.stays q (before q less)
+      go true i = l.entered q (0, ap (λ (k : ℕ). Some k) (eqb-true p q i))
+      go false i = let apart = eqb-false p q i in let less : q < p = grind (arith, nat_tests) in l.stays q (before q less)
 
   -- one more in the list of what it waits for
   module _ (old new : WaitingLists) (a : Awaited) (p : ℕ) (put : (w : Awaited) → waiting_for new w ≡ (if same_awaited a w then waiting_for old a ++ p ∷ [] else waiting_for old w)) where
@@ -216,8 +211,8 @@ module _ (e : Endpoints) (n : NetworkState) where
       stays q r = go (p == q) refl
         where
           go : (t : Bool) → (p == q) ≡ t → IsJudged e n new q
-          go true i = subst (IsJudged e n new) (same_number p q i) own
-          go false i = let apart : q ≢ p = λ s. other_number p q i (sym s) in ap (λ (bs : List Bool). slice_get bs q) put ∙ get_other old p q b apart ∙ r
+          go true i = subst (IsJudged e n new) (eqb-true p q i) own
+          go false i = let apart : q ≢ p = λ s. eqb-false p q i (sym s) in ap (λ (bs : List Bool). slice_get bs q) put ∙ get_other old p q b apart ∙ r
 
   pub judged_none : (bits : List Bool) → Judges e n bits [] bits
   judged_none bits = record { count = refl; stays = λ q r. r; judged = λ q i. absurd (in_none q i) }
@@ -233,8 +228,8 @@ module _ (e : Endpoints) (n : NetworkState) where
   judged_next old new p l before q lt = go (p == q) refl
     where
       go : (t : Bool) → (p == q) ≡ t → IsJudged e n new q
-      go true i = l.judged q (0, ap (λ (k : ℕ). Some k) (same_number p q i))
-      go false i = let apart = other_number p q i in let less : q < p = grind (arith, nat_tests) in l.stays q (before q less)
+      go true i = l.judged q (0, ap (λ (k : ℕ). Some k) (eqb-true p q i))
+      go false i = let apart = eqb-false p q i in let less : q < p = grind (arith, nat_tests) in l.stays q (before q less)
 
   -- ---- with those who join the same channel
 

@@ -2,6 +2,7 @@
 use Rattle.std.proofs.Common.{◌≡◌, ℕ, suc, ◌+◌, ◌<◌, ◌==◌, ◌&&◌, Bool, true, false, cond, List, [], ◌∷◌, ◌++◌, length, map, refl, sym, ap, ◌∙◌, subst, Option, Some, None, arith, take, drop, get_or, length-append, take-append-drop}
 use Rattle.std.specs.Prelude.{◌≢◌, slice_get, All}
 use Rattle.std.specs.FinMap as fin
+use Rattle.std.proofs.lemmas.Bool.{and_parts}
 use Rattle.std.proofs.lemmas.Bool.Decides.{nat_tests}
 use Rattle.std.proofs.Math.Seq.{take-append_seam, drop-append_seam}
 use Rattle.std.proofs.lemmas.List.{drop_more}
@@ -19,7 +20,7 @@ use Rattle.endpoint_code.specs.Faults.{AreDistinct, one_more, is_among}
 use Rattle.endpoint_code.specs.Network.{Machine, NetworkState, Sessions, Place, Makes, place_at, place_of, place_joins, node_joins, joins, joiners, one_joiner, with_machines, served, served_parts, paired, one_pair, begun, starts, starts_with, channel_starts, channel_of, NetworkSteps, acts, begins}
 use Rattle.endpoint_code.specs.NetworkRuns.{joins_there}
 use Rattle.session_starts.specs.Starts.{AllJoin, AreApart, no_part, one_part}
-use Rattle.session_starts.proofs.Places.{both_true, name_same}
+use Rattle.session_starts.proofs.Places.{name_same}
 use Rattle.net_core.specs.Follows.{IsStep, IsCasting, HasFollowed, joined_by, served_by}
 use Rattle.net_core.specs.Steps.{HasBegun}
 use Rattle.net_core.specs.Views.{NetworkView, Becomes}
@@ -60,8 +61,8 @@ served_same [] p [] h = refl
 served_same [] p (q ∷ qs) h = absurd cc
 served_same (r ∷ rs) p [] h = absurd cc
 served_same (r ∷ rs) p (q ∷ qs) h =
-    let parts = both_true ((q.0.0 == r.0) && (q.1 == p)) (served_by rs (suc p) qs) h in
-    let own = both_true (q.0.0 == r.0) (q.1 == p) parts.0 in
+    let parts = and_parts ((q.0.0 == r.0) && (q.1 == p)) (served_by rs (suc p) qs) h in
+    let own = and_parts (q.0.0 == r.0) (q.1 == p) parts.0 in
     let role : q.0 ≡ r = name_same q.0 r own.0 in
     let number : q.1 ≡ p = (let t : (q.1 == p) ≡ true = own.1 in grind (arith, nat_tests)) in
     ap (λ (x : NameId). (x, q.1) ∷ qs) role ∙ ap (λ (k : ℕ). (r, k) ∷ qs) number ∙ ap (λ (l : List (NameId × ℕ)). (r, p) ∷ l) (served_same rs (suc p) qs parts.1)
@@ -76,7 +77,7 @@ pub joined_length : (e : Endpoints) (ms : List Machine) (c : NameId) (rs : List 
 joined_length e ms c [] [] h = refl
 joined_length e ms c [] (q ∷ qs) h = absurd cc
 joined_length e ms c (r ∷ rs) [] h = absurd cc
-joined_length e ms c (r ∷ rs) (q ∷ qs) h = ap suc (joined_length e ms c rs qs (both_true ((q.0.0 == r.0) && joins_there (place_at e (slice_get ms q.1)) c r) (joined_by e ms c rs qs) h).1)
+joined_length e ms c (r ∷ rs) (q ∷ qs) h = ap suc (joined_length e ms c rs qs (and_parts ((q.0.0 == r.0) && joins_there (place_at e (slice_get ms q.1)) c r) (joined_by e ms c rs qs) h).1)
 
 -- what the first part tells
 record First (e : Endpoints) (ms : List Machine) (c r : NameId) (q : NameId × ℕ) (rs : List NameId) (qs : List (NameId × ℕ)) : Type 0 where
@@ -86,8 +87,8 @@ record First (e : Endpoints) (ms : List Machine) (c r : NameId) (q : NameId × �
 
 first_part : (e : Endpoints) (ms : List Machine) (c r : NameId) (q : NameId × ℕ) (rs : List NameId) (qs : List (NameId × ℕ)) → joined_by e ms c (r ∷ rs) (q ∷ qs) ≡ true → First e ms c r q rs qs
 first_part e ms c r q rs qs h =
-    let parts = both_true ((q.0.0 == r.0) && joins_there (place_at e (slice_get ms q.1)) c r) (joined_by e ms c rs qs) h in
-    let own = both_true (q.0.0 == r.0) (joins_there (place_at e (slice_get ms q.1)) c r) parts.0 in
+    let parts = and_parts ((q.0.0 == r.0) && joins_there (place_at e (slice_get ms q.1)) c r) (joined_by e ms c rs qs) h in
+    let own = and_parts (q.0.0 == r.0) (joins_there (place_at e (slice_get ms q.1)) c r) parts.0 in
     record { role = name_same q.0 r own.0; joins_in = own.1; rest = parts.1 }
 
 pub all_join : (e : Endpoints) (ms : List Machine) (c : NameId) (rs : List NameId) (qs : List (NameId × ℕ)) → joined_by e ms c rs qs ≡ true → AllJoin e ms c qs

@@ -1,6 +1,7 @@
 -- The partners of a start.
 use Rattle.std.proofs.Common.{◌≡◌, ℕ, zero, suc, ◌+◌, ◌==◌, ◌||◌, Bool, true, false, cond, List, [], ◌∷◌, ◌++◌, refl, sym, ap, ◌∙◌, subst, Option, Some, None, arith, is_some}
 use Rattle.std.specs.Prelude.{slice_get, map, All, ◌≢◌}
+use Rattle.std.proofs.lemmas.Bool.{and_parts}
 use Rattle.std.proofs.lemmas.Bool.Decides.{nat_tests}
 use Rattle.std.proofs.lemmas.List.Elements.{All-cons, All-nil}
 use Rattle.chor_base.specs.declared.names.NameId.{NameId}
@@ -15,7 +16,7 @@ use Rattle.endpoint_code.specs.Faults.{AreDistinct, no_name, one_more, is_among}
 use Rattle.session_starts.specs.Starts.{AllJoin, AreApart, no_part, one_part}
 use Rattle.net_core.specs.Starts.{partner_for, IsCast, no_role, one_role}
 use Rattle.net_core.proofs.Heads.{joined_least}
-use Rattle.session_starts.proofs.Places.{name_same, both_true}
+use Rattle.session_starts.proofs.Places.{name_same}
 
 pub cast_push : {e : Endpoints} {ms : List Machine} {c : NameId} {p : ℕ} {own : NameId} {rs : List NameId} {ps : List (NameId × ℕ)} → IsCast e ms c p own rs ps → (r : NameId) (q : ℕ) → partner_for e ms c p own r ≡ Some q → IsCast e ms c p own (rs ++ r ∷ []) (ps ++ (r, q) ∷ [])
 cast_push no_role r q h = one_role h no_role
@@ -71,8 +72,8 @@ same_role (Some p) c r s h k = at_node p.node h k
   where
     at_node : (node : CodeNode) → joins_there (Some (record { node = node; sessions = p.sessions })) c r ≡ true → joins_there (Some (record { node = node; sessions = p.sessions })) c s ≡ true → (r.0 == s.0) ≡ true
     at_node (Join d o k next) a b =
-        let first = (both_true (d.0 == c.0) (o.0 == r.0) a).1 in
-        let second = (both_true (d.0 == c.0) (o.0 == s.0) b).1 in
+        let first = (and_parts (d.0 == c.0) (o.0 == r.0) a).1 in
+        let second = (and_parts (d.0 == c.0) (o.0 == s.0) b).1 in
         let e : o.0 ≡ r.0 = let t : (o.0 == r.0) ≡ true = first in grind (arith, nat_tests) in
         let f : o.0 ≡ s.0 = let t : (o.0 == s.0) ≡ true = second in grind (arith, nat_tests) in
         grind (arith, nat_tests)

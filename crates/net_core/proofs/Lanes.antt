@@ -1,12 +1,13 @@
 -- Where a triple's queue is.
 use Rattle.std.proofs.Common.{◌≡◌, ℕ, zero, suc, ◌+◌, ◌≤◌, ◌<◌, ◌==◌, ◌&&◌, Bool, true, false, cond, List, [], ◌∷◌, ◌++◌, length, get_or, refl, sym, ap, ◌∙◌, subst, Some, None, arith, OnOk, Result, Ok, Err}
 use Rattle.std.specs.Prelude.{slice_set, slice_get}
+use Rattle.std.proofs.lemmas.Bool.{and_parts}
 use Rattle.std.proofs.lemmas.Bool.Decides.{nat_tests}
 use Rattle.chor_base.specs.declared.names.NameId.{NameId}
 use Rattle.chor_base.specs.declared.value.Load.{Load}
 use Rattle.chor_base.specs.Events.{Triple, triple_eq}
 use Rattle.endpoint_code.specs.Network.{loads_for, with_loads}
-use Rattle.session_starts.proofs.Places.{name_same, both_true}
+use Rattle.session_starts.proofs.Places.{name_same}
 use Rattle.net_core.specs.Lanes.{LaneView, loads_in, room_among, lane_from}
 
 -- the first lane of the triple is at this place
@@ -48,8 +49,8 @@ lacks_found k (l ∷ ls) t h = go (triple_eq l.triple t) refl (λ e. lacks_found
 
 pub triple_same : (s t : Triple) → triple_eq s t ≡ true → s ≡ t
 triple_same s t h =
-    let parts = both_true (s.0 == t.0) ((s.1.0 == t.1.0) && (s.2.0 == t.2.0)) h in
-    let names = both_true (s.1.0 == t.1.0) (s.2.0 == t.2.0) parts.1 in
+    let parts = and_parts (s.0 == t.0) ((s.1.0 == t.1.0) && (s.2.0 == t.2.0)) h in
+    let names = and_parts (s.1.0 == t.1.0) (s.2.0 == t.2.0) parts.1 in
     let sid : s.0 ≡ t.0 = let e : (s.0 == t.0) ≡ true = parts.0 in grind (arith, nat_tests) in
     ap (λ (n : ℕ). let r : Triple = (n, s.1, s.2) in r) sid
     ∙ ap (λ (n : NameId). let r : Triple = (t.0, n, s.2) in r) (name_same s.1 t.1 names.0)

@@ -1,6 +1,7 @@
 -- Where a process can step, the pick rule may take one.
 use Rattle.std.proofs.Common.{◌≡◌, ℕ, zero, suc, ◌<◌, ◌==◌, ◌&&◌, ◌||◌, Bool, true, false, cond, List, [], ◌∷◌, length, refl, sym, ap, ◌∙◌, Option, Some, None, arith, is_some}
 use Rattle.std.specs.Prelude.{slice_get}
+use Rattle.std.proofs.lemmas.Bool.{and_parts}
 use Rattle.std.proofs.lemmas.Bool.Decides.{nat_tests}
 use Rattle.std.proofs.lemmas.Option.{slice_get_within}
 use Rattle.chor_base.specs.declared.names.NameId.{NameId}
@@ -16,7 +17,7 @@ use Rattle.endpoint_code.specs.NetworkRuns.{has_ended, ends_there, joins_there, 
 use Rattle.endpoint_code.specs.Scheduled.{is_listed, listed, listed_from, listed_at, first_role}
 use Rattle.endpoint_code.specs.Faults.{is_among, IsActive}
 use Rattle.net_core.specs.Heads.{Stands, EachStands}
-use Rattle.session_starts.proofs.Places.{name_same, both_true}
+use Rattle.session_starts.proofs.Places.{name_same}
 use Rattle.net_core.proofs.Begins.{scoped_join}
 
 -- a place where a process joins
@@ -32,7 +33,7 @@ join_place (Some p) c r h = at_node p.node h
   where
     at_node : (node : CodeNode) → joins_there (Some (record { node = node; sessions = p.sessions })) c r ≡ true → JoinPlace (Some (record { node = node; sessions = p.sessions })) c r
     at_node (Join d o k next) h =
-        let parts = both_true (d.0 == c.0) (o.0 == r.0) h in
+        let parts = and_parts (d.0 == c.0) (o.0 == r.0) h in
         let one = name_same d c parts.0 in
         let two = name_same o r parts.1 in
         record {

@@ -2,11 +2,13 @@
 use Rattle.std.proofs.Common.{◌≡◌, ℕ, zero, suc, ◌+◌, ◌==◌, ◌&&◌, Bool, true, false, cond, List, [], ◌∷◌, ◌++◌, length, map, refl, sym, ap, subst, ◌∙◌, Option, Some, None, arith, add-one, ◌<◌, ◌||◌, get_or}
 use Rattle.std.specs.Prelude.{position, slice_get, slice_set, if◌then◌else◌}
 use Rattle.std.specs.List.{position_from, list_any, IsDistinct, AllByRecursion}
+use Rattle.std.proofs.lemmas.Bool.{eqb-true, and_parts}
 use Rattle.std.proofs.lemmas.Bool.Decides.{nat_tests}
 use Rattle.std.proofs.lemmas.List.{map-append}
 use Rattle.std.proofs.lemmas.Iterator.Adapters.{position_from-zero}
 use Rattle.chor_base.specs.declared.names.NameId.{NameId}
 use Rattle.chor_base.specs.Events.{Triple, triple_eq}
+use Rattle.session_starts.proofs.Places.{name_same}
 use Rattle.net_core.specs.declared.queues.Direction.{Direction}
 use Rattle.net_core.specs.Indexed.{triple_of}
 use Rattle.net_core.specs.Lanes.{LaneView, lane_from}
@@ -66,21 +68,11 @@ indexed_put ds ls i l m same lt h k = same ∙ sym (mapped_put (λ (x : LaneView
 abbrev pub is_at : Direction → Direction → Bool
 is_at d x = (d.sid == x.sid) && ((d.from.0 == x.from.0) && (d.to.0 == x.to.0))
 
-both_true : (a b : Bool) → (a && b) ≡ true → (a ≡ true) × (b ≡ true)
-both_true true b h = (refl, h)
-both_true false b h = absurd cc
-
-number_same : (m n : ℕ) → (m == n) ≡ true → m ≡ n
-number_same m n h = grind (arith, nat_tests)
-
-name_same : (a b : NameId) → (a.0 == b.0) ≡ true → a ≡ b
-name_same a b h = ap (λ (n : ℕ). let r : NameId = record { 0 = n } in r) (number_same a.0 b.0 h)
-
 same_direction : (d x : Direction) → is_at d x ≡ true → d ≡ x
 same_direction d x h =
-    let one = both_true (d.sid == x.sid) ((d.from.0 == x.from.0) && (d.to.0 == x.to.0)) h in
-    let two = both_true (d.from.0 == x.from.0) (d.to.0 == x.to.0) one.1 in
-    ap (λ (k : ℕ). let r : Direction = record { sid = k; from = d.from; to = d.to } in r) (number_same d.sid x.sid one.0)
+    let one = and_parts (d.sid == x.sid) ((d.from.0 == x.from.0) && (d.to.0 == x.to.0)) h in
+    let two = and_parts (d.from.0 == x.from.0) (d.to.0 == x.to.0) one.1 in
+    ap (λ (k : ℕ). let r : Direction = record { sid = k; from = d.from; to = d.to } in r) (eqb-true d.sid x.sid one.0)
     ∙ ap (λ (a : NameId). let r : Direction = record { sid = x.sid; from = a; to = d.to } in r) (name_same d.from x.from two.0)
     ∙ ap (λ (b : NameId). let r : Direction = record { sid = x.sid; from = x.from; to = b } in r) (name_same d.to x.to two.1)
 

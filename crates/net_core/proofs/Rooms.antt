@@ -2,6 +2,7 @@
 use Rattle.std.proofs.Common.{◌≡◌, ℕ, zero, suc, ◌<◌, ◌≤◌, ◌&&◌, Bool, true, List, [], ◌∷◌, length, get_or, refl, sym, ap, ◌∙◌, Option, Some, None, arith}
 use Rattle.std.specs.Prelude.{slice_get, slice_set, map, nat_lt}
 use Rattle.std.proofs.lemmas.Option.{slice_get-get_or, slice_get-map, get_or_from_slice_get}
+use Rattle.std.proofs.lemmas.Bool.{and_parts}
 use Rattle.std.proofs.lemmas.Bool.Decides.{nat_tests}
 use Rattle.chor_base.specs.Events.{Triple}
 use Rattle.endpoint_code.specs.declared.endpoints.Endpoints.{Endpoints}
@@ -14,7 +15,6 @@ use Rattle.net_core.specs.Lanes.{QueuesView, room_on}
 use Rattle.session_starts.specs.Machines.{is_reserved}
 use Rattle.net_core.specs.Machines.{has_queue_room}
 use Rattle.net_core.specs.Views.{has_room}
-use Rattle.session_starts.proofs.Places.{both_true}
 use Rattle.net_core.proofs.Turns.{turn}
 
 abbrev got : {X Y : Type 0} → (X → Y) → Option X → Option Y
@@ -45,8 +45,8 @@ kept_after f g (z ∷ xs) (suc p) x y lt h each one (suc i) t = kept_after f g x
 -- a process in the same place has still room where there isn't less
 pub room_stays : (e : Endpoints) (k l : ℕ) (q r : QueuesView) (m n : MachineView) → k ≤ l → ((t : Triple) → room_on q t ≤ room_on r t) → (is_reserved e m ≡ true → is_reserved e n ≡ true) → n.machine ≡ m.machine → has_room e k q m ≡ true → has_room e l r n ≡ true
 room_stays e k l q r m n more queues kept same h =
-    let parts = both_true (nat_lt 0 k) (is_reserved e m && has_queue_room q (head_of e m.machine)) h in
-    let others = both_true (is_reserved e m) (has_queue_room q (head_of e m.machine)) parts.1 in
+    let parts = and_parts (nat_lt 0 k) (is_reserved e m && has_queue_room q (head_of e m.machine)) h in
+    let others = and_parts (is_reserved e m) (has_queue_room q (head_of e m.machine)) parts.1 in
     let first : nat_lt 0 l ≡ true = let a : nat_lt 0 k ≡ true = parts.0 in grind (arith, nat_tests) in
     ap (λ (b : Bool). b && (is_reserved e n && has_queue_room r (head_of e n.machine))) first
     ∙ ap (λ (b : Bool). b && has_queue_room r (head_of e n.machine)) (kept others.0)
@@ -75,8 +75,8 @@ room_made e k q m h is more room queue =
 
 pub room_known : (e : Endpoints) (k : ℕ) (q : QueuesView) (m : MachineView) (h : Head) → head_of e m.machine ≡ Some h → has_room e k q m ≡ true → (0 < k) × (is_reserved e m ≡ true) × (has_queue_room q (Some h) ≡ true)
 room_known e k q m h is r =
-    let parts = both_true (nat_lt 0 k) (is_reserved e m && has_queue_room q (head_of e m.machine)) r in
-    let others = both_true (is_reserved e m) (has_queue_room q (head_of e m.machine)) parts.1 in
+    let parts = and_parts (nat_lt 0 k) (is_reserved e m && has_queue_room q (head_of e m.machine)) r in
+    let others = and_parts (is_reserved e m) (has_queue_room q (head_of e m.machine)) parts.1 in
     let a : nat_lt 0 k ≡ true = parts.0 in
     (grind (arith, nat_tests), others.0, sym (ap (has_queue_room q) is) ∙ others.1)
 
@@ -87,5 +87,5 @@ pub reserved_first : (e : Endpoints) (k : ℕ) (q : QueuesView) (ms : List Machi
 reserved_first e k q ms p lt r =
     let t = turn ms p lt in
     let h = reserved_room e k q ms p t.item lt (sym (get_or_from_slice_get ms p t.item t.item t.there)) r in
-    let a : nat_lt 0 k ≡ true = (both_true (nat_lt 0 k) (is_reserved e t.item && has_queue_room q (head_of e t.item.machine)) h).0 in
+    let a : nat_lt 0 k ≡ true = (and_parts (nat_lt 0 k) (is_reserved e t.item && has_queue_room q (head_of e t.item.machine)) h).0 in
     grind (arith, nat_tests)

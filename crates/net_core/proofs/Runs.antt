@@ -4,6 +4,7 @@ use Rattle.std.specs.Prelude.{slice_get, ◌≢◌}
 use Rattle.std.proofs.lemmas.Option.{slice_get_within, some_pair_parts}
 use Rattle.std.proofs.lemmas.List.{append-nil, length-append, length-map, map-append}
 use Rattle.std.proofs.Math.Nat.{suc-mul, one-mul}
+use Rattle.std.proofs.lemmas.Bool.{and_parts}
 use Rattle.chor_base.specs.declared.event.Event.{Event}
 use Rattle.chor_base.specs.declared.event.Entry.{Entry}
 use Rattle.chor_base.specs.declared.event.Why.{Why}
@@ -20,7 +21,6 @@ use Rattle.net_core.specs.Heads.{steps_at, steps_of, why_at, why_of, ended_at, e
 use Rattle.net_core.specs.Views.{NetworkView}
 use Rattle.net_core.specs.Steps.{FitsMore, HasGrown, most_served}
 use Rattle.net_core.specs.Picks.{Underway, GoesOn, stays, goes, entries_of, HasRun, HasGone, Runs, HasTurned, HasClosed, Turns, IsStuck}
-use Rattle.session_starts.proofs.Places.{both_true}
 use Rattle.net_core.proofs.Leaders.{some_there}
 use Rattle.net_core.proofs.Numbers.{grown_by_none, grown_by_more, grown_by_same, grown_by_both}
 
@@ -111,7 +111,7 @@ picked_steps e n seed events p h =
     let i = picked_item (listed e None n) (seed + events) p h in
     let f = listed_item e n 0 n.machines i.0 p i.1 in
     let same : f.place ≡ p = let number : p ≡ 0 + f.place = f.number in omega arith in
-    let steps : can_step e None n f.item.machine ≡ true = (both_true (can_step e None n f.item.machine) (listed_at e (place_of e f.item.machine)) f.listed).0 in (
+    let steps : can_step e None n f.item.machine ≡ true = (and_parts (can_step e None n f.item.machine) (listed_at e (place_of e f.item.machine)) f.listed).0 in (
       subst (λ (k : ℕ). k < length n.machines) same (slice_get_within n.machines f.place f.item.machine f.item.there),
       subst (λ (k : ℕ). steps_at e n k ≡ true) same (ap (steps_of e n) f.item.there ∙ steps),
     )

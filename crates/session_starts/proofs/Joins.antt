@@ -4,6 +4,7 @@ use Rattle.std.specs.Prelude.{slice_get, slice_set, map, All, ◌≢◌}
 use Rattle.std.proofs.lemmas.List.{drop_more, drop_all, map-set, length-map}
 use Rattle.std.proofs.lemmas.Option.{slice_get_within}
 use Rattle.std.proofs.lemmas.List.Elements.{All-set, All-head, All-tail, All-more, All-weaker}
+use Rattle.std.proofs.lemmas.Bool.{and_parts}
 use Rattle.chor_base.specs.declared.names.NameId.{NameId}
 use Rattle.endpoint_code.specs.declared.code.CodeNode.{CodeNode}
 use Rattle.endpoint_code.specs.declared.code.CodeNode.TheVariants.{Join, Send, Recv, Pick, Branch, Throw, Catch, Set, Show, Host, If, Call, End}
@@ -19,7 +20,7 @@ use Rattle.endpoint_machine.specs.Steps.{HasJoined}
 use Rattle.endpoint_machine.specs.Views.{MachineView}
 use Rattle.session_starts.specs.Starts.{AllJoin, AreApart, one_part, reserved_of, reserved_in, machines_alone, Joined, JoinsOne}
 use Rattle.endpoint_machine.proofs.Actings.{all_at}
-use Rattle.session_starts.proofs.Places.{both_true, name_same}
+use Rattle.session_starts.proofs.Places.{name_same}
 
 pub room_within : (e : Endpoints) (ms : List MachineView) (p : ℕ) → reserved_in e ms p ≡ true → p < length ms
 room_within e [] p h = absurd cc
@@ -57,7 +58,7 @@ joining_place (Some q) c r h = go q.node h
   where
     go : (node : CodeNode) → joins_there (Some (record { node = node; sessions = q.sessions })) c r ≡ true → place_head (Some (record { node = node; sessions = q.sessions })) ≡ Some (head.Join c r)
     go (Join d o k next) h =
-        let parts = both_true (d.0 == c.0) (o.0 == r.0) h in
+        let parts = and_parts (d.0 == c.0) (o.0 == r.0) h in
         ap (λ (x : NameId). Some (head.Join x o)) (name_same d c parts.0) ∙ ap (λ (x : NameId). Some (head.Join c x)) (name_same o r parts.1)
     go (Send k b x next) h = absurd cc
     go (Recv k a x next) h = absurd cc

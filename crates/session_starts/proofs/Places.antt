@@ -1,6 +1,7 @@
 -- Names, and the room of a process.
-use Rattle.std.proofs.Common.{◌≡◌, ℕ, ◌==◌, ◌&&◌, Bool, true, false, refl, ap, ◌∙◌, arith}
+use Rattle.std.proofs.Common.{◌≡◌, ℕ, ◌==◌, ◌&&◌, Bool, true, ap, ◌∙◌, arith}
 use Rattle.std.specs.Prelude.{nat_lt}
+use Rattle.std.proofs.lemmas.Bool.{eqb-true, and_parts}
 use Rattle.std.proofs.lemmas.Bool.Decides.{nat_tests}
 use Rattle.chor_base.specs.declared.names.NameId.{NameId}
 use Rattle.endpoint_code.specs.declared.endpoints.Endpoints.{Endpoints}
@@ -9,17 +10,13 @@ use Rattle.endpoint_machine.specs.Views.{MachineView, IsReserved, passes}
 use Rattle.session_starts.specs.Machines.{is_reserved}
 
 pub name_same : (a b : NameId) → (a.0 == b.0) ≡ true → a ≡ b
-name_same a b h = let e : a.0 ≡ b.0 = grind (arith, nat_tests) in ap (λ (n : ℕ). let r : NameId = record { 0 = n } in r) e
-
-pub both_true : (a b : Bool) → (a && b) ≡ true → (a ≡ true) × (b ≡ true)
-both_true true b h = (refl, h)
-both_true false b h = absurd cc
+name_same a b h = ap (λ (n : ℕ). let r : NameId = record { 0 = n } in r) (eqb-true a.0 b.0 h)
 
 -- the parts of a process's room
 pub reserved_is : (e : Endpoints) (m : MachineView) → is_reserved e m ≡ true → IsReserved e m
 reserved_is e m h =
-    let parts = both_true (nat_lt 0 m.room.variables) (nat_lt 0 m.room.sessions && nat_lt (passes (node_at e m.machine.at)) m.room.beyond) h in
-    let others = both_true (nat_lt 0 m.room.sessions) (nat_lt (passes (node_at e m.machine.at)) m.room.beyond) parts.1 in
+    let parts = and_parts (nat_lt 0 m.room.variables) (nat_lt 0 m.room.sessions && nat_lt (passes (node_at e m.machine.at)) m.room.beyond) h in
+    let others = and_parts (nat_lt 0 m.room.sessions) (nat_lt (passes (node_at e m.machine.at)) m.room.beyond) parts.1 in
     let a : nat_lt 0 m.room.variables ≡ true = parts.0 in
     let b : nat_lt 0 m.room.sessions ≡ true = others.0 in
     let c : nat_lt (passes (node_at e m.machine.at)) m.room.beyond ≡ true = others.1 in

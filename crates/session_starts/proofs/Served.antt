@@ -2,6 +2,7 @@
 use Rattle.std.proofs.Common.{◌≡◌, ℕ, ◌==◌, ◌&&◌, ◌||◌, Bool, true, false, cond, List, [], ◌∷◌, refl, sym, ap, ◌∙◌, subst, Some, arith}
 use Rattle.std.specs.Prelude.{All}
 use Rattle.std.specs.FinMap as fin
+use Rattle.std.proofs.lemmas.Bool.{and_parts}
 use Rattle.std.proofs.lemmas.Bool.Decides.{nat_tests}
 use Rattle.std.proofs.lemmas.List.Elements.{All-head, All-tail, All-cons, All-nil}
 use Rattle.chor_base.specs.declared.names.NameId.{NameId}
@@ -13,7 +14,7 @@ use Rattle.endpoint_code.specs.Network.{service_of, served, channel_of}
 use Rattle.endpoint_code.specs.Faults.{IsFaultless, IsScoped, has_service}
 use Rattle.endpoint_machine.specs.Bound.{IsBound, AreBound}
 use Rattle.endpoint_machine.proofs.Scopes.{bound_put}
-use Rattle.session_starts.proofs.Places.{name_same, both_true}
+use Rattle.session_starts.proofs.Places.{name_same}
 
 eq_sym : (a b : ℕ) → (a == b) ≡ (b == a)
 eq_sym a b = grind (arith, nat_tests)
@@ -34,7 +35,7 @@ service_scoped e (s ∷ ss) c r all h = go (is_for s c r) refl (λ k. service_sc
 
     go : (b : Bool) → is_for s c r ≡ b → (has_service c r ss ≡ true → IsScoped e (service_of ss c r) (c ∷ [])) → IsScoped e (service_of (s ∷ ss) c r) (c ∷ [])
     go true t more =
-        let same : s.channel ≡ c = name_same s.channel c (both_true (s.channel.0 == c.0) (s.role.0 == r.0) t).0 in
+        let same : s.channel ≡ c = name_same s.channel c (and_parts (s.channel.0 == c.0) (s.role.0 == r.0) t).0 in
         subst (λ (i : CodeId). IsScoped e i (c ∷ [])) (sym (ap (λ (b : Bool). cond b s.body (service_of ss c r)) t))
         (subst (λ (x : NameId). IsScoped e s.body (x ∷ [])) same (All-head (λ (x : ServiceCode). IsScoped e x.body (x.channel ∷ [])) s ss all))
     go false t more =
