@@ -1,6 +1,7 @@
 -- A procedure that has the asked name and parameter is the one that is found, wherever it stands.
-use Rattle.std.proofs.Common.{◌≡◌, ℕ, zero, suc, ◌&&◌, ◌||◌, ◌==◌, Bool, true, false, if◌then◌else◌, List, [], ◌∷◌, Some, None, refl, sym, subst, arith}
+use Rattle.std.proofs.Common.{◌≡◌, ℕ, zero, suc, ◌&&◌, ◌==◌, Bool, true, false, if◌then◌else◌, List, [], ◌∷◌, Some, None, refl, sym, subst, arith}
 use Rattle.std.specs.Prelude.{slice_get}
+use Rattle.std.proofs.lemmas.Bool.{and_from, or_parts}
 use Rattle.std.proofs.lemmas.Bool.Decides.{nat_tests}
 use Rattle.chor_base.specs.declared.names.NameId.{NameId}
 use Rattle.endpoint_code.specs.declared.endpoints.Procedure.{Procedure}
@@ -11,16 +12,8 @@ use Rattle.endpoint_code.specs.Network.{procedure_of}
 -- no procedure of these has a name and a parameter that none of them has
 others : (xs : List Procedure) (i : ℕ) (q : Procedure) (f p : NameId) → unit_among f p xs ≡ false → slice_get xs i ≡ Some q → ((f.0 == q.name.0) && (p.0 == q.param.0)) ≡ false
 others [] i q f p o h = absurd cc
-others (x ∷ xs) zero q f p o h = let same : x ≡ q = cc in subst (λ (z : Procedure). ((f.0 == z.name.0) && (p.0 == z.param.0)) ≡ false) same (left _ _ o)
-  where
-    left : (a b : Bool) → (a || b) ≡ false → a ≡ false
-    left true b e = e
-    left false b e = refl
-others (x ∷ xs) (suc i) q f p o h = others xs i q f p (right _ _ o) h
-  where
-    right : (a b : Bool) → (a || b) ≡ false → b ≡ false
-    right true b e = absurd cc
-    right false b e = e
+others (x ∷ xs) zero q f p o h = let same : x ≡ q = cc in subst (λ (z : Procedure). ((f.0 == z.name.0) && (p.0 == z.param.0)) ≡ false) same (or_parts _ _ o).0
+others (x ∷ xs) (suc i) q f p o h = others xs i q f p (or_parts _ _ o).1 h
 
 clash : (a b c d e g : ℕ) → (a == b) && (c == d) ≡ true → (e == b) ≡ true → (g == d) ≡ true → (a == e) && (c == g) ≡ true
 clash a b c d e g h i j = grind (arith, nat_tests)
@@ -30,13 +23,8 @@ found_apart [] i q f p a h n m = absurd cc
 found_apart (x ∷ xs) zero q f p a h n m =
     let same : x ≡ q = cc in
     subst (λ (z : Procedure). Some z ≡ (if (x.name.0 == f.0) && (x.param.0 == p.0) then Some x else procedure_of xs f p)) same
-    (go ((x.name.0 == f.0) && (x.param.0 == p.0)) (subst (λ (z : Procedure). ((z.name.0 == f.0) && (z.param.0 == p.0)) ≡ true) (sym same) (both _ _ n m)))
+    (go ((x.name.0 == f.0) && (x.param.0 == p.0)) (subst (λ (z : Procedure). ((z.name.0 == f.0) && (z.param.0 == p.0)) ≡ true) (sym same) (and_from _ _ n m)))
   where
-    both : (a b : Bool) → a ≡ true → b ≡ true → (a && b) ≡ true
-    both true true e g = refl
-    both true false e g = g
-    both false b e g = e
-
     go : (b : Bool) → b ≡ true → Some x ≡ (if b then Some x else procedure_of xs f p)
     go true e = refl
     go false e = absurd cc

@@ -4,6 +4,7 @@ use Rattle.std.specs.Prelude.{All}
 use Rattle.std.specs.FinMap as fin
 use Rattle.std.specs.Ordering.{nat_cmp, eq_by_cmp}
 use Rattle.std.proofs.lemmas.Cmp.{nat_cmp_total}
+use Rattle.std.proofs.lemmas.Bool.{and_parts, and_from}
 use Rattle.std.proofs.lemmas.Bool.Decides.{nat_tests}
 use Rattle.std.proofs.lemmas.Option.{slice_get_within}
 use Rattle.std.proofs.lemmas.List.Elements.{All-head, All-tail}
@@ -117,16 +118,11 @@ one_passed : (o : Option (ℕ × NameId)) (k : NameId) (rest : Sessions) (ks : L
 one_passed None k rest ks some bound = absurd cc
 one_passed (Some b) k rest ks some bound = bound_put rest ks k b bound
 
-both_parts : (a b : Bool) → (a && b) ≡ true → (a ≡ true) × (b ≡ true)
-both_parts true true h = (refl, refl)
-both_parts true false h = absurd cc
-both_parts false b h = absurd cc
-
 pub bound_passed : (m : Sessions) (bs ks ss : List NameId) → AreBound m bs → length ss ≡ length ks → all_among ss bs ≡ true → AreBound (passed ks ss m) ks
 bound_passed m bs [] ss bound same all = λ q h. absurd cc
 bound_passed m bs (k ∷ ks) [] bound same all = absurd (omega arith)
 bound_passed m bs (k ∷ ks) (s ∷ ss) bound same all =
-    let parts = both_parts (is_among s bs) (all_among ss bs) all in
+    let parts = and_parts (is_among s bs) (all_among ss bs) all in
     one_passed (fin.get m s.0) k (passed ks ss m) ks (bound s parts.0) (bound_passed m bs ks ss bound (omega arith) parts.1)
 
 -- ---- where a process stands
@@ -211,16 +207,12 @@ body_within e f p q faultless named = within_code e q.body q.sessions (procedure
 pub knows : (e : Endpoints) (id : CodeId) (vars : Variables) (m : Sessions) (node : CodeNode) → IsBound e (record { at = id; vars = vars; sessions = m }) → node_at e id ≡ Some node → knows_sessions m node ≡ true
 knows e id vars m node bound found = go node (scoped_node bound.scoped node found)
   where
-    both : (a b : Bool) → a ≡ true → b ≡ true → (a && b) ≡ true
-    both true b h i = i
-    both false b h i = absurd cc
-
     go : (n : CodeNode) → NodeScoped e n bound.names → knows_sessions m n ≡ true
     go (Send k b x next) s = bound.bound k s.0
     go (Recv k a x next) s = bound.bound k s.0
     go (Pick k b l next) s = bound.bound k s.0
     go (Branch k a arms) s = bound.bound k s.0
-    go (Throw k b h next) s = both _ _ (bound.bound k s.0) (bound.bound h s.1)
+    go (Throw k b h next) s = and_from _ _ (bound.bound k s.0) (bound.bound h s.1)
     go (Catch k a h next) s = bound.bound k s.0
     go (Join c r k next) s = refl
     go (Set x v next) s = refl
