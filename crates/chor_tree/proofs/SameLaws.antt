@@ -2,7 +2,7 @@
 use Rattle.std.proofs.Common.{◌≡◌, ℕ, Bool, true, false, List, [], ◌∷◌, ◌&&◌, ◌==◌, refl, ap, subst, Option, Some, None}
 use Rattle.std.specs.Prelude.{ℤ, pos, negsuc, bytes_eq, slice_get}
 use Rattle.std.specs.Cmp.Derive.{both_true}
-use Rattle.std.proofs.lemmas.Bool.{and_parts}
+use Rattle.std.proofs.lemmas.Bool.{and_parts, eqb-true}
 use Rattle.std.proofs.lemmas.Bool.Decides.{Decides-eqb}
 use Rattle.std.proofs.lemmas.Slice.Eq.{bytes_eq-Decides}
 use Rattle.chor_base.specs.declared.names.NameId.{NameId}
@@ -57,12 +57,9 @@ found_tells (Some x) (Some y) h = ap Some (same_bytes x y h)
 found_tells None None h = refl
 found_tells _ _ h = absurd cc
 
-number_tells : (x y : ℕ) → (x == y) ≡ true → x ≡ y
-number_tells x y h = (Decides-eqb x y).0 h
-
 pub int_tells : (y z : ℤ) → int_same y z ≡ true → y ≡ z
-int_tells (pos a) (pos b) h = ap pos (number_tells a b h)
-int_tells (negsuc a) (negsuc b) h = ap negsuc (number_tells a b h)
+int_tells (pos a) (pos b) h = ap pos (eqb-true a b h)
+int_tells (negsuc a) (negsuc b) h = ap negsuc (eqb-true a b h)
 int_tells _ _ h = absurd cc
 
 pub bool_tells : (a b : Bool) → bool_same a b ≡ true → a ≡ b
@@ -324,7 +321,7 @@ module _ {n m : Same NameId} {t u : Same ℕ} (name_turned : Turned n m) (text_t
   value_turned (Text x) (Text x') h = text_turned x x' h
   value_turned (Endpoint s r) (Endpoint s' r') h =
       let a = two h in
-      all_two (equal_turned number_own number_tells s s' a.0) (name_turned r r' a.1)
+      all_two (equal_turned number_own eqb-true s s' a.0) (name_turned r r' a.1)
   value_turned _ _ h = absurd cc
 
   term_turned : Turned (same_term n t) (same_term m u)
@@ -489,7 +486,7 @@ module _ {n m l : Same NameId} {t u w : Same ℕ} (name_joined : Joined n m l) (
   value_joined (Endpoint s r) (Endpoint s' r') (Endpoint s'' r'') h j =
       let a = two h in
       let b = two j in
-      all_two (equal_joined number_own number_tells s s' s'' a.0 b.0) (name_joined r r' r'' a.1 b.1)
+      all_two (equal_joined number_own eqb-true s s' s'' a.0 b.0) (name_joined r r' r'' a.1 b.1)
   value_joined _ _ _ h j = absurd cc
 
   term_joined : Joined (same_term n t) (same_term m u) (same_term l w)
