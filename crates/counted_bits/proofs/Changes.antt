@@ -1,12 +1,14 @@
 -- A bit is set, cleared or added under its counts.
-use Rattle.std.proofs.Common.{◌≡◌, ℕ, ◌+◌, ◌-◌, ◌*◌, ◌/◌, ◌^◌, ◌<◌, ◌≤◌, Bool, true, false, List, [], ◌∷◌, ◌++◌, length, get_or, set, Some, refl, sym, ap, ◌∙◌, subst, arith, length-append}
+use Rattle.std.proofs.Common.{◌≡◌, ℕ, ◌+◌, ◌-◌, ◌*◌, ◌/◌, ◌^◌, ◌<◌, ◌≤◌, Bool, true, false, List, [], ◌∷◌, ◌++◌, length, get_or, ltb, set, Some, refl, sym, ap, ◌∙◌, subst, arith, length-append}
 use Rattle.std.specs.Prelude.{slice_get}
 use Rattle.std.specs.List.{sum_by}
 use Rattle.std.proofs.Math.ListN.{length-set}
+use Rattle.std.proofs.lemmas.Bool.{ltb-true, ltb-false}
 use Rattle.std.proofs.lemmas.List.{set-get_or}
 use Rattle.std.proofs.lemmas.List.Sums.{sum_by-set, sum_by_push, count_by-le-length}
 use Rattle.std.proofs.lemmas.Option.{slice_get_within, get_or_from_slice_get}
-use Rattle.counted_bits.specs.Counts.{one, itself, AreCounted, IsGrown}
+use Rattle.counted_bits.specs.Counts.{one, itself, before, AreCounted, IsGrown}
+use Rattle.counted_bits.proofs.Amounts.{before_whole, set_after, set_before}
 use Rattle.counted_bits.proofs.Sums.{has_count, count_least, count_most, same_whole, sums_set, sums_more, sums_grown, items_grown, sums_none}
 
 -- an item that is put where it stands changes nothing
@@ -36,6 +38,11 @@ module _ {bits : List Bool} {total : ℕ} {blocks groups tops : List ℕ} (are :
     changed_whole other =
         ap (λ b. sum_by one (set bits place other) + one b) (sym (get_or_from_slice_get bits place bit false at))
         ∙ sum_by-set one bits place other false (slice_get_within bits place bit at)
+
+    changed_before : (other : Bool) (block : ℕ) → place / 16 < block → before one (16 * block) (set bits place other) + one bit ≡ before one (16 * block) bits + one other
+    changed_before other block h =
+        ap (λ b. before one (16 * block) (set bits place other) + one b) (sym (get_or_from_slice_get bits place bit false at))
+        ∙ set_before one bits place (16 * block) other false (slice_get_within bits place bit at) (omega (arith, h))
 
     changed : (other : Bool) (new block group top : ℕ) → new + one bit ≡ total + one other
         → block + one bit ≡ get_or blocks (place / 16) 0 + one other
@@ -70,6 +77,17 @@ module _ {bits : List Bool} {total : ℕ} {blocks groups tops : List ℕ} (are :
         (set tops (place / 16 / 16 / 16) (get_or tops (place / 16 / 16 / 16) 0 + 1))
     raised = changed false clear true (total + 1) (get_or blocks (place / 16) 0 + 1) (get_or groups (place / 16 / 16) 0 + 1) (get_or tops (place / 16 / 16 / 16) 0 + 1) (omega arith) (omega arith) (omega arith) (omega arith)
 
+    -- how many set bits stand before a block
+    pub raised_before : (block start : ℕ) → start ≡ before one (16 * block) bits → start + one (ltb (place / 16) block) ≡ before one (16 * block) (set bits place true)
+    raised_before block start e = go (ltb (place / 16) block) refl
+      where
+        go : (b : Bool) → ltb (place / 16) block ≡ b → start + one b ≡ before one (16 * block) (set bits place true)
+        go true h = omega (arith, e, changed_before false clear true block (ltb-true (place / 16) block h))
+        go false h = omega (arith, e, set_after one bits place (16 * block) true (omega (arith, ltb-false (place / 16) block h)))
+
+    pub start_room : (block start : ℕ) → start ≡ before one (16 * block) bits → start + one (ltb (place / 16) block) < 2 ^ 32
+    start_room block start e = omega (arith, raised_before block start e, before_whole one (set bits place true) (16 * block), raised.all, total_room)
+
   -- ---- clearing
 
   module _ (held : slice_get bits place ≡ Some true) where
@@ -92,6 +110,14 @@ module _ {bits : List Bool} {total : ℕ} {blocks groups tops : List ℕ} (are :
     lowered =
         changed true held false (total - 1) (get_or blocks (place / 16) 0 - 1) (get_or groups (place / 16 / 16) 0 - 1) (get_or tops (place / 16 / 16 / 16) 0 - 1)
         (omega (arith, total_some)) (omega (arith, block_some)) (omega (arith, group_some, block_some)) (omega (arith, top_some, group_some))
+
+    -- how many set bits stand before a block
+    pub lowered_before : (block start : ℕ) → start ≡ before one (16 * block) bits → start ≡ before one (16 * block) (set bits place false) + one (ltb (place / 16) block)
+    lowered_before block start e = go (ltb (place / 16) block) refl
+      where
+        go : (b : Bool) → ltb (place / 16) block ≡ b → start ≡ before one (16 * block) (set bits place false) + one b
+        go true h = omega (arith, e, changed_before true held false block (ltb-true (place / 16) block h))
+        go false h = omega (arith, e, set_after one bits place (16 * block) false (omega (arith, ltb-false (place / 16) block h)))
 
 -- ---- adding
 

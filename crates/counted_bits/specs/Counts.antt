@@ -35,3 +35,13 @@ pub record AreCounted (bits : List Bool) (total : ℕ) (blocks groups tops : Lis
   pub in_blocks : AreSums one bits blocks
   pub in_groups : AreSums itself blocks groups
   pub in_tops : AreSums itself groups tops
+
+-- and so many set bits stand before the block that is kept
+pub record IsKept (bits : List Bool) (total : ℕ) (blocks groups tops : List ℕ) (block start : ℕ) : Type 0 where
+  pub counted : AreCounted bits total blocks groups tops
+  pub starts : start ≡ before one (16 * block) bits
+
+-- an amount of set bits is reached in a block: those before the block come to less by the rest, and with it to more
+pub record IsInBlock (bits : List Bool) (number block rest : ℕ) : Type 0 where
+  pub starts : before one (16 * block) bits + rest ≡ number
+  pub ends : number < before one (16 * suc block) bits

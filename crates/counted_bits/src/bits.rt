@@ -1,16 +1,20 @@
 //! Bits with counts above them.
 
 ghost use Rattle.std.specs.Prelude.{◌≡◌, ◌<◌, ◌+◌, ◌++◌, ◌∷◌, [], ◌^◌, true, false, length, slice_get, slice_set, Some, OnOk, OnErr};
+ghost use Rattle.std.specs.List.{sum_by};
+ghost use Rattle.counted_bits.specs.Counts.{one, IsInBlock};
 ghost use Rattle.counted_bits.specs.Places.{places};
 
-use crate::counts::{find, find_bit, lower, make_room, raise};
+use crate::counts::{Reached, find, find_bit, lower, make_room, one, raise, rest_at};
 use chor_base::Memory;
 use std::alloc::Global;
 use std::marker::Model;
 
 /// Bits in order, fewer than 2^32 of them. Contracts see the list of the bits. A push takes constant
-/// time but for the growing of vectors, `set` constant time, and `nth` looks at 16 counts of each
-/// level at most, and at one for each 4,096 bits.
+/// time but for the growing of vectors, and `set` constant time. The block of 16 bits where `nth`
+/// found the last bit is kept, so that `nth` mostly looks at these 16 bits alone where it is asked
+/// for one number after the other. Elsewhere it looks at 16 counts of each level at most, and at one
+/// for each 4,096 bits.
 #[derive(Drop)]
 pub struct CountedBits {
     bits: Vec<bool>,
@@ -19,6 +23,9 @@ pub struct CountedBits {
     blocks: Vec<u32>,
     groups: Vec<u32>,
     tops: Vec<u32>,
+    // The block where the last bit was found, and how many set bits stand before it.
+    block: usize,
+    start: u32,
 }
 
 impl Model for CountedBits {
@@ -26,11 +33,11 @@ impl Model for CountedBits {
 
     ghost Value = { List Bool };
 
-    ghost use Rattle.counted_bits.specs.Counts.{AreCounted};
+    ghost use Rattle.counted_bits.specs.Counts.{IsKept};
 
     ghost view = { λ a. a.bits.items };
 
-    ghost invariant = { λ a. AreCounted a.bits.items a.total a.blocks.items a.groups.items a.tops.items };
+    ghost invariant = { λ a. IsKept a.bits.items a.total a.blocks.items a.groups.items a.tops.items a.block a.start };
 }
 
 impl CountedBits {
@@ -44,6 +51,8 @@ impl CountedBits {
             blocks: Vec::new(alloc),
             groups: Vec::new(alloc),
             tops: Vec::new(alloc),
+            block: 0,
+            start: 0,
         }
     }
 
@@ -101,18 +110,44 @@ impl CountedBits {
         self.total
     }
 
-    /// The place of the set bit that so many set bits stand before, if there is one.
-    pub fn nth(&self, number: u32) -> Option<u32>
-        ensures { result ≡ slice_get (places 0 self.now) number }
+    /// The place of the set bit that so many set bits stand before, if there is one. It is found by a
+    /// look at 16 bits where it is in the block of the last one, and the block is kept for the next.
+    pub fn nth(&mut self, number: u32) -> Option<u32>
+        ensures stays { self.new ≡ self.old }
+        ensures place { result ≡ slice_get (places 0 self.old) number }
     {
         if number >= self.total {
             return None;
         }
-        let top = find(&self.tops, 0, number);
-        let group = find(&self.groups, 16 * top.place, top.rest);
-        let block = find(&self.blocks, 16 * group.place, group.rest);
+        let block = self.find_block(number);
+        self.block = block.place;
+        self.start = number - block.rest;
         let bit = find_bit(&self.bits, 16 * block.place, block.rest);
         Some(bit.place as u32)
+    }
+
+    // The block of the set bit that so many set bits stand before, and how many of those are in it.
+    fn find_block(&self, number: u32) -> Reached
+        requires { number < sum_by one self.now }
+        ensures { IsInBlock self.now number result.place result.rest }
+    {
+        match rest_at(&self.blocks, self.block, self.start, number) {
+            Some(rest) => Reached {
+                place: self.block,
+                rest,
+            },
+            None => self.search_block(number),
+        }
+    }
+
+    // The same, without the block that is kept.
+    fn search_block(&self, number: u32) -> Reached
+        requires { number < sum_by one self.now }
+        ensures { IsInBlock self.now number result.place result.rest }
+    {
+        let top = find(&self.tops, 0, number);
+        let group = find(&self.groups, 16 * top.place, top.rest);
+        find(&self.blocks, 16 * group.place, group.rest)
     }
 
     // Adds a bit that isn't set.
@@ -137,6 +172,7 @@ impl CountedBits {
         let group = block / 16;
         self.bits[place] = true;
         self.total += 1;
+        self.start += one(block < self.block);
         raise(&mut self.blocks, block);
         raise(&mut self.groups, group);
         raise(&mut self.tops, group / 16);
@@ -151,6 +187,7 @@ impl CountedBits {
         let group = block / 16;
         self.bits[place] = false;
         self.total -= 1;
+        self.start -= one(block < self.block);
         lower(&mut self.blocks, block);
         lower(&mut self.groups, group);
         lower(&mut self.tops, group / 16);

@@ -1,6 +1,6 @@
 //! One level of counts, each of which is what 16 items of the level below come to.
 
-ghost use Rattle.std.specs.Prelude.{◌≡◌, ◌+◌, ◌-◌, ◌*◌, ◌<◌, ◌≤◌, ◌^◌, length, slice_index, slice_set, OnOk};
+ghost use Rattle.std.specs.Prelude.{◌≡◌, ◌+◌, ◌-◌, ◌*◌, ◌<◌, ◌≤◌, ◌^◌, length, slice_index, slice_set, OnOk, IfSome};
 ghost use Rattle.std.specs.List.{sum_by};
 ghost use Rattle.counted_bits.specs.Counts.{one, itself, before, IsReached, IsGrown};
 
@@ -76,4 +76,17 @@ pub fn find_bit(bits: &[bool], start: usize, rest: u32) -> Reached
         place += 1;
     }
     Reached { place, rest }
+}
+
+// What of an amount the items before a place leave, if it is reached at that place, where those items
+// come to `start`.
+pub fn rest_at(counts: &[u32], place: usize, start: u32, amount: u32) -> Option<u32>
+    requires { start ≡ before itself place counts.now }
+    ensures { IfSome result (IsReached itself counts.now amount place) }
+{
+    let count = *counts.get(place)?;
+    if amount < start || amount - start >= count {
+        return None;
+    }
+    Some(amount - start)
 }

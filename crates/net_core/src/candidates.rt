@@ -67,10 +67,11 @@ impl Candidates {
     }
 
     /// The process that the pick rule takes after so many events.
-    pub fn pick(&self, seed: u64, events: u64) -> Option<u32>
+    pub fn pick(&mut self, seed: u64, events: u64) -> Option<u32>
         requires small { seed < 2 ^ 33 }
         requires few { events < 2 ^ 63 }
-        ensures { (e : AnyEndpoints) (n : NetworkState) → IsUpToDate e n self.now → result ≡ picked e None seed events n }
+        ensures stays { self.new ≡ self.old }
+        ensures picks { (e : AnyEndpoints) (n : NetworkState) → IsUpToDate e n self.old → result ≡ picked e None seed events n }
     {
         let count = u64::from(self.listed.count());
         if count == 0 {
