@@ -7,7 +7,7 @@ ghost use Rattle.global_types.specs.Faults.{unknown_state, unknown_state_in, pay
 ghost use Rattle.chor_base.specs.Faults.{first_of_all, IsDenial};
 ghost use Rattle.global_types.specs.Moves.{state_named};
 
-use crate::states::{has_state, is_used};
+use crate::states::{is_used, place_near};
 use chor_base::{Denied, Fault, NameId, Rule, earlier, fault_if};
 use chor_tree::{File, Named, Payload, Proc, ProtoArm, ProtoStep, Protocol, SessionParam, State};
 
@@ -119,8 +119,11 @@ fn first_in_arms(states: &[State], arms: &[ProtoArm]) -> Option<Fault>
     ensures { result ≡ first_of_all (flat_map (λ arm. unknown_state states.now arm.next) arms.now) }
 {
     let mut first = None;
+    let mut near = 0;
     for arm in arms {
-        first = earlier(first, unknown_state(states, &arm.next));
+        let (fault, after) = unknown_state_near(states, near, &arm.next);
+        first = earlier(first, fault);
+        near = after;
     }
     first
 }
@@ -166,11 +169,22 @@ fn own_receiver(from: &Named, to: &Named) -> Option<Fault>
     fault_if(from.name == to.name, Rule::G2, to.place)
 }
 
+// A name that none of the states has; it is looked for here first. Tells the place after the one where
+// it stands: the arms of a choice often lead to states that follow one another.
+fn unknown_state_near(states: &[State], near: usize, name: &Named) -> (Option<Fault>, usize)
+    ensures { result.0 ≡ first_of_all (unknown_state states.now name.now) }
+{
+    let place = place_near(states, near, name.name);
+    let fault = fault_if(place.is_none(), Rule::G1, name.place);
+    (fault, place.unwrap_or(0).wrapping_add(1))
+}
+
 // A name that none of the states has.
 fn unknown_state(states: &[State], name: &Named) -> Option<Fault>
     ensures { result ≡ first_of_all (unknown_state states.now name.now) }
 {
-    fault_if(!has_state(states, name.name), Rule::G1, name.place)
+    let (fault, _) = unknown_state_near(states, 0, name);
+    fault
 }
 
 // A name that none of the states of a protocol has, where the protocol is there.

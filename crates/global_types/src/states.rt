@@ -22,16 +22,26 @@ pub fn step_at(protocol: &Protocol, state: NameId) -> Option<u32>
     None
 }
 
-// Whether one of the states has this name.
-pub fn has_state(states: &[State], name: NameId) -> bool
-    ensures { result ≡ is_some (state_named states.now name) }
+// Where the first state of this name stands.
+fn first_place(states: &[State], name: NameId) -> Option<usize>
+    ensures { is_some result ≡ is_some (state_named states.now name) }
 {
-    for state in states {
-        if state.name.name == name {
-            return true;
+    for place in 0..states.len() {
+        if states[place].name.name == name {
+            return Some(place);
         }
     }
-    false
+    None
+}
+
+// Where a state of this name stands: here, or else the first.
+pub fn place_near(states: &[State], near: usize, name: NameId) -> Option<usize>
+    ensures { is_some result ≡ is_some (state_named states.now name) }
+{
+    match states.get(near) {
+        Some(state) if state.name.name == name => Some(near),
+        _ => first_place(states, name),
+    }
 }
 
 /// Whether a step names a role as its sender or its receiver.
