@@ -11,7 +11,8 @@ use Rattle.type_check.specs.Typed.{IsFine}
 use Rattle.faultless_projections.proofs.Files.{processes_differ}
 use Rattle.source_check.specs.Source.{IsFileOf, IsAccepted}
 use Rattle.source_check.specs.declared.rules.Rules.TheVariants.{All}
-use Rattle.canonical_laws.proofs.Tables.{are_words, distinct_names, distinct_texts}
+use Rattle.chor_lexer.proofs.DistinctTables.{distinct_names, distinct_texts}
+use Rattle.canonical_laws.proofs.Tables.{are_words}
 use Rattle.event_reader.specs.Known.{AreWords, ProcessesDiffer, IsBook}
 use Rattle.program_runs.specs.Books.{book_of}
 

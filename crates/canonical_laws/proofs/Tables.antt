@@ -2,45 +2,13 @@
 use Rattle.std.proofs.Common.{◌≡◌, ◌≤◌, ℕ, zero, suc, Bool, true, false, List, [], ◌∷◌, ◌++◌, length, cond, Some, refl, sym, subst}
 use Rattle.std.specs.Prelude.{slice_get, bytes_eq}
 use Rattle.std.specs.List.{AllByRecursion, list_any, fold}
-use Rattle.chor_base.specs.Words.{with_word, AllDistinct}
-use Rattle.chor_base.proofs.WordTables.{distinct_none, distinct_more}
+use Rattle.chor_base.specs.Words.{with_word}
 use Rattle.chor_lexer.specs.declared.token.Token.{Token}
 use Rattle.chor_lexer.specs.Lexeme.{Symbol, word, number, text, mark, last, Lexeme, IsLexeme}
-use Rattle.chor_lexer.specs.Tokens.{AreTokensOf, with_name, with_text}
+use Rattle.chor_lexer.specs.Tokens.{AreTokensOf, with_name}
 use Rattle.chor_lexer.proofs.Sources.{IsKnown, known_tokens, of_file}
 use Rattle.canonical_laws.proofs.Cutting.{AreWords}
 use Rattle.canonical_laws.proofs.Known.{Known}
-
--- ---- no word stands twice
-
-with_word_distinct : (ws : List (List ℕ)) (w : List ℕ) → AllDistinct ws → AllDistinct (with_word ws w)
-with_word_distinct ws w d = go (list_any (bytes_eq w) ws) refl
-  where
-    go : (b : Bool) → list_any (bytes_eq w) ws ≡ b → AllDistinct (cond b ws (ws ++ w ∷ []))
-    go true e = d
-    go false e = distinct_more ws w d e
-
-with_name_distinct : (ws : List (List ℕ)) (s : Symbol) → AllDistinct ws → AllDistinct (with_name ws s)
-with_name_distinct ws (word w) d = with_word_distinct ws w d
-with_name_distinct ws (number n) d = d
-with_name_distinct ws (text t) d = d
-with_name_distinct ws (mark m) d = d
-with_name_distinct ws last d = d
-
-with_text_distinct : (ws : List (List ℕ)) (s : Symbol) → AllDistinct ws → AllDistinct (with_text ws s)
-with_text_distinct ws (text t) d = with_word_distinct ws t d
-with_text_distinct ws (number n) d = d
-with_text_distinct ws (word w) d = d
-with_text_distinct ws (mark m) d = d
-with_text_distinct ws last d = d
-
-names_distinct : (ls : List Lexeme) (ws : List (List ℕ)) → AllDistinct ws → AllDistinct (fold (λ table l. with_name table l.symbol) ws ls)
-names_distinct [] ws d = d
-names_distinct (l ∷ ls) ws d = names_distinct ls (with_name ws l.symbol) (with_name_distinct ws l.symbol d)
-
-texts_distinct : (ls : List Lexeme) (ws : List (List ℕ)) → AllDistinct ws → AllDistinct (fold (λ table l. with_text table l.symbol) ws ls)
-texts_distinct [] ws d = d
-texts_distinct (l ∷ ls) ws d = texts_distinct ls (with_text ws l.symbol) (with_text_distinct ws l.symbol d)
 
 -- ---- each name is a word
 
@@ -77,12 +45,6 @@ word_there (x ∷ ws) h (suc i) w e = word_there ws h.1 i w e
 -- ---- the tables of a file
 
 module _ {bytes : List ℕ} {names texts : List (List ℕ)} {ts : List Token} (h : AreTokensOf bytes [] [] names texts ts) where
-  pub distinct_names : AllDistinct names
-  distinct_names = subst AllDistinct (sym h.names_are) (names_distinct h.lexemes [] distinct_none)
-
-  pub distinct_texts : AllDistinct texts
-  distinct_texts = subst AllDistinct (sym h.texts_are) (texts_distinct h.lexemes [] distinct_none)
-
   pub are_words : AreWords names
   are_words i w e = word_there names (subst (AllByRecursion IsWord) (sym h.names_are) (names_words h.lexemes [] tt (known_tokens bytes h.lexemes h.tokens))) i w e
 

@@ -30,7 +30,8 @@ use Rattle.canonical_laws.proofs.Written.{name_cut, any_names_cut, protocol_cut,
 use Rattle.canonical_laws.proofs.Sources.{lines_of, source_text, procedure_text, main_text, source_units, canonical_is}
 use Rattle.canonical_laws.proofs.WrittenBlocks.{block_cut}
 use Rattle.canonical_laws.proofs.Known.{file_sound}
-use Rattle.canonical_laws.proofs.Tables.{distinct_names, distinct_texts, are_words, known}
+use Rattle.chor_lexer.proofs.DistinctTables.{distinct_names, distinct_texts}
+use Rattle.canonical_laws.proofs.Tables.{are_words, known}
 use Rattle.canonical_laws.proofs.Numbered.{source_there}
 
 -- ---- what a procedure and a file are made of

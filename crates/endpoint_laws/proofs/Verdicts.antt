@@ -32,7 +32,8 @@ use Rattle.endpoint_names.specs.Class.{begin_faults, IsBroken, IsFaultless}
 use Rattle.endpoint_check.specs.Programs.{lexemes_of, IsInputOf, AreProgramsOf, BreaksOff, grammar, names, ViolatesPrograms, unread, broken}
 use Rattle.endpoint_code.specs.declared.endpoints.Endpoints.{Endpoints}
 use Rattle.endpoint_laws.specs.Laws.{AreAlike}
-use Rattle.endpoint_laws.proofs.Words.{IsFine, distinct, fine_tokens}
+use Rattle.chor_lexer.proofs.DistinctTables.{distinct_names}
+use Rattle.endpoint_laws.proofs.Words.{IsFine, fine_tokens}
 use Rattle.endpoint_laws.proofs.Naming.{AreUnitsNamed, file_named}
 use Rattle.endpoint_laws.proofs.Readings.{same_names, same_beginnings}
 use Rattle.endpoint_laws.proofs.Rules.{one_denial, names_are, begins_are}
@@ -67,10 +68,10 @@ module _ (bytes : List ℕ) (i j : Input) (a : IsInputOf bytes i) (b : IsInputOf
 
   module _ (w v : Written) (x : IsWritten (lexemes_of i) (units_written i w)) (y : IsWritten (lexemes_of j) (units_written j v)) where
     same_name_faults : (hosts : List (List ℕ)) → name_faults (setting w i.names.now hosts) ≡ name_faults (setting v j.names.now hosts)
-    same_name_faults hosts = same_names i j w v same_tables same_texts (same_units x y) (distinct a) (named_so i a x) hosts
+    same_name_faults hosts = same_names i j w v same_tables same_texts (same_units x y) (distinct_names a) (named_so i a x) hosts
 
     same_openings : begin_faults w ≡ begin_faults v
-    same_openings = same_beginnings i j w v same_tables same_texts (same_units x y) (distinct a) (named_so i a x)
+    same_openings = same_beginnings i j w v same_tables same_texts (same_units x y) (distinct_names a) (named_so i a x)
 
 -- ---- never both
 

@@ -5,40 +5,15 @@ use Rattle.std.specs.List.{fold, list_any, AllByRecursion}
 use Rattle.std.proofs.lemmas.Slice.Eq.{bytes_eq-Decides}
 use Rattle.std.proofs.lemmas.Option.{slice_get_cases, get_or_from_slice_get}
 use Rattle.std.proofs.lemmas.List.{get_or_past}
-use Rattle.chor_base.specs.Words.{with_word, AllDistinct}
+use Rattle.chor_base.specs.Words.{AllDistinct}
 use Rattle.chor_base.specs.Writing.{name_in}
 use Rattle.chor_base.specs.declared.names.NameId.{NameId}
-use Rattle.chor_base.proofs.WordTables.{distinct_more, distinct_none}
 use Rattle.chor_lexer.specs.declared.token.Kind.{Kind}
 use Rattle.chor_lexer.specs.declared.token.Kind.TheVariants as kind
 use Rattle.chor_lexer.specs.declared.token.Token.{Token}
 use Rattle.chor_lexer.specs.Lexeme.{Symbol, word, number, text, mark, last, Lexeme, IsLexeme}
 use Rattle.chor_lexer.specs.Tokens.{Spells, AreSpelled, with_name, AreTokensOf}
 use Rattle.chor_lexer.proofs.Sources.{IsKnown, known_tokens}
-
--- ---- no word stands twice
-
-put_distinct : (ws : List (List ℕ)) (w : List ℕ) → AllDistinct ws → AllDistinct (with_word ws w)
-put_distinct ws w d = go (list_any (bytes_eq w) ws) refl
-  where
-    go : (b : Bool) → list_any (bytes_eq w) ws ≡ b → AllDistinct (if b then ws else ws ++ w ∷ [])
-    go true e = d
-    go false e = distinct_more ws w d e
-
-name_distinct : (ws : List (List ℕ)) (s : Symbol) → AllDistinct ws → AllDistinct (with_name ws s)
-name_distinct ws (word w) d = put_distinct ws w d
-name_distinct ws (number n) d = d
-name_distinct ws (text t) d = d
-name_distinct ws (mark m) d = d
-name_distinct ws last d = d
-
-names_distinct : (ls : List Lexeme) (ws : List (List ℕ)) → AllDistinct ws → AllDistinct (fold (λ table l. with_name table l.symbol) ws ls)
-names_distinct [] ws d = d
-names_distinct (l ∷ ls) ws d = names_distinct ls (with_name ws l.symbol) (name_distinct ws l.symbol d)
-
--- the names of a file
-pub distinct : {bytes : List ℕ} {names texts : List (List ℕ)} {ts : List Token} → AreTokensOf bytes [] [] names texts ts → AllDistinct names
-distinct a = subst AllDistinct (sym a.names_are) (names_distinct a.lexemes [] distinct_none)
 
 -- ---- the number of a word
 

@@ -4,7 +4,7 @@ use Rattle.std.specs.Prelude.{All}
 use Rattle.std.specs.List.{AllZip}
 use Rattle.std.proofs.lemmas.List.Elements.{All-head, All-tail}
 use Rattle.chor_base.specs.Words.{AllDistinct}
-use Rattle.canonical_laws.proofs.Tables.{distinct_names, distinct_texts}
+use Rattle.chor_lexer.proofs.DistinctTables.{distinct_names, distinct_texts}
 use Rattle.endpoint_grammar.specs.Written as unit
 use Rattle.endpoint_reader.specs.declared.input.Input.{Input}
 use Rattle.endpoint_reader.specs.declared.lines.LineId.{LineId}

@@ -23,7 +23,7 @@ use Rattle.endpoint_names.specs.Faults.{names_in}
 use Rattle.endpoint_making.specs.Codes.{code_id, code_of}
 use Rattle.endpoint_making.specs.Making.{channel_made, procedure_made, service_made, process_made, IsMadeOf}
 use Rattle.endpoint_laws.proofs.Bodies.{code_same}
-use Rattle.canonical_laws.proofs.Tables.{distinct_names, distinct_texts}
+use Rattle.chor_lexer.proofs.DistinctTables.{distinct_names, distinct_texts}
 use Rattle.same_programs.specs.Programs.{SameCodeAt, SameChannel, SameProcedure, SameService, SameProcess, SamePrograms, IsCopy}
 use Rattle.same_programs.specs.Codes.{SameCode}
 use Rattle.printed_tokens.specs.Symbols.{ordered_at}

@@ -54,7 +54,7 @@ use Rattle.endpoint_check.specs.Programs.{lexemes_of, IsInputOf, ViolatesProgram
 use Rattle.endpoint_reader.proofs.Spelled.{spelled}
 use Rattle.endpoint_text.specs.Text.{endpoints_text}
 use Rattle.chor_lexer.specs.Tokens.{IsTokens}
-use Rattle.canonical_laws.proofs.Tables.{distinct_names}
+use Rattle.chor_lexer.proofs.DistinctTables.{distinct_names}
 use Rattle.printed_tokens.proofs.Cutting.{is_taken}
 use Rattle.printed_units.specs.Laws.{AreWritable}
 use Rattle.printed_units.proofs.Units.{units_say_them, tokens_are_taken}

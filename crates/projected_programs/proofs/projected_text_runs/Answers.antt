@@ -1,5 +1,5 @@
 use Rattle.chor_host.specs.Functions.{names_of}
-use Rattle.canonical_laws.proofs.Tables.{distinct_names}
+use Rattle.chor_lexer.proofs.DistinctTables.{distinct_names}
 use Rattle.projected_programs.proofs.Checked.{are_faultless}
 use Rattle.projected_programs.proofs.Runs.{run_transcript}
 use Rattle.projected_programs.proofs.projected_text_runs.Goals as goal
