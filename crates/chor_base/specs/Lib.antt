@@ -1,5 +1,6 @@
 pub mod Words
 pub mod NameMap
+pub mod FirstPlaces
 pub mod Expr
 pub mod Meaning
 pub mod Events

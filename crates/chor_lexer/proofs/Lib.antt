@@ -21,4 +21,5 @@ pub mod Printed
 pub mod Utf8
 pub mod ReadBack
 pub mod Sources
+pub mod DistinctTables
 pub mod Total

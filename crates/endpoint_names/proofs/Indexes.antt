@@ -6,21 +6,19 @@ use Rattle.std.proofs.lemmas.List.{take_more, take_all, drop_all, map-append, le
 use Rattle.std.proofs.lemmas.Option.{slice_get-get_or, slice_get_past}
 use Rattle.std.proofs.lemmas.Bool.Decides.{nat_tests}
 use Rattle.chor_base.specs.declared.fault.Fault.{Fault}
+use Rattle.chor_base.specs.FirstPlaces.{one_later, or_else}
+use Rattle.chor_base.proofs.FirstPlaces.{or_none}
 use Rattle.chor_base.specs.Faults.{earlier, first_of_all}
 use Rattle.chor_base.proofs.Faults.{first_append, earlier_assoc, earlier_none}
 use Rattle.endpoint_names.specs.declared.key.Key.{Key}
 use Rattle.endpoint_names.specs.declared.key.Sign.{Sign}
 use Rattle.endpoint_names.specs.declared.places.Places.{Places}
 use Rattle.endpoint_names.specs.Keys.{same_key, is_known, keys_of, first_by}
-use Rattle.endpoint_names.specs.Places.{place_of, place_in, one_later, or_else, IsIndex}
+use Rattle.endpoint_names.specs.Places.{place_of, place_in, IsIndex}
 use Rattle.endpoint_names.specs.Faults.{fault_at, repeated}
 use Rattle.endpoint_names.proofs.Keys.{key_is, key_turned}
 
 -- ---- a key gets a place
-
-or_none : (o : Option ℕ) → or_else o None ≡ o
-or_none None = refl
-or_none (Some k) = refl
 
 pub put_place : (new old : Key → Option ℕ) (x : Key) (i : ℕ) → ((k : Key) → new k ≡ cond (same_key x k) (Some i) (old k)) → is_some (old x) ≡ false
     → (k : Key) → new k ≡ or_else (old k) (if same_key x k then Some i else None)

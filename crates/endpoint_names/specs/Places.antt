@@ -1,16 +1,13 @@
 -- Tables of the places at which keys stand first in a list.
-use Rattle.std.specs.Prelude.{ℕ, suc, ◌≡◌, List, [], ◌∷◌, Option, Some, None, if◌then◌else◌}
+use Rattle.std.specs.Prelude.{ℕ, ◌≡◌, List, [], ◌∷◌, Option, Some, None, if◌then◌else◌}
 use Rattle.std.specs.Map.{lookup}
+use Rattle.chor_base.specs.FirstPlaces.{one_later}
 use Rattle.endpoint_names.specs.declared.key.Key.{Key}
 use Rattle.endpoint_names.specs.declared.places.Places.{Places}
 use Rattle.endpoint_names.specs.Keys.{same_key}
 
 abbrev pub place_of : Places → Key → Option ℕ
 place_of p k = lookup (same_key k) p.entries.entries
-
-abbrev pub one_later : Option ℕ → Option ℕ
-one_later None = None
-one_later (Some k) = Some (suc k)
 
 -- the place at which a key stands first
 abbrev pub place_in : List Key → Key → Option ℕ
@@ -20,8 +17,3 @@ place_in (x ∷ xs) k = if same_key k x then Some 0 else one_later (place_in xs 
 -- each key of the list with the place at which it stands first, and no other key
 abbrev pub IsIndex : List Key → Places → Type 0
 IsIndex ks p = (k : Key) → place_of p k ≡ place_in ks k
-
--- the first of two places that is there
-abbrev pub or_else : Option ℕ → Option ℕ → Option ℕ
-or_else None o = o
-or_else (Some k) o = Some k

@@ -5,7 +5,8 @@ ghost use Rattle.chor_base.specs.Faults.{first_of_all};
 ghost use Rattle.endpoint_names.specs.declared.key.Key.{Key as AnyKey};
 ghost use Rattle.endpoint_names.specs.Keys.{same_key, keys_of};
 ghost use Rattle.endpoint_names.specs.Faults.{repeated};
-ghost use Rattle.endpoint_names.specs.Places.{place_of, IsIndex, or_else};
+ghost use Rattle.chor_base.specs.FirstPlaces.{or_else};
+ghost use Rattle.endpoint_names.specs.Places.{place_of, IsIndex};
 
 use crate::key::{HasSign, Key};
 use chor_base::{Fault, Memory, Rule, earlier, fault_if};

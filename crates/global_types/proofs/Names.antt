@@ -3,20 +3,8 @@ use Rattle.std.proofs.Common.{ℕ, zero, suc, ◌≡◌, ◌+◌, ◌<◌, ◌�
 use Rattle.std.specs.Prelude.{Option, Some, None, is_some, if◌then◌else◌}
 use Rattle.chor_base.specs.declared.names.NameId.{NameId}
 use Rattle.chor_tree.specs.declared.protocol.State.{State}
-use Rattle.global_types.specs.Moves.{one_later, state_named}
-
--- a place in what is left, after so many
-abbrev pub later : ℕ → Option ℕ → Option ℕ
-later i None = None
-later i (Some k) = Some (i + k)
-
-pub later_one : (i : ℕ) (o : Option ℕ) → later i (one_later o) ≡ later (i + 1) o
-later_one i None = refl
-later_one i (Some k) = ap (λ n. Some n) (omega arith)
-
-pub later_none : (o : Option ℕ) → later 0 o ≡ o
-later_none None = refl
-later_none (Some k) = ap (λ n. Some n) (omega arith)
+use Rattle.chor_base.specs.FirstPlaces.{one_later}
+use Rattle.global_types.specs.Moves.{state_named}
 
 -- a state that has the name is found, wherever it stands
 pub there : (ss : List State) (i : ℕ) (q : NameId) (s : State) → i < length ss → s ≡ get_or ss i s → (s.name.name.0 == q.0) ≡ true → is_some (state_named ss q) ≡ true

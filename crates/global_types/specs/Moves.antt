@@ -1,7 +1,8 @@
 -- Protocols: their states, and the exchanges by which one state leads to another. A protocol is seen as its list of
 -- states, and a state is known by its place in that list.
-use Rattle.std.specs.Prelude.{ℕ, suc, ◌≡◌, ◌==◌, ◌||◌, Bool, false, ◌⊎◌, List, [], ◌∷◌, map, Option, Some, None, slice_get, if◌then◌else◌}
+use Rattle.std.specs.Prelude.{ℕ, ◌≡◌, ◌==◌, ◌||◌, Bool, false, ◌⊎◌, List, [], ◌∷◌, map, Option, Some, None, slice_get, if◌then◌else◌}
 use Rattle.chor_base.specs.declared.names.NameId.{NameId}
+use Rattle.chor_base.specs.FirstPlaces.{one_later}
 use Rattle.chor_base.specs.declared.value.Sort.{Sort}
 use Rattle.chor_tree.specs.declared.protocol.Payload.{Payload}
 use Rattle.chor_tree.specs.declared.protocol.Payload.TheVariants.{Plain, Endpoint}
@@ -33,10 +34,6 @@ abbrev pub exchanges_of : ProtoStep → List (Exchange × NameId)
 exchanges_of End = []
 exchanges_of (Value a b c next) = (passes a.name b.name (content_of c), next.name) ∷ []
 exchanges_of (Choice a b arms) = map (λ arm. (chooses a.name b.name arm.label.name, arm.next.name)) arms
-
-abbrev pub one_later : Option ℕ → Option ℕ
-one_later None = None
-one_later (Some i) = Some (suc i)
 
 -- the place of the first state of that name
 abbrev pub state_named : List State → NameId → Option ℕ

@@ -8,7 +8,7 @@ use chor_base::NameId;
 use chor_tree::{ProtoStep, Protocol, State};
 
 /// The place of the first state of a name in its protocol, counted from 0.
-#[tactic(auto, using(crate::proofs::Names::later_one, crate::proofs::Names::later_none))]
+#[tactic(auto, using(chor_base::proofs::FirstPlaces::later_one, chor_base::proofs::FirstPlaces::later_none))]
 pub fn step_at(protocol: &Protocol, state: NameId) -> Option<u32>
     ensures { result ≡ state_named protocol.now.states state }
 {

@@ -8,7 +8,8 @@ use Rattle.chor_tree.specs.declared.protocol.ProtoArm.{ProtoArm}
 use Rattle.chor_tree.specs.declared.protocol.ProtoStep.{ProtoStep}
 use Rattle.chor_tree.specs.declared.protocol.ProtoStep.TheVariants.{End, Value, Choice}
 use Rattle.chor_tree.specs.declared.protocol.State.{State}
-use Rattle.global_types.specs.Moves.{IsIn, Exchange, passes, chooses, Leads, content_of, exchanges_of, state_named, one_later}
+use Rattle.chor_base.specs.FirstPlaces.{one_later}
+use Rattle.global_types.specs.Moves.{IsIn, Exchange, passes, chooses, Leads, content_of, exchanges_of, state_named}
 use Rattle.global_types.specs.Paths.{Action, action_in, actions_of, IsPath}
 use Rattle.local_types.specs.declared.act.Act.{Act}
 use Rattle.local_types.specs.declared.moves.Move.{Move}

@@ -3,7 +3,8 @@
 ghost use Rattle.std.specs.Prelude.{◌≡◌, ◌++◌, ◌<◌, ◌≤◌, ◌^◌, OnOk, IfOk, Some, None, length, if◌then◌else◌};
 ghost use Rattle.std.specs.List.{flat_map};
 ghost use Rattle.global_types.specs.Moves.{IsIn};
-ghost use Rattle.local_types.specs.Places.{place_in, with_place, ArePlaces};
+ghost use Rattle.chor_base.specs.FirstPlaces.{with_place};
+ghost use Rattle.local_types.specs.Places.{place_in, ArePlaces};
 ghost use Rattle.local_types.specs.Moves.{AreMoves, choice_act, value_act, move_to, arms_by, step_by, moves_by, moves_from};
 
 use crate::act::Act;

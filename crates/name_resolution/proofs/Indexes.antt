@@ -9,76 +9,19 @@ use Rattle.std.proofs.lemmas.Option.{slice_get-get_or, slice_get_past}
 use Rattle.std.proofs.lemmas.Bool.Decides.{nat_tests}
 use Rattle.chor_base.specs.declared.names.NameId.{NameId}
 use Rattle.chor_base.specs.NameMap.{FromNames}
+use Rattle.chor_base.specs.FirstPlaces.{one_later, or_else, with_place}
+use Rattle.chor_base.proofs.FirstPlaces.{later, or_none, none_yet, one_more}
 use Rattle.chor_tree.specs.declared.file.Named.{Named}
 use Rattle.chor_tree.specs.Names.{is_among, first_named}
-use Rattle.name_resolution.specs.Places.{names_of, one_later, place_in, IsIndex, with_place}
+use Rattle.name_resolution.specs.Places.{names_of, place_in, IsIndex}
 use Rattle.name_resolution.proofs.Repeats.{taken}
-
--- a place in what is left, after so many
-abbrev pub later : ℕ → Option ℕ → Option ℕ
-later i None = None
-later i (Some k) = Some (i + k)
-
-later_one : (i : ℕ) (o : Option ℕ) → later i (one_later o) ≡ later (i + 1) o
-later_one i None = refl
-later_one i (Some k) = ap (λ n. Some n) (omega arith)
-
-later_none : (o : Option ℕ) → later 0 o ≡ o
-later_none None = refl
-later_none (Some k) = ap (λ n. Some n) (omega arith)
-
--- the first of two places that is there
-abbrev pub or_else : Option ℕ → Option ℕ → Option ℕ
-or_else None o = o
-or_else (Some k) o = Some k
-
-or_none : (o : Option ℕ) → or_else o None ≡ o
-or_none None = refl
-or_none (Some k) = refl
 
 -- the table so far, with the places of the names that are left, is the whole table
 abbrev pub IsIndexSoFar : List NameId → ℕ → List NameId → FromNames ℕ → Type 0
 IsIndexSoFar all i rest places = (x : NameId) → or_else (fin.get places x.0) (later i (place_in rest x)) ≡ place_in all x
 
 pub begins : (all : List NameId) (places : FromNames ℕ) → places ≡ fin.empty → IsIndexSoFar all 0 all places
-begins all places e x = ap (λ o. or_else o (later 0 (place_in all x))) (ap (λ m. fin.get m x.0) e ∙ fin.get-empty nat_cmp x.0) ∙ later_none (place_in all x)
-
-same_number : (m n : ℕ) → (m == n) ≡ true → m ≡ n
-same_number m n h = grind (arith, nat_tests)
-
-ties : (x y : ℕ) → eq_by_cmp nat_cmp x y ≡ (y == x)
-ties x y = grind (arith, nat_tests)
-
-put : (places : FromNames ℕ) (y x : NameId) (i : ℕ) → fin.get (fin.insert places y.0 i) x.0 ≡ cond (y.0 == x.0) (Some i) (fin.get places x.0)
-put places y x i = fin.get-insert nat_cmp_total places y.0 i x.0 ∙ ap (λ b. cond b (Some i) (fin.get places x.0)) (ties x.0 y.0)
-
-same_place : (places : FromNames ℕ) (y x : NameId) → (y.0 == x.0) ≡ true → fin.get places x.0 ≡ fin.get places y.0
-same_place places y x h = ap (λ n. fin.get places n) (sym (same_number y.0 x.0 h))
-
-step : (places : FromNames ℕ) (y x : NameId) (i : ℕ) (o : Option ℕ)
-    → or_else (fin.get (with_place places y i) x.0) (later (i + 1) o) ≡ or_else (fin.get places x.0) (later i (if y.0 == x.0 then Some 0 else one_later o))
-step places y x i o = go (is_some (fin.get places y.0)) (y.0 == x.0) refl refl where
-  there : (p q : Option ℕ) → (a b : Option ℕ) → p ≡ q → is_some q ≡ true → or_else p a ≡ or_else p b
-  there (Some k) q a b e h = refl
-  there None None a b e h = cc
-  there None (Some k) a b e h = cc
-
-  absent : (p q a : Option ℕ) → p ≡ q → is_some q ≡ false → a ≡ or_else p a
-  absent None q a e h = refl
-  absent (Some k) None a e h = cc
-  absent (Some k) (Some l) a e h = cc
-
-  go : (b c : Bool) → is_some (fin.get places y.0) ≡ b → (y.0 == x.0) ≡ c
-      → or_else (fin.get (if b then places else fin.insert places y.0 i) x.0) (later (i + 1) o) ≡ or_else (fin.get places x.0) (later i (if c then Some 0 else one_later o))
-  go true true e f = there (fin.get places x.0) (fin.get places y.0) _ _ (same_place places y x f) e
-  go true false e f = ap (λ p. or_else (fin.get places x.0) p) (sym (later_one i o))
-  go false true e f =
-      ap (λ p. or_else p (later (i + 1) o)) (put places y x i ∙ ap (λ b. cond b (Some i) (fin.get places x.0)) f)
-      ∙ absent (fin.get places x.0) (fin.get places y.0) (Some i) (same_place places y x f) e
-      ∙ ap (λ n. or_else (fin.get places x.0) (Some n)) (omega arith)
-  go false false e f =
-      ap (λ p. or_else p (later (i + 1) o)) (put places y x i ∙ ap (λ b. cond b (Some i) (fin.get places x.0)) f)
-      ∙ ap (λ p. or_else (fin.get places x.0) p) (sym (later_one i o))
+begins all places e x = none_yet places x (place_in all x) e
 
 pub index_turn : {X : Type 0} (f : X → Named) (xs : List X) (i : ℕ) (x d : X) (n : Named) (old new : FromNames ℕ)
     → i < length xs → x ≡ slice_index_or xs i d → n ≡ f x → new ≡ with_place old n.name i
@@ -87,7 +30,7 @@ pub index_turn : {X : Type 0} (f : X → Named) (xs : List X) (i : ℕ) (x d : X
 index_turn f xs i x d n old new lt is_x is_n is_new so_far y =
     let rest = names_of f (drop (i + 1) xs) in
     ap (λ m. or_else (fin.get m y.0) (later (i + 1) (place_in rest y))) is_new
-    ∙ step old n.name y i (place_in rest y)
+    ∙ one_more old n.name y i (place_in rest y)
     ∙ ap (λ l. or_else (fin.get old y.0) (later i (place_in l y))) (ap (λ m. m.name ∷ rest) is_n ∙ ap (λ l. names_of f l) (sym (taken xs i x d lt is_x)))
     ∙ so_far y
 

@@ -3,7 +3,8 @@
 ghost use Rattle.std.specs.Prelude.{◌≡◌, IfOk, OnOk, option_copied, is_some};
 ghost use Rattle.chor_tree.specs.Names.{is_among, first_named, unknown};
 ghost use Rattle.chor_base.specs.Faults.{first_of_all};
-ghost use Rattle.name_resolution.specs.Places.{names_of, place_in, IsIndex, with_place};
+ghost use Rattle.chor_base.specs.FirstPlaces.{with_place};
+ghost use Rattle.name_resolution.specs.Places.{names_of, place_in, IsIndex};
 
 use crate::named::HasName;
 use chor_base::{Fault, Memory, NameId, NameMap, Rule, fault_if};

@@ -5,7 +5,8 @@ use Rattle.chor_base.specs.declared.names.NameId.{NameId}
 use Rattle.chor_tree.specs.declared.protocol.State.{State}
 use Rattle.chor_tree.specs.declared.protocol.ProtoStep.TheVariants.{End}
 use Rattle.chor_tree.specs.Names.{first_named}
-use Rattle.global_types.specs.Moves.{IsIn, Content, Exchange, passes, chooses, exchanges_of, one_later, state_named, Leads}
+use Rattle.chor_base.specs.FirstPlaces.{one_later}
+use Rattle.global_types.specs.Moves.{IsIn, Content, Exchange, passes, chooses, exchanges_of, state_named, Leads}
 use Rattle.global_types.specs.Paths.{IsPath, Action, action_in, actions_of}
 use Rattle.well_formed.proofs.References.{same_name, true_eq}
 use Rattle.typed_runs.specs.Told.{of_label, Act, told_of, act_of, acts_on, put_to, got_from}

@@ -15,7 +15,8 @@ use Rattle.chor_tree.specs.Names.{Scope, is_among, channel_of, protocol_of}
 use Rattle.chor_tree.specs.Source as source
 use Rattle.chor_semantics.specs.Choreography.{Ref, Named, ref_eq, among, Starts}
 use Rattle.chor_semantics.specs.Sources.{parts_of, served_of}
-use Rattle.global_types.specs.Moves.{state_named, one_later}
+use Rattle.chor_base.specs.FirstPlaces.{one_later}
+use Rattle.global_types.specs.Moves.{state_named}
 use Rattle.well_formed.specs.Holders.{first_with, as_parts}
 use Rattle.well_formed.specs.WellFormed.{service_refs}
 use Rattle.well_formed.proofs.References.{same_ref, true_eq, same_name, or_rights}

@@ -1,6 +1,6 @@
 use Rattle.std.proofs.Common.{◌≡◌, drop}
 use Rattle.global_types.specs.Moves.{state_named}
-use Rattle.global_types.proofs.Names.{later}
+use Rattle.chor_base.proofs.FirstPlaces.{later}
 use Rattle.global_types.proofs.states.step_at.Given as goal
 
 abbrev pub invariant-loop-index : goal.invariant-loop-index
