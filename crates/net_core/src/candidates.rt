@@ -8,10 +8,13 @@ ghost use Rattle.endpoint_code.specs.Scheduled.{picked};
 ghost use Rattle.net_core.specs.Heads.{Shows, is_listed_at};
 ghost use Rattle.net_core.specs.Candidates.{joined_by, IsIn, IsUpToDate, HasPlaces, HasGrownTo, AreBelow, ListsAll, IsNoted, IsJudged, IsSettled, Enters, Judges, Renews, TakesWaiting, TakesTouched, HasMoved};
 
+use crate::answer::Picked;
 use crate::network::Network;
 use crate::parts::place_of_pick;
+use crate::scheduler::Kept;
 use crate::standing::{has_ended, is_joining};
 use chor_base::{Memory, NameId};
+use chor_host::HostTable;
 use counted_bits::CountedBits;
 use endpoint_machine::Head;
 use std::alloc::Global;
@@ -217,6 +220,37 @@ impl Candidates {
         for pid in 0..network.count() {
             let head = network.head(pid);
             judge(&mut self.listed, &self.waiting, network, pid, head);
+        }
+    }
+}
+
+impl Kept for Candidates {
+    ghost is_true = { IsUpToDate };
+
+    fn turn(
+        &mut self,
+        network: &mut Network<'_>,
+        hosts: &HostTable,
+        seed: u64,
+        steps: u64,
+    ) -> Option<Picked> {
+        if self.have_ended() {
+            return Some(Picked::Ended);
+        }
+        if network.events() == steps {
+            return Some(Picked::Limit);
+        }
+        let count = network.count();
+        let Some(pid) = self.pick(seed, network.events()) else {
+            return Some(network.stuck());
+        };
+        let head = network.head(pid);
+        match network.go(pid, head, hosts) {
+            Ok(()) => match self.follow(network, Past { pid, head, count }) {
+                Ok(()) => None,
+                Err(_) => Some(Picked::Memory),
+            },
+            Err(_) => Some(Picked::Memory),
         }
     }
 }

@@ -6,10 +6,13 @@ ghost use Rattle.endpoint_code.specs.Scheduled.{listed, picked_of};
 ghost use Rattle.net_core.specs.Heads.{EachStands, is_joining_head};
 ghost use Rattle.net_core.specs.Shown.{ShowsAll, ShowsOthers};
 
+use crate::answer::Picked;
 use crate::network::Network;
 use crate::parts::place_of_pick;
+use crate::scheduler::Kept;
 use crate::standing::{has_ended, is_joining};
 use chor_base::Memory;
+use chor_host::HostTable;
 use endpoint_machine::Head;
 use std::alloc::Global;
 
@@ -105,5 +108,38 @@ impl Few {
         ensures { slice_get self.now.heads.items pid ≡ Some result }
     {
         self.heads[pid as usize]
+    }
+}
+
+impl Kept for Few {
+    ghost is_true = { λ e n few. ShowsAll e n few.heads.items };
+
+    fn turn(
+        &mut self,
+        network: &mut Network<'_>,
+        hosts: &HostTable,
+        seed: u64,
+        steps: u64,
+    ) -> Option<Picked> {
+        let Ok(ended) = self.survey(network) else {
+            return Some(Picked::Memory);
+        };
+        if ended {
+            return Some(Picked::Ended);
+        }
+        if network.events() == steps {
+            return Some(Picked::Limit);
+        }
+        let Some(pid) = self.pick(seed, network.events()) else {
+            return Some(network.stuck());
+        };
+        let head = self.head(pid);
+        match network.go(pid, head, hosts) {
+            Ok(()) => match self.follow(network, pid, head) {
+                Ok(()) => None,
+                Err(_) => Some(Picked::Memory),
+            },
+            Err(_) => Some(Picked::Memory),
+        }
     }
 }

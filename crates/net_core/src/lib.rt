@@ -12,6 +12,7 @@ mod network;
 mod parts;
 mod queues;
 mod schedule;
+mod scheduler;
 mod standing;
 
 pub use answer::{Followed, Picked, Step};

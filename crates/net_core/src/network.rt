@@ -28,6 +28,7 @@ use endpoint_machine::{Head, Machine};
 use session_starts::start_session;
 use std::alloc::Global;
 use std::marker::Model;
+use std::mem::replace;
 
 /// The processes of endpoint programs, the queues between them, and the events so far.
 #[derive(Drop)]
@@ -99,6 +100,21 @@ impl<'a> Network<'a> {
         ensures { result.items ≡ self.entry.history }
     {
         self.history
+    }
+
+    // This network. One without processes comes in its place.
+    pub(crate) fn take(&mut self) -> Network<'a>
+        ensures { result ≡ self.old }
+    {
+        let nobody = Network {
+            alloc: self.alloc,
+            endpoints: self.endpoints,
+            machines: Vec::new(self.alloc),
+            queues: Queues::new(self.alloc),
+            sid: 0,
+            history: Vec::new(self.alloc),
+        };
+        replace(self, nobody)
     }
 
     // The next action of a process.

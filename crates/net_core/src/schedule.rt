@@ -6,24 +6,23 @@ ghost use Rattle.chor_host.specs.Tables.{functions_of};
 ghost use Rattle.endpoint_code.specs.Faults.{AsksKnown, is_listed};
 ghost use Rattle.endpoint_code.specs.NetworkRuns.{all_ended, none_can_step};
 ghost use Rattle.endpoint_code.specs.Scheduled.{listed, picked, first_waiting};
-ghost use Rattle.net_core.specs.Shown.{ShowsAll};
 ghost use Rattle.net_core.specs.Steps.{FitsMore};
-ghost use Rattle.net_core.specs.Candidates.{IsUpToDate};
-ghost use Rattle.net_core.specs.Picks.{waiting_at, Runs, RunsOrGoesOn, Turns, IsStuck};
+ghost use Rattle.net_core.specs.Picks.{waiting_at, Runs, RunsOrGoesOn, IsStuck};
 
 use crate::answer::Picked;
-use crate::candidates::{Candidates, Past};
+use crate::candidates::Candidates;
 use crate::few::Few;
 use crate::network::Network;
 use crate::parts::place_of_pick;
+use crate::scheduler::Scheduler;
 use chor_host::HostTable;
 
 // Up to how many processes a look at each of them costs less than to keep who may be picked.
 const FEW: u32 = 4;
 
-impl Network<'_> {
+impl<'a> Network<'a> {
     // How many events there are.
-    fn events(&self) -> u64
+    pub(crate) fn events(&self) -> u64
         ensures events { result ≡ length self.now.history }
         ensures few { result < 2 ^ 63 }
     {
@@ -88,7 +87,7 @@ impl Network<'_> {
     }
 
     // How a run is closed where no process can step.
-    fn stuck(&self) -> Picked
+    pub(crate) fn stuck(&self) -> Picked
         requires unended { all_ended self.now.endpoints self.now.state.machines ≡ false }
         requires none { none_can_step self.now.endpoints None self.now.state self.now.state.machines ≡ true }
         ensures { IsStuck self.now.endpoints self.now.state result }
@@ -102,79 +101,7 @@ impl Network<'_> {
         Picked::Stuck(pid, why)
     }
 
-    // One event of a scheduled run, unless it is closed.
-    fn turn(
-        &mut self,
-        candidates: &mut Candidates,
-        hosts: &HostTable,
-        seed: u64,
-        steps: u64,
-    ) -> Option<Picked>
-        requires hosts { AsksKnown (is_listed (names_of (functions_of hosts.now)) self.old.endpoints) self.old.endpoints }
-        requires seed { seed < 2 ^ 33 }
-        requires fits { length self.old.history ≢ steps → FitsMore self.old 1 }
-        requires candidates { IsUpToDate self.old.endpoints self.old.state candidates.old }
-        ensures turns { Turns (hosts_in self.old.endpoints.names (functions_of hosts.now)) seed steps self.old result self.new }
-        ensures candidates { result ≡ None → IsUpToDate self.new.endpoints self.new.state candidates.new }
-    {
-        if candidates.have_ended() {
-            return Some(Picked::Ended);
-        }
-        if self.events() == steps {
-            return Some(Picked::Limit);
-        }
-        let count = self.count();
-        let Some(pid) = candidates.pick(seed, self.events()) else {
-            return Some(self.stuck());
-        };
-        let head = self.head(pid);
-        match self.go(pid, head, hosts) {
-            Ok(()) => match candidates.follow(self, Past { pid, head, count }) {
-                Ok(()) => None,
-                Err(_) => Some(Picked::Memory),
-            },
-            Err(_) => Some(Picked::Memory),
-        }
-    }
-
-    // One event of a scheduled run, unless it is closed, by a look at what each process does next.
-    fn turn_among_few(
-        &mut self,
-        few: &mut Few,
-        hosts: &HostTable,
-        seed: u64,
-        steps: u64,
-    ) -> Option<Picked>
-        requires hosts { AsksKnown (is_listed (names_of (functions_of hosts.now)) self.old.endpoints) self.old.endpoints }
-        requires seed { seed < 2 ^ 33 }
-        requires fits { length self.old.history ≢ steps → FitsMore self.old 1 }
-        requires heads { ShowsAll self.old.endpoints self.old.state few.old.heads.items }
-        ensures turns { Turns (hosts_in self.old.endpoints.names (functions_of hosts.now)) seed steps self.old result self.new }
-        ensures heads { result ≡ None → ShowsAll self.new.endpoints self.new.state few.new.heads.items }
-    {
-        let Ok(ended) = few.survey(self) else {
-            return Some(Picked::Memory);
-        };
-        if ended {
-            return Some(Picked::Ended);
-        }
-        if self.events() == steps {
-            return Some(Picked::Limit);
-        }
-        let Some(pid) = few.pick(seed, self.events()) else {
-            return Some(self.stuck());
-        };
-        let head = few.head(pid);
-        match self.go(pid, head, hosts) {
-            Ok(()) => match few.follow(self, pid, head) {
-                Ok(()) => None,
-                Err(_) => Some(Picked::Memory),
-            },
-            Err(_) => Some(Picked::Memory),
-        }
-    }
-
-    // Goes on by the pick rule as long as there are few processes. Tells how the run closed, if it did.
+    // Goes on as long as there are few processes. Tells how the run closed, if it did.
     fn run_among_few(&mut self, hosts: &HostTable, seed: u64, steps: u64) -> Option<Picked>
         requires hosts { AsksKnown (is_listed (names_of (functions_of hosts.now)) self.old.endpoints) self.old.endpoints }
         requires seed { seed < 2 ^ 33 }
@@ -182,18 +109,16 @@ impl Network<'_> {
         requires fits { FitsMore self.old (steps - length self.old.history) }
         ensures { RunsOrGoesOn (hosts_in self.old.endpoints.names (functions_of hosts.now)) seed steps self.old result self.new }
     {
-        let Ok(mut few) = Few::new(self.alloc, self) else {
+        let Ok(few) = Few::new(self.alloc, self) else {
             return Some(Picked::Memory);
         };
-        while self.count() <= FEW {
-            if let Some(picked) = self.turn_among_few(&mut few, hosts, seed, steps) {
-                return Some(picked);
-            }
-        }
-        None
+        let mut scheduler = Scheduler::new(self.take(), few);
+        let picked = scheduler.run(hosts, seed, steps, FEW);
+        *self = scheduler.into_network();
+        picked
     }
 
-    // Goes on by the pick rule, and keeps who may be picked from event to event.
+    // Goes on, however many processes there are.
     fn run_among_many(&mut self, hosts: &HostTable, seed: u64, steps: u64) -> Picked
         requires hosts { AsksKnown (is_listed (names_of (functions_of hosts.now)) self.old.endpoints) self.old.endpoints }
         requires seed { seed < 2 ^ 33 }
@@ -201,13 +126,15 @@ impl Network<'_> {
         requires fits { FitsMore self.old (steps - length self.old.history) }
         ensures { Runs (hosts_in self.old.endpoints.names (functions_of hosts.now)) seed steps self.old result self.new }
     {
-        let Ok(mut candidates) = Candidates::new(self.alloc, self) else {
+        let Ok(candidates) = Candidates::new(self.alloc, self) else {
             return Picked::Memory;
         };
-        loop {
-            if let Some(picked) = self.turn(&mut candidates, hosts, seed, steps) {
-                return picked;
-            }
+        let mut scheduler = Scheduler::new(self.take(), candidates);
+        let picked = scheduler.run(hosts, seed, steps, u32::MAX);
+        *self = scheduler.into_network();
+        match picked {
+            Some(picked) => picked,
+            None => unreachable!(),
         }
     }
 

@@ -2,14 +2,10 @@ use Rattle.std.proofs.Common.{◌-◌, length}
 use Rattle.chor_host.specs.Functions.{hosts_in}
 use Rattle.chor_host.specs.Tables.{functions_of}
 use Rattle.net_core.specs.Picks.{Underway}
-use Rattle.net_core.specs.Shown.{ShowsAll}
-use Rattle.net_core.proofs.network.Network.run_among_few.Given as goal
+use Rattle.net_core.proofs.scheduler.Scheduler.run.Given as goal
 
 abbrev pub invariant-loop-self : goal.invariant-loop-self
-invariant-loop-self g l = record {
-  underway : Underway (hosts_in l.fn.self.endpoints.names (functions_of l.hosts)) l.seed l.steps l.fn.self l.self;
-  heads : ShowsAll l.self.endpoints l.self.state l.few.heads.items;
-}
+invariant-loop-self g l = Underway (hosts_in l.fn.self.endpoints.names (functions_of l.hosts)) l.seed l.steps l.fn.self l.self
 
 abbrev pub decreases-loop-self : goal.decreases-loop-self
 decreases-loop-self g l = l.steps - length l.self.history

@@ -12,7 +12,7 @@ use Rattle.net_core.specs.Heads.{EachStands, Shows, steps_at}
 use Rattle.net_core.proofs.Shown.{shown_in, stepped_others}
 use Rattle.net_core.proofs.Leaders.{none_listed}
 use Rattle.net_core.proofs.Runs.{picked_steps, none_picked, stuck_closes}
-use Rattle.net_core.proofs.network.Network.turn_among_few.Goals as goal
+use Rattle.net_core.proofs.few.FewKept.turn.Goals as goal
 
 -- the process that is picked among those listed is there and can step
 picked_among : (e : Endpoints) (n : NetworkState) (seed events p : ℕ) (pids : List ℕ) → pids ≡ listed e None n → Some p ≡ picked_of pids (seed + events) → (p < length n.machines) × (steps_at e n p ≡ true)
@@ -23,12 +23,12 @@ shown_kept : (e : Endpoints) (n : NetworkState) (p : ℕ) (heads kept : List Hea
 shown_kept e n p heads kept h stand all same is = shown_in e n p heads h stand all (ap (λ (l : List Head). slice_get l p) (sym same) ∙ is)
 
 pub returns-in_default : goal.returns-in_default
-returns-in_default g c = record { turns = inl (record { endpoints = refl; state = refl; history = refl }); heads = λ i. absurd cc }
+returns-in_default g c = record { turns = inl (record { endpoints = refl; state = refl; history = refl }); kept = λ i. absurd cc }
 
 pub returns-then-ended : goal.returns-then-ended
 returns-then-ended g c = record {
   turns = record { same = record { endpoints = refl; state = refl; history = refl }; closes = ended (sym c.in-Ok.ensures.ended ∙ c.if-ended.true) };
-  heads = λ i. absurd cc;
+  kept = λ i. absurd cc;
 }
 
 pub returns-then-events-steps : goal.returns-then-events-steps
@@ -37,54 +37,54 @@ returns-then-events-steps g c = record {
     same = record { endpoints = refl; state = refl; history = refl };
     closes = limit (sym c.in-Ok.ensures.ended ∙ c.if-ended.false) (sym c.events.ensures.events ∙ c.if-events-steps.true);
   };
-  heads = λ i. absurd cc;
+  kept = λ i. absurd cc;
 }
 
 pub stuck-requires-clause-none : goal.stuck-requires-clause-none
 stuck-requires-clause-none g c =
-    let v = c.args.self.now in
+    let v = c.args.network.now in
     let all = listed v.endpoints None v.state in
     none_listed v.endpoints v.state c.in-Ok.ensures.stand (none_picked all _ (sym (ap (λ (l : List ℕ). picked_of l (c.args.seed + c.events-2.result)) c.in-Ok.ensures.listed) ∙ sym c.pick.ensures ∙ c.in_default-pick.is))
 
 pub returns-in_default-pick : goal.returns-in_default-pick
 returns-in_default-pick g c =
-    let v = c.args.self.now in
+    let v = c.args.network.now in
     let all = listed v.endpoints None v.state in
     let none : none_can_step v.endpoints None v.state v.state.machines ≡ true =
     none_listed v.endpoints v.state c.in-Ok.ensures.stand (none_picked all _ (sym (ap (λ (l : List ℕ). picked_of l (c.args.seed + c.events-2.result)) c.in-Ok.ensures.listed) ∙ sym c.pick.ensures ∙ c.in_default-pick.is)) in
     record {
       turns = stuck_closes (hosts_in v.endpoints.names (functions_of c.args.hosts.now)) c.args.seed c.args.steps v c.stuck.result c.stuck.ensures (λ h. c.if-events-steps.false (c.events.ensures.events ∙ h)) none;
-      heads = λ i. absurd cc;
+      kept = λ i. absurd cc;
     }
 
 pub head-head-requires : goal.head-head-requires
 head-head-requires g c =
-    let v = c.args.self.now in
+    let v = c.args.network.now in
     let there = (picked_among v.endpoints v.state c.args.seed c.events-2.result c.in-Some.pid _ c.in-Ok.ensures.listed c.in-Some.ensures).0 in
-    subst (λ (k : ℕ). c.in-Some.pid < k) (sym {A = ℕ} (ap length c.in-Ok.ensures.kept ∙ c.requires.heads.count)) there
+    subst (λ (k : ℕ). c.in-Some.pid < k) (sym {A = ℕ} (ap length c.in-Ok.ensures.kept ∙ c.requires.kept.count)) there
 
 pub go-requires-clause-there : goal.go-requires-clause-there
-go-requires-clause-there g c = let v = c.args.self.now in (picked_among v.endpoints v.state c.args.seed c.events-2.result c.in-Some.pid _ c.in-Ok.ensures.listed c.in-Some.ensures).0
+go-requires-clause-there g c = let v = c.args.network.now in (picked_among v.endpoints v.state c.args.seed c.events-2.result c.in-Some.pid _ c.in-Ok.ensures.listed c.in-Some.ensures).0
 
 pub go-requires-clause-steps : goal.go-requires-clause-steps
-go-requires-clause-steps g c = let v = c.args.self.now in (picked_among v.endpoints v.state c.args.seed c.events-2.result c.in-Some.pid _ c.in-Ok.ensures.listed c.in-Some.ensures).1
+go-requires-clause-steps g c = let v = c.args.network.now in (picked_among v.endpoints v.state c.args.seed c.events-2.result c.in-Some.pid _ c.in-Ok.ensures.listed c.in-Some.ensures).1
 
 pub go-requires-clause-shows : goal.go-requires-clause-shows
 go-requires-clause-shows g c =
-    let v = c.args.self.now in
-    shown_kept v.endpoints v.state c.in-Some.pid c.args.few.now.heads.items _ c.head-head.result c.in-Ok.ensures.stand c.requires.heads c.in-Ok.ensures.kept c.head-head.ensures
+    let v = c.args.network.now in
+    shown_kept v.endpoints v.state c.in-Some.pid c.args.self.now.heads.items _ c.head-head.result c.in-Ok.ensures.stand c.requires.kept c.in-Ok.ensures.kept c.head-head.ensures
 
 pub follow-requires-clause-there : goal.follow-requires-clause-there
 follow-requires-clause-there g c =
-    let v = c.args.self.now in
+    let v = c.args.network.now in
     let there = (picked_among v.endpoints v.state c.args.seed c.events-2.result c.in-Some.pid _ c.in-Ok.ensures.listed c.in-Some.ensures).0 in
     let kept = c.in-Ok-go.ensures.grown.kept in
     omega arith
 
 pub follow-requires-clause-others : goal.follow-requires-clause-others
 follow-requires-clause-others g c =
-    let v = c.args.self.now in
-    let heads = c.args.few.now.heads.items in
-    let shows = shown_kept v.endpoints v.state c.in-Some.pid heads _ c.head-head.result c.in-Ok.ensures.stand c.requires.heads c.in-Ok.ensures.kept c.head-head.ensures in
-    let all = subst (ShowsAll v.endpoints v.state) (sym {A = List Head} c.in-Ok.ensures.kept) c.requires.heads in
+    let v = c.args.network.now in
+    let heads = c.args.self.now.heads.items in
+    let shows = shown_kept v.endpoints v.state c.in-Some.pid heads _ c.head-head.result c.in-Ok.ensures.stand c.requires.kept c.in-Ok.ensures.kept c.head-head.ensures in
+    let all = subst (ShowsAll v.endpoints v.state) (sym {A = List Head} c.in-Ok.ensures.kept) c.requires.kept in
     stepped_others (hosts_in v.endpoints.names (functions_of c.args.hosts.now)) v c.go.new.self c.in-Some.pid c.head-head.result _ shows all c.in-Ok-go.ensures.ok c.in-Ok-go.ensures.alone
