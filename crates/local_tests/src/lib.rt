@@ -1,5 +1,6 @@
-//! Tests of local types: what [`local_types::local`] answers is held against a plain body, which goes
-//! through everything at every step, on the protocols of worked sources and on generated ones.
+//! Tests of protocols: what [`local_types::local`] answers is held against a plain body, which goes through
+//! everything at every step, and what [`global_types::check_protocols`] says against one that looks for each
+//! state from the first one on, on the protocols of worked sources and on generated ones.
 #![tactic(auto)]
 
 #[cfg(test)]
@@ -18,3 +19,5 @@ mod moves;
 mod plain;
 #[cfg(test)]
 mod sets;
+#[cfg(test)]
+mod states;
