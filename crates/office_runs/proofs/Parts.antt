@@ -1,8 +1,6 @@
 -- The parts of a start, and what an office notes of it.
-use Rattle.std.proofs.Common.{◌≡◌, ℕ, suc, ◌==◌, ◌&&◌, ◌<◌, ◌≤◌, Bool, true, false, List, [], ◌∷◌, ◌++◌, length, refl, sym, ap, ◌∙◌, subst, Option, Some, None, arith, if◌then◌else◌}
-use Rattle.std.specs.Prelude.{slice_get, not, All}
-use Rattle.std.specs.Bool.{Decides}
-use Rattle.std.proofs.lemmas.Bool.Decides.{Decides-eqb, Decides-and, Decides-like}
+use Rattle.std.proofs.Common.{◌≡◌, ℕ, suc, ◌==◌, ◌<◌, ◌≤◌, Bool, true, false, List, [], ◌∷◌, ◌++◌, length, refl, sym, ap, ◌∙◌, subst, Option, Some, None, arith, if◌then◌else◌}
+use Rattle.std.specs.Prelude.{slice_get, All}
 use Rattle.std.proofs.lemmas.List.Elements.{All-nil, All-cons, All-head, All-tail, All-append}
 use Rattle.chor_base.specs.declared.names.NameId.{NameId}
 use Rattle.chor_base.specs.declared.event.Entry.{Entry}
@@ -15,43 +13,18 @@ use Rattle.endpoint_code.specs.NetworkRuns.{joins_there}
 use Rattle.session_starts.specs.Starts.{AllJoin}
 use Rattle.net_core.proofs.Castings.{step_casting, all_join}
 use Rattle.post_office.specs.declared.post.Post.{Post}
-use Rattle.post_office.specs.declared.post.Post.TheVariants.{Busy, Joining, Waiting, Ended}
-use Rattle.post_office.specs.declared.post.Started.TheVariants.{Started}
+use Rattle.post_office.specs.declared.post.Post.TheVariants.{Joining}
 use Rattle.post_office.specs.Views.{OfficeView}
 use Rattle.post_office.specs.Posts.{IsPostOf}
 use Rattle.post_office.specs.Kept.{CanPost}
 use Rattle.post_office.specs.Answers.{HasNoted}
-use Rattle.post_office.specs.Starts.{AnswersStartBy}
 use Rattle.post_office.proofs.Callers.{can_post}
 use Rattle.post_office.proofs.Casts.{name_same}
-use Rattle.office_runs.specs.Told.{MayCome, MayPost, HasPosted, IsLast}
-
-name_decides : (k l : NameId) → Decides (k.0 == l.0) (k ≡ l)
-name_decides k l =
-    let d = Decides-eqb k.0 l.0 in
-    let name : ℕ → NameId = λ n. record { 0 = n } in
-    ((λ t. ap name (d.0 t)), (λ e. d.1 (ap (λ m. m.0) e)))
-
--- names of which it isn't said that they differ are the same
-pub same_name : (k l : NameId) → not (k.0 == l.0) ≡ false → k ≡ l
-same_name k l h = name_same k l (go (k.0 == l.0) h)
-  where
-    go : (b : Bool) → not b ≡ false → b ≡ true
-    go true i = refl
-    go false i = absurd cc
-
-both_same : (a b : NameId × ℕ) → (a.0 ≡ b.0) × (a.1 ≡ b.1) → a ≡ b
-both_same a b h =
-    let second : ℕ → NameId × ℕ = λ n. (b.0, n) in
-    let first : NameId → NameId × ℕ = λ r. (r, a.1) in
-    ap first h.0 ∙ ap second h.1
-
-pub part_decides : (a b : NameId × ℕ) → Decides ((a.0.0 == b.0.0) && (a.1 == b.1)) (a ≡ b)
-part_decides a b = Decides-like ((a.0.0 == b.0.0) && (a.1 == b.1)) (both_same a b) (λ e. (ap (λ q. q.0) e, ap (λ q. q.1) e)) (Decides-and (a.0.0 == b.0.0) (a.1 == b.1) (name_decides a.0 b.0) (Decides-eqb a.1 b.1))
+use Rattle.office_runs.specs.Told.{MayCome, MayPost, HasPosted}
 
 -- ---- who may be posted
 
-channel_name : (ks : List Channel) (c : NameId) (k : Channel) → channel_of ks c ≡ Some k → k.name ≡ c
+pub channel_name : (ks : List Channel) (c : NameId) (k : Channel) → channel_of ks c ≡ Some k → k.name ≡ c
 channel_name [] c k h = absurd cc
 channel_name (x ∷ ks) c k h = go (x.name.0 == c.0) refl h (channel_name ks c k)
   where
@@ -91,39 +64,10 @@ may_post w count c s parts m =
 
 -- ---- what is noted
 
-last_same : (xs ys : List Entry) (x y : Entry) → xs ++ x ∷ [] ≡ ys ++ y ∷ [] → x ≡ y
-last_same [] [] x y h = cc
-last_same [] (b ∷ ys) x y h = absurd (longer ys y (tail h))
-  where
-    tail : x ∷ [] ≡ b ∷ (ys ++ y ∷ []) → [] ≡ ys ++ y ∷ []
-    tail i = cc
-
-    longer : (zs : List Entry) (z : Entry) → [] ≡ zs ++ z ∷ [] → ⊥
-    longer [] z i = cc
-    longer (u ∷ zs) z i = cc
-last_same (a ∷ xs) [] x y h = absurd (longer xs x (tail h))
-  where
-    tail : a ∷ (xs ++ x ∷ []) ≡ y ∷ [] → xs ++ x ∷ [] ≡ []
-    tail i = cc
-
-    longer : (zs : List Entry) (z : Entry) → zs ++ z ∷ [] ≡ [] → ⊥
-    longer [] z i = cc
-    longer (u ∷ zs) z i = cc
-last_same (a ∷ xs) (b ∷ ys) x y h = (let t : xs ++ x ∷ [] ≡ ys ++ y ∷ [] = cc in last_same xs ys x y t)
-
--- a start by a post notes an event
-pub started_noted : (old new : OfficeView) (p s : ℕ) (post : Post) → AnswersStartBy old 0 p post (Started s) new → (x : Event) × HasNoted old 0 x new
-started_noted old new p s Busy h = absurd h
-started_noted old new p s (Joining c own) h = (_, h.begun.noted)
-started_noted old new p s (Waiting why) h = absurd h
-started_noted old new p s Ended h = absurd h
-
--- what the last entry says is what was noted
-pub last_noted : (v w u : OfficeView) (x y : Event) → HasPosted v w → HasNoted w 0 y u → IsLast u.history x → HasNoted v 0 x u
-last_noted v w u x y posted noted is =
+-- what is noted once a start is posted was noted before it was
+pub noted_from : (v w u : OfficeView) (y x : Event) → HasPosted v w → HasNoted w 0 y u → y ≡ x → HasNoted v 0 x u
+noted_from v w u y x posted noted same =
     let entry : Entry = record { worker = 0; event = y } in
-    let same : entry ≡ is.last = last_same w.history is.front entry is.last (sym noted.history ∙ is.whole) in
-    let event_same : y ≡ x = ap (λ (e : Entry). e.event) same ∙ is.event in
     let room : w.room ≡ v.room = ap (λ (o : OfficeView). o.room) posted.same in
     let from_first : HasNoted v 0 y u = record {
       endpoints = noted.endpoints ∙ ap (λ (o : OfficeView). o.endpoints) posted.same;
@@ -132,7 +76,7 @@ last_noted v w u x y posted noted is =
       history = noted.history ∙ ap (λ (o : OfficeView). o.history ++ entry ∷ []) posted.same;
       room = omega (arith, room, noted.room);
     } in
-    subst (λ (z : Event). HasNoted v 0 z u) event_same from_first
+    subst (λ (z : Event). HasNoted v 0 z u) same from_first
 
 pub start_same : (c d : NameId) (s t : ℕ) (ps qs : List (NameId × ℕ)) → c ≡ d → s ≡ t → ps ≡ qs → event.Start c s ps ≡ event.Start d t qs
 start_same c d s t ps qs names sids parts =

@@ -1,14 +1,16 @@
 -- Offices that are told the events of a run (this project's own).
-use Rattle.std.specs.Prelude.{ℕ, ◌≡◌, ◌<◌, ◌++◌, false, List, [], ◌∷◌, length, None, All}
-use Rattle.chor_base.specs.declared.event.Entry.{Entry}
+use Rattle.std.specs.Prelude.{ℕ, ◌≡◌, ◌<◌, ◌≤◌, false, List, [], ◌∷◌, length, Option, None, All, nat_lt, slice_set, if◌then◌else◌}
 use Rattle.chor_base.specs.declared.names.NameId.{NameId}
 use Rattle.chor_base.specs.declared.event.Event.{Event}
 use Rattle.chor_base.specs.declared.event.Event.TheVariants as event
 use Rattle.chor_base.specs.Meaning.{Hosts}
+use Rattle.endpoint_code.specs.declared.endpoints.Endpoints.{Endpoints}
 use Rattle.endpoint_code.specs.Network.{NetworkState, NetworkSteps}
+use Rattle.endpoint_code.specs.NetworkRuns.{IsNetworkRun}
 use Rattle.net_core.specs.Views.{NetworkView}
-use Rattle.post_office.specs.declared.post.Post.TheVariants.{Joining}
-use Rattle.post_office.specs.Views.{OfficeView, IsAfter, is_full}
+use Rattle.post_office.specs.declared.desk.Desk.{Desk}
+use Rattle.post_office.specs.declared.post.Post.TheVariants.{Busy, Joining}
+use Rattle.post_office.specs.Views.{OfficeView, IsAfter, is_full, post_at}
 use Rattle.post_office.specs.Kept.{CanPost}
 use Rattle.post_office.specs.Starts.{FitsStart}
 
@@ -41,9 +43,25 @@ pub record HasPosted (old new : OfficeView) : Type 0 where
   pub same : new ≡ record old { desks = new.desks }
   pub processes : length new.desks ≡ length old.desks
 
--- the last entry of a history is of this event
-pub record IsLast (history : List Entry) (x : Event) : Type 0 where
-  pub front : List Entry
-  pub last : Entry
-  pub whole : history ≡ front ++ last ∷ []
-  pub event : last.event ≡ x
+-- the processes of these parts have this number or a greater one
+abbrev pub AreOthers : ℕ → List (NameId × ℕ) → Type 0
+AreOthers count parts = All (λ q. count ≤ q.1) parts
+
+-- the board once each of these parts whose process is below a number was posted as joining the channel in its role
+abbrev pub joined_board : List Desk → NameId → ℕ → List (NameId × ℕ) → List Desk
+joined_board ds c count [] = ds
+joined_board ds c count (q ∷ qs) = joined_board (if nat_lt q.1 count then slice_set ds q.1 (record { post = Joining c q.0; joined = None }) else ds) c count qs
+
+-- nothing is posted of any process
+abbrev pub AllBusy : OfficeView → Type 0
+AllBusy w = (p : ℕ) → post_at w.desks p ≡ Busy
+
+-- ---- what is told to no office
+
+-- the event is no step of the network, with queues of the office's capacity, after the office's events
+abbrev pub IsNoStep : OfficeView → Event → Type 0
+IsNoStep w x = (n m : NetworkState) → IsAfter w n → NetworkSteps w.endpoints w.hosts w.capacity n x m → ⊥
+
+-- the events are no run of the network with queues of this capacity
+abbrev pub IsNoRun : Endpoints → Hosts → Option ℕ → List Event → Type 0
+IsNoRun e hosts capacity xs = (n : NetworkState) → IsNetworkRun e hosts capacity xs n → ⊥
