@@ -2,7 +2,7 @@
 use Rattle.std.specs.Prelude.{ℕ, suc, List, [], ◌∷◌, map, max}
 use Rattle.chor_base.specs.declared.names.NameId.{NameId}
 use Rattle.chor_base.specs.declared.event.Event.{Event}
-use Rattle.chor_base.specs.declared.event.Event.TheVariants.{Start, Send, Recv, Test, Set, Show, Host}
+use Rattle.chor_base.specs.declared.event.Event.TheVariants.{Start}
 use Rattle.chor_base.specs.declared.event.Entry.{Entry}
 
 abbrev pub events_of : List Entry → List Event

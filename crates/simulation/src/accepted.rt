@@ -74,9 +74,15 @@ pub fn accept(alloc: Global, file: File, hosts: &HostTable) -> Result<Accepted, 
     ensures faultless { OnOk result (IsFaultless (names_of (functions_of hosts.now)) file (classes_of All)) }
     ensures denied { IfErr result (IsBroken (classes_of All) (names_of (functions_of hosts.now)) file) }
 {
-    check(alloc, &file, hosts)?;
+    if let Err(denied) = check(alloc, &file, hosts) {
+        drop(file);
+        return Err(denied);
+    }
     let typed = check_types(alloc, file, hosts)?;
-    check_linearity(alloc, typed.file())?;
+    if let Err(denied) = check_linearity(alloc, typed.file()) {
+        drop(typed);
+        return Err(denied);
+    }
     projected(alloc, typed)
 }
 
@@ -87,8 +93,13 @@ fn projected(alloc: Global, typed: Typed) -> Result<Accepted, Denied>
     ensures merges { OnOk result (HasNoMergeFault typed.file) }
     ensures denied { IfErr result (IsMergeDenial typed.file) }
 {
-    let endpoints = project(alloc, typed.file())?;
-    Ok(Accepted { typed, endpoints })
+    match project(alloc, typed.file()) {
+        Ok(endpoints) => Ok(Accepted { typed, endpoints }),
+        Err(denied) => {
+            drop(typed);
+            Err(denied)
+        }
+    }
 }
 
 // Judges a file by the rules of linearity.

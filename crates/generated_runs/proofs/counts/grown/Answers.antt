@@ -1,4 +1,4 @@
-use Rattle.std.proofs.Common.{◌≡◌, ◌∙◌, ◌+◌, suc, get_or, ap, arith}
+use Rattle.std.proofs.Common.{◌∙◌, ◌+◌, ap}
 use Rattle.std.specs.Prelude.{max}
 use Rattle.generated_runs.proofs.Grows.{grown_so}
 use Rattle.generated_runs.proofs.counts.grown.Goals as goal

@@ -1,5 +1,4 @@
 use Rattle.std.proofs.Common.{◌≡◌, ◌∙◌, ap, subst}
-use Rattle.std.specs.Prelude.{IfOk}
 use Rattle.chor_host.specs.Tables.{functions_of}
 use Rattle.chor_tree.specs.declared.file.File.{File}
 use Rattle.generated_runs.specs.Texts.{IsLineFor}
