@@ -6,7 +6,7 @@ use chor_cmd::{Words, chor};
 use chor_host::{HostFn, HostTable, host_gap, host_max, host_min};
 use chor_io::{DiskShelf, OpenGate, OutSink};
 use std::alloc::Global;
-use std::env;
+use std::env::{self, Args};
 use std::process::ExitCode;
 
 // The system didn't give the program its words.
@@ -19,29 +19,37 @@ fn main(rt: HostRuntime) -> ExitCode {
     let Ok(args) = env::args(&rt) else {
         return ExitCode::from(NO_WORDS);
     };
-    let mut items = List::new(rt.alloc());
-    for arg in args.skip(1) {
-        if push_word(rt.alloc(), &mut items, arg.as_bytes()).is_err() {
-            return ExitCode::from(NO_MEMORY);
-        }
-    }
-    let words = Words { items };
-    let mut shelf = DiskShelf::new(rt.alloc(), &rt);
-    let mut out = OutSink::new(&rt);
-    let gate = OpenGate;
+    let Ok(words) = words_of(rt.alloc(), args) else {
+        return ExitCode::from(NO_MEMORY);
+    };
     let Some(names) = host_names(rt.alloc()) else {
+        drop(words);
         return ExitCode::from(NO_MEMORY);
     };
     // The functions that choreographies may call.
-    let min = HostFn::new(names.min, Meaning::Exact(HostOp::Min), host_min);
-    let max = HostFn::new(names.max, Meaning::Exact(HostOp::Max), host_max);
-    let gap = HostFn::new(names.gap, Meaning::Exact(HostOp::Gap), host_gap);
     let mut hosts = HostTable::new(rt.alloc());
-    if hosts.add(min).is_err() || hosts.add(max).is_err() || hosts.add(gap).is_err() {
-        return ExitCode::from(NO_MEMORY);
+    let min = hosts.add(HostFn::new(names.min, Meaning::Exact(HostOp::Min), host_min));
+    let max = hosts.add(HostFn::new(names.max, Meaning::Exact(HostOp::Max), host_max));
+    let gap = hosts.add(HostFn::new(names.gap, Meaning::Exact(HostOp::Gap), host_gap));
+    let status = if min.is_ok() && max.is_ok() && gap.is_ok() {
+        let mut shelf = DiskShelf::new(rt.alloc(), &rt);
+        let mut out = OutSink::new(&rt);
+        chor(rt.alloc(), &words, &hosts, &mut shelf, &mut out, &OpenGate).number()
+    } else {
+        NO_MEMORY
+    };
+    drop(hosts);
+    drop(words);
+    ExitCode::from(status)
+}
+
+// The words of a call, without the name of the program.
+fn words_of(alloc: Global, args: Args) -> Result<Words, Memory> {
+    let mut items = List::new(alloc);
+    for arg in args.skip(1) {
+        push_word(alloc, &mut items, arg.as_bytes())?;
     }
-    let status = chor(rt.alloc(), &words, &hosts, &mut shelf, &mut out, &gate);
-    ExitCode::from(status.number())
+    Ok(Words { items })
 }
 
 fn push_word(alloc: Global, items: &mut List<Word>, bytes: &[u8]) -> Result<(), Memory> {

@@ -1,15 +1,13 @@
 -- What the words ask for, and the files that they name.
-use Rattle.std.proofs.Common.{◌≡◌, ◌≢◌, ◌<◌, ◌≤◌, ℕ, zero, suc, List, [], ◌∷◌, Option, None, Some, length, refl, sym, ap, ◌∙◌, subst, arith}
+use Rattle.std.proofs.Common.{◌≡◌, ◌<◌, ◌≤◌, ℕ, List, [], ◌∷◌, None, Some, length, refl, sym, ap, ◌∙◌, subst, arith}
 use Rattle.chor_io.specs.Outside.{ShelfState}
 use Rattle.command_words.specs.declared.words.Words.{Words}
 use Rattle.command_words.specs.declared.words.Command.{Command}
 use Rattle.command_words.specs.declared.words.Command.TheVariants.{Check, Fmt, Types, Project, Run, Exec, Replay, Gen}
 use Rattle.command_words.specs.declared.options.Options.{Options}
 use Rattle.command_words.specs.Words.{AreForm, IsForm, IsCommand, on_file, on_files, on_number}
-use Rattle.source_check.specs.declared.rules.Rules.{Rules}
-use Rattle.source_check.specs.declared.rules.Rules.TheVariants.{All}
-use Rattle.chor_cmd.specs.Readings.{Reading, Source, Programs, Nothing, reading_of, limit_of, events_limit, limits_of, IsOnSource}
-use Rattle.chor_cmd.specs.Endings.{Told, Tells, MayTell, Hold, Exceeds, MayAsk, Asks, MayExceed, IsTooLong}
+use Rattle.chor_cmd.specs.Readings.{reading_of, limit_of, events_limit, limits_of, IsOnSource}
+use Rattle.chor_cmd.specs.Endings.{Told, Tells, MayTell, Hold, Exceeds, MayAsk, MayExceed}
 
 -- ---- commands on one file
 

@@ -1,32 +1,25 @@
 -- What came of a command whose first file is told.
-use Rattle.std.proofs.Common.{◌≡◌, ◌<◌, ◌≤◌, ℕ, Bool, List, [], ◌∷◌, None, Some, length, refl, sym, ap, ◌∙◌, subst, arith}
-use Rattle.std.specs.Prelude.{Result, Ok, Err}
+use Rattle.std.proofs.Common.{◌≡◌, ℕ, Bool, List, [], ◌∷◌, length, sym, ap, subst, arith}
+use Rattle.std.specs.Prelude.{Err}
 use Rattle.chor_base.specs.declared.rule.Refusal.{Refusal}
-use Rattle.chor_io.specs.Outside.{Risen, ShelfState, SinkState}
+use Rattle.chor_io.specs.Outside.{Risen, ShelfState}
 use Rattle.chor_tree.specs.declared.file.File.{File}
-use Rattle.chor_print.specs.Text.{canonical_text}
-use Rattle.replay.specs.declared.answer.Replayed.{Replayed}
-use Rattle.replay.specs.declared.answer.ReplayFault.{ReplayFault}
 use Rattle.replay.specs.declared.answer.ReplayFault.TheVariants.{Unmatched as unlike}
 use Rattle.command_words.specs.declared.words.Words.{Words}
 use Rattle.command_words.specs.declared.words.Command.{Command}
-use Rattle.command_words.specs.declared.words.Command.TheVariants.{Check, Fmt, Types, Project, Run, Exec, Replay, Gen}
+use Rattle.command_words.specs.declared.words.Command.TheVariants.{Exec, Replay, Gen}
 use Rattle.command_words.specs.declared.options.Options.{Options}
-use Rattle.command_words.specs.Words.{IsForm, HasForm, NamesFile, HasNoForm}
+use Rattle.command_words.specs.Words.{NamesFile}
 use Rattle.command_words.proofs.SameWords.{same_names, same_command}
-use Rattle.source_check.specs.declared.rules.Rules.{Rules}
-use Rattle.source_check.specs.declared.rules.Rules.TheVariants.{All, Grammar, Views}
+use Rattle.source_check.specs.declared.rules.Rules.TheVariants.{All}
 use Rattle.chor_host.specs.Functions.{Function, names_of}
-use Rattle.source_check.specs.Source.{IsFileOf, IsAccepted, Violates, unread, broken}
-use Rattle.source_check.proofs.OneFault.{one_refusal, never_refused}
+use Rattle.source_check.specs.Source.{IsAccepted}
 use Rattle.chor_cmd.specs.declared.status.Status.{Status}
-use Rattle.chor_cmd.specs.declared.status.Status.TheVariants.{Done, Refused, Usage, ReadFault, WriteFault, Memory, Unmatched, Stuck, TooLarge}
-use Rattle.chor_cmd.specs.Readings.{Reading, Source, Programs, Nothing, reading_of, limits_of}
-use Rattle.chor_cmd.specs.Outputs.{Violated, IsFine, IsAnswer, IsReplayOf, IsGenerated, Answers, of_source, of_programs, of_replay, of_number, usage_line, too_large_line, refused_line, replayed_line, unmatched_line}
-use Rattle.chor_cmd.specs.Endings.{Told, Tells, MayTell, Hold, Exceeds, MayAsk, Asks, MayExceed, IsTooLong, AreFine, Ends, usage, read_fault, too_large, refused, done, unmatched, stuck, Wrote, HasEnded, Comes, so, no_memory, unread as not_read, unwritten}
-use Rattle.chor_cmd.specs.Endings.{GivesUsage, GivesTooLarge, GivesRefusal, GivesAnswer, GivesReplay, GivesUnmatched, GivesExecution, GivesProjectedRun, GivesGenerated, GivesCanonical, GivesSame}
-use Rattle.chor_cmd.proofs.Asked.{first_is, second_is, first_before, first_after, fits as not_long, none_after, one_long, few_second, fewer_before, two_limits, is_replay}
-use Rattle.chor_cmd.proofs.SameTexts.{text_alike, text_is_source, text_of_text}
+use Rattle.chor_cmd.specs.declared.status.Status.TheVariants.{Done, Refused, ReadFault, Unmatched, Stuck, TooLarge}
+use Rattle.chor_cmd.specs.Readings.{reading_of, limits_of}
+use Rattle.chor_cmd.specs.Outputs.{Violated, IsReplayOf, Answers, of_source, of_programs, of_replay, of_number, refused_line, unmatched_line}
+use Rattle.chor_cmd.specs.Endings.{Tells, MayTell, Hold, Exceeds, MayAsk, Asks, MayExceed, AreFine, Ends, usage, read_fault, too_large, refused, done, unmatched, stuck}
+use Rattle.chor_cmd.proofs.Asked.{first_is, first_before, fits as not_long, fewer_before, is_replay}
 
 -- a call ends as it is expected to, or reading fails
 pub data Expected (words : Words) (shelf shelf' : ShelfState) (status : Status) (Says : List ℕ → Type 0) : Status → List ℕ → Type 0 where

@@ -1,5 +1,5 @@
 -- The words, and the endpoint programs that were read, settle how `exec` ends.
-use Rattle.std.proofs.Common.{◌≡◌, ◌<◌, ℕ, Bool, true, false, List, [], ◌∷◌, length, refl, sym, ap, ◌∙◌, subst, arith}
+use Rattle.std.proofs.Common.{◌≡◌, ℕ, Bool, true, false, List, [], ◌∷◌, length, refl, sym, ap, ◌∙◌, subst, arith}
 use Rattle.chor_base.specs.declared.rule.Refusal.{Refusal}
 use Rattle.chor_tree.specs.declared.file.File.{File}
 use Rattle.chor_host.specs.Functions.{Function, names_of, hosts_in}
@@ -19,14 +19,14 @@ use Rattle.transcript.specs.Text.{transcript}
 use Rattle.program_runs.specs.Transcripts.{closing_text, IsTranscriptOf}
 use Rattle.one_execution.proofs.Transcripts.{transcript_agrees}
 use Rattle.program_runs.specs.Books.{book_of}
-use Rattle.simulation.specs.Runs.{ClosesWell, IsRunOf}
+use Rattle.simulation.specs.Runs.{IsRunOf}
 use Rattle.projected_programs.specs.Laws.{AreProjected, ProjectedTextIsTaken, IsRunTranscript, ProjectedTextRuns}
 use Rattle.chor_cmd.specs.declared.status.Status.{Status}
 use Rattle.chor_cmd.specs.declared.status.Status.TheVariants.{Done, Refused, Usage, ReadFault, WriteFault, Memory, Unmatched, Stuck, TooLarge}
 use Rattle.chor_cmd.specs.Readings.{reading_of, limits_of}
 use Rattle.chor_cmd.specs.Status.{status_of}
 use Rattle.chor_cmd.specs.Outputs.{Violated, IsAnswer, IsExecution, IsRunText, Answers, of_source, of_programs, of_replay, of_number, refused_line}
-use Rattle.chor_cmd.specs.Endings.{MayTell, MayAsk, Asks, MayExceed, AreFine, Ends, usage, read_fault, too_large, refused, done, unmatched, stuck, Wrote, HasEnded, Comes, so, no_memory, unread as not_read, unwritten}
+use Rattle.chor_cmd.specs.Endings.{MayTell, MayAsk, Asks, MayExceed, Ends, usage, read_fault, too_large, refused, done, unmatched, stuck, Wrote, HasEnded, Comes, so, no_memory, unread as not_read, unwritten}
 use Rattle.chor_cmd.proofs.Asked.{fits as not_long, fewer_before}
 use Rattle.chor_cmd.proofs.Became.{first as first_asked, exceeded}
 

@@ -1,8 +1,6 @@
 -- What is told of an accepted file's run is its transcript.
 use Rattle.std.proofs.Common.{◌≡◌, ◌∙◌, ℕ, Bool, true, false, List, length, refl, ap}
-use Rattle.chor_host.specs.Functions.{Function, hosts_in}
-use Rattle.chor_tree.specs.declared.file.File.{File}
-use Rattle.endpoint_runs.specs.declared.parts.Schedule.{Schedule}
+use Rattle.chor_host.specs.Functions.{Function}
 use Rattle.transcript.specs.Text.{Words, transcript}
 use Rattle.program_runs.specs.Transcripts.{closing_text}
 use Rattle.simulation.specs.Accepted.{AcceptedView}

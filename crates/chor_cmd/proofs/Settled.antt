@@ -1,8 +1,8 @@
 -- The words, and the files that were read, settle how a call ends.
-use Rattle.std.proofs.Common.{◌≡◌, ◌<◌, ◌≤◌, ℕ, Bool, List, [], ◌∷◌, None, Some, length, refl, sym, ap, ◌∙◌, subst, arith}
+use Rattle.std.proofs.Common.{◌≡◌, ◌<◌, ◌≤◌, ℕ, Bool, List, [], ◌∷◌, length, refl, sym, ap, ◌∙◌, subst, arith}
 use Rattle.std.specs.Prelude.{Result, Ok, Err}
 use Rattle.chor_base.specs.declared.rule.Refusal.{Refusal}
-use Rattle.chor_io.specs.Outside.{Risen, ShelfState, SinkState}
+use Rattle.chor_io.specs.Outside.{ShelfState, SinkState}
 use Rattle.chor_tree.specs.declared.file.File.{File}
 use Rattle.chor_print.specs.Text.{canonical_text}
 use Rattle.replay.specs.declared.answer.Replayed.{Replayed}
@@ -12,7 +12,7 @@ use Rattle.command_words.specs.declared.words.Words.{Words}
 use Rattle.command_words.specs.declared.words.Command.{Command}
 use Rattle.command_words.specs.declared.words.Command.TheVariants.{Check, Fmt, Types, Project, Run, Exec, Replay, Gen}
 use Rattle.command_words.specs.declared.options.Options.{Options}
-use Rattle.command_words.specs.Words.{IsForm, HasForm, NamesFile, HasNoForm}
+use Rattle.command_words.specs.Words.{IsForm, HasNoForm}
 use Rattle.command_words.proofs.SameWords.{same_names, same_command}
 use Rattle.source_check.specs.declared.rules.Rules.{Rules}
 use Rattle.source_check.specs.declared.rules.Rules.TheVariants.{All, Grammar, Views}
@@ -21,11 +21,11 @@ use Rattle.source_check.specs.Source.{IsFileOf, IsAccepted, Violates, unread, br
 use Rattle.source_check.proofs.OneFault.{one_refusal, never_refused}
 use Rattle.chor_cmd.specs.declared.status.Status.{Status}
 use Rattle.chor_cmd.specs.declared.status.Status.TheVariants.{Done, Refused, Usage, ReadFault, WriteFault, Memory, Unmatched, Stuck, TooLarge}
-use Rattle.chor_cmd.specs.Readings.{Reading, Source, Programs, Nothing, reading_of, limits_of}
+use Rattle.chor_cmd.specs.Readings.{Reading, Source, Programs, reading_of, limits_of}
 use Rattle.chor_cmd.specs.Outputs.{Violated, IsFine, IsAnswer, IsReplayOf, IsGenerated, Answers, of_source, of_programs, of_replay, of_number, usage_line, too_large_line, refused_line, replayed_line, unmatched_line}
-use Rattle.chor_cmd.specs.Endings.{Told, Tells, MayTell, Hold, Exceeds, MayAsk, Asks, MayExceed, IsTooLong, AreFine, Ends, usage, read_fault, too_large, refused, done, unmatched, stuck, Wrote, HasEnded, Comes, so, no_memory, unread as not_read, unwritten}
+use Rattle.chor_cmd.specs.Endings.{Tells, MayTell, Hold, Exceeds, MayAsk, Asks, MayExceed, IsTooLong, AreFine, Ends, usage, read_fault, too_large, refused, done, unmatched, stuck, Wrote, HasEnded, Comes, so, no_memory, unread as not_read, unwritten}
 use Rattle.chor_cmd.specs.Endings.{GivesUsage, GivesTooLarge, GivesRefusal, GivesAnswer, GivesReplay, GivesUnmatched, GivesExecution, GivesProjectedRun, GivesGenerated, GivesCanonical, GivesSame}
-use Rattle.chor_cmd.proofs.Asked.{first_is, second_is, first_before, first_after, fits as not_long, none_after, one_long, few_second, fewer_before, two_limits, is_replay}
+use Rattle.chor_cmd.proofs.Asked.{first_is, second_is, first_after, fits as not_long, none_after, one_long, few_second, fewer_before, two_limits, is_replay}
 use Rattle.chor_cmd.proofs.SameTexts.{text_alike, text_is_source, text_of_text}
 use Rattle.event_files.specs.Networks.{TellsMore}
 use Rattle.endpoint_text.specs.Text.{endpoints_text}

@@ -16,11 +16,11 @@ use Rattle.chor_cmd.specs.declared.status.Status.TheVariants.{Done, Refused, Usa
 use Rattle.command_words.specs.declared.words.Command.{Command}
 use Rattle.command_words.specs.declared.words.Command.TheVariants.{Fmt, Exec, Replay, Gen}
 use Rattle.command_words.specs.Words.{IsForm, HasForm, NamesFile, HasNoForm}
-use Rattle.chor_cmd.specs.Readings.{Source, reading_of, limit_of, limits_of}
+use Rattle.chor_cmd.specs.Readings.{Source, reading_of, limits_of}
 use Rattle.command_words.specs.declared.options.Options.{Options}
 use Rattle.source_check.specs.declared.rules.Rules.{Rules}
 use Rattle.source_check.specs.declared.rules.Rules.TheVariants.{All}
-use Rattle.source_check.specs.Source.{IsFileOf, IsAccepted, Violates}
+use Rattle.source_check.specs.Source.{IsFileOf, IsAccepted}
 use Rattle.endpoint_code.specs.declared.endpoints.Endpoints.{Endpoints}
 use Rattle.endpoint_text.specs.Text.{endpoints_text}
 use Rattle.endpoint_check.specs.Programs.{AreProgramsOf}

@@ -1,17 +1,16 @@
 -- What the commands write for a file, and the lines that say what is wrong (this project's own).
-use Rattle.std.specs.Prelude.{ℕ, ◌≡◌, Bool, true, false, List, [], ◌∷◌, ◌++◌, length, Option, Some, None, Result, Ok, Err, codes}
+use Rattle.std.specs.Prelude.{ℕ, ◌≡◌, Bool, true, false, List, [], ◌∷◌, ◌++◌, length, Option, Some, None, Result, Ok, codes}
 use Rattle.std.specs.Fmt.{decimal}
 use Rattle.chor_base.specs.declared.rule.Refusal.{Refusal}
 use Rattle.chor_base.specs.declared.rule.Denied.{Denied}
 use Rattle.chor_base.specs.declared.rule.Denied.TheVariants.{Refused, Memory}
 use Rattle.chor_base.specs.Writing.{rule_name}
 use Rattle.chor_base.specs.declared.event.Event.{Event}
-use Rattle.chor_tree.specs.Names.{names_in}
 use Rattle.chor_tree.specs.declared.file.File.{File}
 use Rattle.endpoint_code.specs.declared.endpoints.Endpoints.{Endpoints}
 use Rattle.projection.specs.Projects.{Projects}
 use Rattle.endpoint_text.specs.Text.{endpoints_text}
-use Rattle.transcript.specs.Text.{Words as Book, transcript}
+use Rattle.transcript.specs.Text.{transcript}
 use Rattle.chor_print.specs.Text.{canonical_text}
 use Rattle.command_words.specs.declared.words.Command.{Command}
 use Rattle.command_words.specs.declared.words.Command.TheVariants.{Check, Fmt, Types, Project, Run, Exec, Replay, Gen}

@@ -31,7 +31,9 @@ pub fn executed(
 {
     endpoint_laws::made_is_faultless();
     let programs = read_programs(alloc, bytes, hosts)?;
-    let executed = run_of(alloc, &programs, options, hosts)?;
+    let executed = run_of(alloc, &programs, options, hosts);
+    drop(programs);
+    let executed = executed?;
     Ok(executed)
 }
 

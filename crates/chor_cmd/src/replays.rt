@@ -46,7 +46,11 @@ pub fn answer_replay<F: Shelf, K: Sink>(
         Err(unread) => return finish_unread(alloc, out, file, unread),
     };
     match accepted_source(alloc, bytes.as_slice(), hosts) {
-        Ok(accepted) => answer_events(alloc, &accepted, hosts, events, shelf, out),
+        Ok(accepted) => {
+            let status = answer_events(alloc, &accepted, hosts, events, shelf, out);
+            drop(accepted);
+            status
+        }
         Err(denied) => finish_denying(alloc, out, &denied),
     }
 }

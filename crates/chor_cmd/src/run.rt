@@ -30,7 +30,9 @@ pub fn run_text(
     ensures broken { IfErr result (IsBroken (classes_of rules.All) (host_names hosts.now) file) }
 {
     let accepted = accept(alloc, file, hosts)?;
-    let text = text_of_run(alloc, &accepted, options, hosts)?;
+    let text = text_of_run(alloc, &accepted, options, hosts);
+    drop(accepted);
+    let text = text?;
     Ok(text)
 }
 

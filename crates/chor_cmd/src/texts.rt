@@ -51,7 +51,9 @@ fn file_text(
     match command {
         Command::Check(_) => check_text(alloc, file, hosts),
         Command::Fmt(_) => {
-            let text = canonical_of(alloc, &file)?;
+            let text = canonical_of(alloc, &file);
+            drop(file);
+            let text = text?;
             Ok(text)
         }
         Command::Types(_) => types_text(alloc, file, hosts),
@@ -67,7 +69,8 @@ fn check_text(alloc: Global, file: File, hosts: &HostTable) -> Result<Vec<u8>, D
     ensures faultless { OnOk result (IsFaultless (host_names hosts.now) file (classes_of rules.All)) }
     ensures broken { IfErr result (IsBroken (classes_of rules.All) (host_names hosts.now) file) }
 {
-    accept(alloc, file, hosts)?;
+    let accepted = accept(alloc, file, hosts)?;
+    drop(accepted);
     let text = ok_line(alloc)?;
     Ok(text)
 }
@@ -85,8 +88,9 @@ fn types_text(alloc: Global, file: File, hosts: &HostTable) -> Result<Vec<u8>, D
     ensures faultless { OnOk result (IsFaultless (host_names hosts.now) file (classes_of rules.Views)) }
     ensures broken { IfErr result (IsBroken (classes_of rules.Views) (host_names hosts.now) file) }
 {
-    let text = text_of_types(alloc, &file, hosts)?;
-    Ok(text)
+    let text = text_of_types(alloc, &file, hosts);
+    drop(file);
+    text
 }
 
 // What `project` writes.
@@ -96,7 +100,9 @@ fn project_text(alloc: Global, file: File, hosts: &HostTable) -> Result<Vec<u8>,
     ensures broken { IfErr result (IsBroken (classes_of rules.All) (host_names hosts.now) file) }
 {
     let accepted = accept(alloc, file, hosts)?;
-    let text = text_of_projection(alloc, &accepted)?;
+    let text = text_of_projection(alloc, &accepted);
+    drop(accepted);
+    let text = text?;
     Ok(text)
 }
 

@@ -1,4 +1,4 @@
-use Rattle.std.proofs.Common.{◌≤◌, ◌<◌, ℕ, List, [], ◌∷◌, length, sym, subst}
+use Rattle.std.proofs.Common.{◌≤◌, ◌<◌, ℕ, List, [], length, sym, subst}
 use Rattle.chor_host.specs.Tables.{functions_of}
 use Rattle.chor_cmd.specs.Readings.{reading_of, limit_of}
 use Rattle.chor_cmd.specs.Endings.{MayTell, too_large}

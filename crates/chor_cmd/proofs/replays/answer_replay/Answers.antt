@@ -27,7 +27,7 @@ returns-in-Ok-accepted_source-clause-ended g c = λ words form.
     let events = c.args.events.now in
     let told = subst (λ (b : List ℕ). MayTell before.files file b) (sym c.as_slice.ensures.value) c.in-Ok.ensures.told in
     let few = subst (λ (b : List ℕ). length b ≤ 1048576) (sym c.as_slice.ensures.value) c.in-Ok.ensures.few in
-    c.answer_events.ensures.ended words before (record {
+    c.answer_events-status.ensures.ended words before (record {
       source = file;
       bytes = c.as_slice.result.now;
       form = form;
@@ -42,8 +42,8 @@ pub returns-in-Ok-accepted_source-clause-only : goal.returns-in-Ok-accepted_sour
 returns-in-Ok-accepted_source-clause-only g c =
     let before = g.F.Shelf.state c.args.shelf.now in
     let now = g.F.Shelf.state c.fetched.new.shelf in
-    let after = g.F.Shelf.state c.answer_events.new.shelf in
-    touches_both before now after c.args.file.now c.args.events.now c.fetched.ensures.only c.answer_events.ensures.only
+    let after = g.F.Shelf.state c.answer_events-status.new.shelf in
+    touches_both before now after c.args.file.now c.args.events.now c.fetched.ensures.only c.answer_events-status.ensures.only
 
 pub returns-clause-ended : goal.returns-clause-ended
 returns-clause-ended g c = λ words form.
