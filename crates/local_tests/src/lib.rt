@@ -6,8 +6,6 @@
 #[cfg(test)]
 mod agreement;
 #[cfg(test)]
-mod chance;
-#[cfg(test)]
 mod files;
 #[cfg(test)]
 mod judged;

@@ -1,6 +1,6 @@
 //! Sources with one protocol each, made from numbers.
 
-use crate::chance::Chance;
+use chance::Chance;
 use chor_base::{put_bytes, put_number};
 use std::alloc::Global;
 use std::test::Fail;

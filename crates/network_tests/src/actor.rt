@@ -144,9 +144,10 @@ impl<'a> Actor<'a> {
         let Head::Local = self.machine.head(endpoints) else {
             return Ok(None);
         };
-        let hosts = functions(self.alloc)?;
         self.machine.reserve(endpoints)?;
+        let hosts = functions(self.alloc)?;
         let event = self.machine.local_step(endpoints, &hosts);
+        drop(hosts);
         Ok(Some(event))
     }
 
@@ -156,6 +157,8 @@ impl<'a> Actor<'a> {
             return Ok(false);
         };
         let hosts = functions(self.alloc)?;
-        Ok(self.machine.may(self.endpoints, &hosts, event))
+        let may = self.machine.may(self.endpoints, &hosts, event);
+        drop(hosts);
+        Ok(may)
     }
 }

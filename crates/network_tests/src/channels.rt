@@ -1,8 +1,8 @@
 //! The channels of a script: two with two roles, one with three where there are three processes, and then
 //! those that have a name here.
 
-use crate::chance::Chance;
 use crate::script::{Line, Service};
+use chance::Chance;
 use std::alloc::Global;
 use std::test::Fail;
 

@@ -1,11 +1,11 @@
 //! What a process is to do, one thing after the other.
 
 use crate::actor::Actor;
-use crate::programs::lines;
 use chor_base::{Entry, Event, Load, Value};
 use endpoint_machine::Head;
 use std::process::Abort;
 use std::test::Fail;
+use test_programs::lines;
 
 /// What is sent, with names as they are written.
 #[derive(Clone, Copy)]
@@ -90,7 +90,7 @@ impl<'a> Actor<'a> {
         if let Some(event) = self.act()? {
             history.push(Entry { worker: 0, event })?;
         }
-        lines(self.alloc, self.endpoints, history.as_slice())
+        Ok(lines(self.alloc, self.endpoints, history.as_slice())?)
     }
 
     fn stands(&self, rt: &impl Abort, next: Next) -> bool {

@@ -6,13 +6,13 @@ ghost use Rattle.endpoint_code.specs.Faults.{IsFaultlessWith};
 ghost use Rattle.network_tests.specs.Known.{known};
 
 use crate::making::{Wish, make};
-use crate::programs::{functions, read};
-use crate::scheduled::is_same;
+use crate::programs::read;
+use crate::scheduled::{is_same, run};
 use crate::script::{Last, Promise, Script};
 use crate::script_text::text_of;
 use crate::tally::Tally;
 use endpoint_code::Endpoints;
-use endpoint_runs::{Closed, Ran, run_endpoints};
+use endpoint_runs::{Closed, Ran};
 use std::alloc::Global;
 use std::process::Abort;
 use std::test::Fail;
@@ -127,17 +127,6 @@ fn is_promised(promise: Promise, closed: Closed) -> bool {
     }
 }
 
-// The run of programs with a seed, which is the one that is made step by step.
-fn run(rt: &impl Abort, alloc: Global, endpoints: &Endpoints, seed: u32) -> Result<Ran, Fail>
-    requires { IsFaultlessWith (names_of known) endpoints.now }
-{
-    let hosts = functions(alloc)?;
-    let ran = run_endpoints(alloc, endpoints, &hosts, u64::from(seed), u64::from(STEPS))?;
-    let is_alike = is_same(rt, alloc, endpoints, &ran, (seed, STEPS))?;
-    assert!(rt; is_alike, "with seed {seed}");
-    Ok(ran)
-}
-
 // Whether a run is what its script promises.
 fn keeps(
     alloc: Global,
@@ -157,6 +146,30 @@ fn keeps(
     Ok(is_promised(script.promise(), ran.closed))
 }
 
+// Whether the run with a seed is what its script promises, and the one that is made step by step.
+fn is_as_promised(
+    rt: &impl Abort,
+    alloc: Global,
+    endpoints: &Endpoints,
+    promised: (&Script, u32),
+    totals: &mut Totals,
+) -> Result<bool, Fail>
+    requires { IsFaultlessWith (names_of known) endpoints.now }
+{
+    let (script, seed) = promised;
+    let ran = run(alloc, endpoints, seed, STEPS)?;
+    let is_alike = match is_same(rt, alloc, endpoints, &ran, (seed, STEPS)) {
+        Ok(is_alike) => is_alike,
+        Err(fail) => {
+            drop(ran);
+            return Err(fail);
+        }
+    };
+    let is_kept = keeps(alloc, endpoints, script, &ran, totals);
+    drop(ran);
+    Ok(is_kept? && is_alike)
+}
+
 fn agree(
     rt: &impl Abort,
     alloc: Global,
@@ -167,11 +180,24 @@ fn agree(
     requires { IsFaultlessWith (names_of known) endpoints.now }
 {
     for seed in SEEDS {
-        let ran = run(rt, alloc, endpoints, seed)?;
-        let is_kept = keeps(alloc, endpoints, script, &ran, totals)?;
+        let is_kept = is_as_promised(rt, alloc, endpoints, (script, seed), totals)?;
         assert!(rt; is_kept, "with seed {seed}");
     }
     Ok(())
+}
+
+// The same of the programs of a script.
+fn agree_with(
+    rt: &impl Abort,
+    alloc: Global,
+    script: &Script,
+    totals: &mut Totals,
+) -> Result<(), Fail> {
+    let text = text_of(alloc, script)?;
+    let endpoints = read(rt, alloc, text.as_slice())?;
+    let agreed = agree(rt, alloc, &endpoints, script, totals);
+    drop(endpoints);
+    agreed
 }
 
 fn agree_on(
@@ -181,9 +207,9 @@ fn agree_on(
     totals: &mut Totals,
 ) -> Result<(), Fail> {
     let script = make(alloc, wish_of(number))?;
-    let text = text_of(alloc, &script)?;
-    let endpoints = read(rt, alloc, text.as_slice())?;
-    agree(rt, alloc, &endpoints, &script, totals)
+    let agreed = agree_with(rt, alloc, &script, totals);
+    drop(script);
+    agreed
 }
 
 // Of 12 numbers the runs are promised to end, with 16 seeds each. Of these 6 begin with several that join in

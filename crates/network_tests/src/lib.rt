@@ -7,8 +7,6 @@ mod actor;
 #[cfg(test)]
 mod actors;
 #[cfg(test)]
-mod chance;
-#[cfg(test)]
 mod channels;
 #[cfg(test)]
 mod deeds;
@@ -20,6 +18,14 @@ mod making;
 mod orders;
 #[cfg(test)]
 mod pen;
+#[cfg(test)]
+mod plain;
+#[cfg(test)]
+mod plain_acts;
+#[cfg(test)]
+mod plain_places;
+#[cfg(test)]
+mod plain_values;
 #[cfg(test)]
 mod programs;
 #[cfg(test)]

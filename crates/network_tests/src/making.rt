@@ -1,9 +1,9 @@
 //! Scripts that are made from numbers.
 
-use crate::chance::{Chance, circle};
 use crate::channels::{BOTH, CROWDED, SERVED, lines_of};
 use crate::script::{Alone, Last, Line, Scene, Script, Seat, Service};
 use crate::seats::Seats;
+use chance::{Chance, circle};
 use std::alloc::Global;
 use std::test::Fail;
 

@@ -4,14 +4,17 @@ ghost use Rattle.chor_host.specs.Functions.{names_of};
 ghost use Rattle.endpoint_code.specs.Faults.{IsFaultlessWith};
 ghost use Rattle.network_tests.specs.Known.{known};
 
-use crate::chance::circle;
 use crate::making::{Wish, make};
+use crate::plain::Plain;
 use crate::programs::read;
-use crate::scheduled::{are_told, goes_on};
+use crate::scheduled::{is_plain, is_stepped};
 use crate::script::Last;
 use crate::script_text::text_of;
 use crate::steps::Steps;
+use chance::circle;
+use chor_base::Entry;
 use endpoint_code::Endpoints;
+use endpoint_runs::Closed;
 use std::alloc::Global;
 use std::process::Abort;
 use std::test::Fail;
@@ -42,18 +45,20 @@ fn wish_of(number: usize) -> Wish {
     }
 }
 
-// The network after one event of each of these processes.
-fn network_at<'a>(
+// Whether a process can step and counts for the pick rule after one event of each of these processes.
+fn counts_after(
     rt: &impl Abort,
     alloc: Global,
-    endpoints: &'a Endpoints,
+    endpoints: &Endpoints,
     way: &[u32],
-) -> Result<Steps<'a>, Fail>
+    pid: u32,
+) -> Result<bool, Fail>
     requires { IsFaultlessWith (names_of known) endpoints.now }
 {
     let mut network = Steps::new(rt, alloc, endpoints)?;
-    network.follow(rt, way)?;
-    Ok(network)
+    let counts = network.counts_after(rt, way, pid);
+    drop(network);
+    counts
 }
 
 // The processes that the pick rule may take there, in order.
@@ -67,7 +72,7 @@ fn counted(
 {
     let mut pids = Vec::new(alloc);
     for pid in 0..4 {
-        if network_at(rt, alloc, endpoints, way)?.counts(rt, pid)? {
+        if counts_after(rt, alloc, endpoints, way, pid)? {
             pids.push(pid)?;
         }
     }
@@ -83,23 +88,111 @@ fn taken(pids: &[u32], seed: u32, events: usize) -> Option<u32> {
     }
 }
 
-// Whether the pick rule takes the process that it is to take, with this seed, and a run goes on from
-// there as it does step by step.
-fn is_picked(
+// One event of each of some processes, and then the process that the pick rule is to take with a seed.
+#[derive(Clone, Copy)]
+struct Turn<'a> {
+    way: &'a [u32],
+    seed: u32,
+    pid: Option<u32>,
+}
+
+// The run that goes on there by counts.
+fn run_after(
     rt: &impl Abort,
     alloc: Global,
     endpoints: &Endpoints,
-    way: &[u32],
-    picked: (u32, Option<u32>),
+    turn: Turn<'_>,
+) -> Result<(Closed, Vec<Entry>), Fail>
+    requires { IsFaultlessWith (names_of known) endpoints.now }
+{
+    let mut network = Steps::new(rt, alloc, endpoints)?;
+    match network.follow(rt, turn.way) {
+        Ok(()) => network.finish(rt, turn.seed, MORE),
+        Err(fail) => {
+            drop(network);
+            Err(fail)
+        }
+    }
+}
+
+// Whether the pick rule takes the process that it is to take, and a run goes on so step by step.
+fn steps_go(
+    rt: &impl Abort,
+    steps: &mut Steps<'_>,
+    turn: Turn<'_>,
+    ran: (Closed, &[Entry]),
+) -> Result<bool, Fail> {
+    steps.follow(rt, turn.way)?;
+    if steps.pick(turn.seed) != turn.pid {
+        return Ok(false);
+    }
+    is_stepped(rt, steps, (turn.seed, MORE), ran)
+}
+
+fn are_steps(
+    rt: &impl Abort,
+    alloc: Global,
+    endpoints: &Endpoints,
+    turn: Turn<'_>,
+    ran: (Closed, &[Entry]),
 ) -> Result<bool, Fail>
     requires { IsFaultlessWith (names_of known) endpoints.now }
 {
-    let (seed, pid) = picked;
-    let mut plain = network_at(rt, alloc, endpoints, way)?;
-    let is_taken = plain.pick(seed) == pid;
-    let (closed, history) = network_at(rt, alloc, endpoints, way)?.finish(rt, seed, MORE)?;
-    let is_run = goes_on(rt, &mut plain, (seed, MORE), closed)?;
-    Ok(is_taken && is_run && are_told(alloc, endpoints, &plain, history.as_slice())?)
+    let mut steps = Steps::new(rt, alloc, endpoints)?;
+    let is_so = steps_go(rt, &mut steps, turn, ran);
+    drop(steps);
+    is_so
+}
+
+// Whether a plain network goes on so.
+fn plain_goes(
+    rt: &impl Abort,
+    plain: &mut Plain<'_>,
+    turn: Turn<'_>,
+    ran: (Closed, &[Entry]),
+) -> Result<bool, Fail> {
+    plain.follow(rt, turn.way)?;
+    is_plain(rt, plain, (turn.seed, MORE), ran)
+}
+
+fn are_plain(
+    rt: &impl Abort,
+    alloc: Global,
+    endpoints: &Endpoints,
+    turn: Turn<'_>,
+    ran: (Closed, &[Entry]),
+) -> Result<bool, Fail> {
+    let mut plain = Plain::new(alloc, endpoints)?;
+    let is_so = plain_goes(rt, &mut plain, turn, ran);
+    drop(plain);
+    is_so
+}
+
+// Whether a run goes on there as it does step by step, and as in a plain network.
+fn goes_on_alike(
+    rt: &impl Abort,
+    alloc: Global,
+    endpoints: &Endpoints,
+    turn: Turn<'_>,
+) -> Result<bool, Fail>
+    requires { IsFaultlessWith (names_of known) endpoints.now }
+{
+    let (closed, history) = run_after(rt, alloc, endpoints, turn)?;
+    let is_so = are_both(rt, alloc, endpoints, turn, (closed, history.as_slice()));
+    drop(history);
+    is_so
+}
+
+fn are_both(
+    rt: &impl Abort,
+    alloc: Global,
+    endpoints: &Endpoints,
+    turn: Turn<'_>,
+    ran: (Closed, &[Entry]),
+) -> Result<bool, Fail>
+    requires { IsFaultlessWith (names_of known) endpoints.now }
+{
+    Ok(are_steps(rt, alloc, endpoints, turn, ran)? && are_plain(rt, alloc, endpoints, turn, ran)?)
 }
 
 // One state: each place among the processes that can step is taken by some seed.
@@ -114,8 +207,9 @@ fn look(
     let pids = counted(rt, alloc, endpoints, way)?;
     for seed in 0..=3 {
         let pid = taken(pids.as_slice(), seed, way.len());
-        let is_so = is_picked(rt, alloc, endpoints, way, (seed, pid))?;
-        assert!(rt; is_so, "after {way:?} with seed {seed}");
+        let turn = Turn { way, seed, pid };
+        let is_alike = goes_on_alike(rt, alloc, endpoints, turn)?;
+        assert!(rt; is_alike, "after {way:?} with seed {seed}");
     }
     Ok(pids)
 }
@@ -172,17 +266,32 @@ fn may_begin(front: usize, pids: &[u32]) -> bool {
     }
 }
 
+// All orders of the programs of a script that begins so.
+fn order_of(rt: &impl Abort, alloc: Global, endpoints: &Endpoints, front: usize) -> Result<(), Fail>
+    requires { IsFaultlessWith (names_of known) endpoints.now }
+{
+    let pids = counted(rt, alloc, endpoints, &[])?;
+    assert!(rt;
+        may_begin(front, pids.as_slice()),
+        "of those that begin so: {front}"
+    );
+    go_through(rt, alloc, endpoints)
+}
+
+fn text_made(alloc: Global, wish: Wish) -> Result<Vec<u8>, Fail> {
+    let script = make(alloc, wish)?;
+    let text = text_of(alloc, &script);
+    drop(script);
+    text
+}
+
 fn order(rt: &impl Abort, alloc: Global, number: usize) -> Result<(), Fail> {
     let wish = wish_of(number);
-    let script = make(alloc, wish)?;
-    let text = text_of(alloc, &script)?;
+    let text = text_made(alloc, wish)?;
     let endpoints = read(rt, alloc, text.as_slice())?;
-    let pids = counted(rt, alloc, &endpoints, &[])?;
-    assert!(rt;
-        may_begin(wish.front, pids.as_slice()),
-        "in network {number}"
-    );
-    go_through(rt, alloc, &endpoints)
+    let ordered = order_of(rt, alloc, &endpoints, wish.front);
+    drop(endpoints);
+    ordered
 }
 
 #[test]

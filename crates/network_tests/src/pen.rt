@@ -1,7 +1,7 @@
 //! The code of one process of a script, as text.
 
-use crate::chance::{Chance, circle};
 use crate::script::{Alone, Scene, Script, Seat};
+use chance::{Chance, circle};
 use chor_base::{put_bytes, put_number};
 use std::alloc::Global;
 use std::test::Fail;

@@ -1,11 +1,12 @@
 //! Scheduled runs, by counts and by the program that defines them: `pick`, and then `step`.
 
-ghost use Rattle.std.specs.Prelude.{◌<◌};
+ghost use Rattle.std.specs.Prelude.{◌≤◌, ◌<◌};
 ghost use Rattle.chor_host.specs.Functions.{names_of};
 ghost use Rattle.endpoint_code.specs.Faults.{IsFaultlessWith};
 ghost use Rattle.network_tests.specs.Known.{known};
 
-use crate::programs::{functions, lines, read};
+use crate::plain::Plain;
+use crate::programs::{functions, read};
 use crate::steps::Steps;
 use chor_base::Entry;
 use endpoint_code::Endpoints;
@@ -13,12 +14,14 @@ use endpoint_runs::{Closed, Ran, run_endpoints};
 use std::alloc::Global;
 use std::process::Abort;
 use std::test::Fail;
+use test_programs::lines;
 use worked::endpoints::{ALONE, EXAMPLES, LABELS, NOTHING, WRONG_LABEL};
 
 // How many events a run has at most.
 const STEPS: u32 = 120;
 
-/// Whether a run by counts is the one that is made step by step, with this seed and at most so many events.
+/// Whether a run by counts is the one that is made step by step, and the one of a plain network, with this seed and at most
+/// so many events.
 pub fn is_same(
     rt: &impl Abort,
     alloc: Global,
@@ -28,14 +31,69 @@ pub fn is_same(
 ) -> Result<bool, Fail>
     requires { IsFaultlessWith (names_of known) endpoints.now }
 {
-    let mut plain = Steps::new(rt, alloc, endpoints)?;
-    let is_run = goes_on(rt, &mut plain, asked, ran.closed)?;
-    Ok(is_run && are_told(alloc, endpoints, &plain, ran.history.as_slice())?)
+    let told = (ran.closed, ran.history.as_slice());
+    Ok(
+        steps_go(rt, alloc, endpoints, asked, told)?
+            && plain_goes(rt, alloc, endpoints, asked, told)?,
+    )
 }
 
-/// Lets a network go on step by step, with this seed and for at most so many events, and says whether that is
-/// closed so.
-pub fn goes_on(
+fn steps_go(
+    rt: &impl Abort,
+    alloc: Global,
+    endpoints: &Endpoints,
+    asked: (u32, u32),
+    ran: (Closed, &[Entry]),
+) -> Result<bool, Fail>
+    requires { IsFaultlessWith (names_of known) endpoints.now }
+{
+    let mut steps = Steps::new(rt, alloc, endpoints)?;
+    let is_stepped = is_stepped(rt, &mut steps, asked, ran);
+    drop(steps);
+    is_stepped
+}
+
+fn plain_goes(
+    rt: &impl Abort,
+    alloc: Global,
+    endpoints: &Endpoints,
+    asked: (u32, u32),
+    ran: (Closed, &[Entry]),
+) -> Result<bool, Fail> {
+    let mut plain = Plain::new(alloc, endpoints)?;
+    let is_plain = is_plain(rt, &mut plain, asked, ran);
+    drop(plain);
+    is_plain
+}
+
+/// Whether a network goes on so step by step with a seed and for at most so many events, by how that is closed and by all
+/// its events.
+pub fn is_stepped(
+    rt: &impl Abort,
+    steps: &mut Steps<'_>,
+    asked: (u32, u32),
+    ran: (Closed, &[Entry]),
+) -> Result<bool, Fail> {
+    let (closed, history) = ran;
+    Ok(goes_on(rt, steps, asked, closed)? && are_told(steps, history)?)
+}
+
+/// The same of a plain network.
+pub fn is_plain(
+    rt: &impl Abort,
+    plain: &mut Plain<'_>,
+    asked: (u32, u32),
+    ran: (Closed, &[Entry]),
+) -> Result<bool, Fail> {
+    let (closed, history) = ran;
+    let is_closed = plain.run(rt, asked.0, asked.1)? == closed;
+    let told = lines(plain.alloc, plain.endpoints, history)?;
+    Ok(is_closed && told.as_slice() == plain.text())
+}
+
+// Lets a network go on step by step, with this seed and for at most so many events, and says whether that is
+// closed so.
+fn goes_on(
     rt: &impl Abort,
     plain: &mut Steps<'_>,
     asked: (u32, u32),
@@ -48,16 +106,22 @@ pub fn goes_on(
     }
 }
 
-/// Whether these are the events of a network that was made step by step.
-pub fn are_told(
-    alloc: Global,
-    endpoints: &Endpoints,
-    plain: &Steps<'_>,
-    history: &[Entry],
-) -> Result<bool, Fail> {
-    let want = lines(alloc, endpoints, plain.history())?;
-    let told = lines(alloc, endpoints, history)?;
+// Whether these are the events of a network that was made step by step.
+fn are_told(steps: &Steps<'_>, history: &[Entry]) -> Result<bool, Fail> {
+    let want = lines(steps.alloc, steps.endpoints, steps.history())?;
+    let told = lines(steps.alloc, steps.endpoints, history)?;
     Ok(told.as_slice() == want.as_slice())
+}
+
+/// The run of programs with a seed, and with at most so many events.
+pub fn run(alloc: Global, endpoints: &Endpoints, seed: u32, steps: u32) -> Result<Ran, Fail>
+    requires faultless { IsFaultlessWith (names_of known) endpoints.now }
+    requires few { steps ≤ 1000000 }
+{
+    let hosts = functions(alloc)?;
+    let ran = run_endpoints(alloc, endpoints, &hosts, u64::from(seed), u64::from(steps));
+    drop(hosts);
+    Ok(ran?)
 }
 
 fn runs_alike(
@@ -68,9 +132,10 @@ fn runs_alike(
 ) -> Result<bool, Fail>
     requires { IsFaultlessWith (names_of known) endpoints.now }
 {
-    let hosts = functions(alloc)?;
-    let ran = run_endpoints(alloc, endpoints, &hosts, u64::from(seed), u64::from(STEPS))?;
-    is_same(rt, alloc, endpoints, &ran, (seed, STEPS))
+    let ran = run(alloc, endpoints, seed, STEPS)?;
+    let is_same = is_same(rt, alloc, endpoints, &ran, (seed, STEPS));
+    drop(ran);
+    is_same
 }
 
 fn agree_on(rt: &impl Abort, alloc: Global, endpoints: &Endpoints) -> Result<(), Fail>
@@ -85,7 +150,9 @@ fn agree_on(rt: &impl Abort, alloc: Global, endpoints: &Endpoints) -> Result<(),
 
 fn agree(rt: &impl Abort, alloc: Global, text: &[u8]) -> Result<(), Fail> {
     let endpoints = read(rt, alloc, text)?;
-    agree_on(rt, alloc, &endpoints)
+    let agreed = agree_on(rt, alloc, &endpoints);
+    drop(endpoints);
+    agreed
 }
 
 #[test]

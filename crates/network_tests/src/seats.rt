@@ -1,7 +1,7 @@
 //! Who sits where in a script, at some time.
 
-use crate::chance::circle;
 use crate::script::Seat;
+use chance::circle;
 use std::alloc::Global;
 use std::test::Fail;
 

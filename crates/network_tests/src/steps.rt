@@ -18,8 +18,8 @@ use std::test::Fail;
 /// A network of some programs, with so many steps left. Contracts see the network.
 #[derive(Drop)]
 pub struct Steps<'a> {
-    alloc: Global,
-    endpoints: &'a Endpoints,
+    pub(crate) alloc: Global,
+    pub(crate) endpoints: &'a Endpoints,
     network: Network<'a>,
     left: u32,
 }
@@ -106,6 +106,7 @@ impl<'a> Steps<'a> {
         }
         let hosts = functions(self.alloc)?;
         let step = self.network.step(pid, &hosts);
+        drop(hosts);
         self.left -= 1;
         Ok(step)
     }
@@ -142,9 +143,10 @@ impl<'a> Steps<'a> {
         Ok(())
     }
 
-    /// Whether a process of the beginning can step and counts for the pick rule: where it joins, it does so
-    /// in its channel's first active role. To find that out it makes its step.
-    pub fn counts(&mut self, rt: &impl Abort, pid: u32) -> Result<bool, Fail> {
+    /// Whether a process of the beginning can step and counts for the pick rule after one event of each of these: where it
+    /// joins, it does so in its channel's first active role. To find that out it makes its step.
+    pub fn counts_after(&mut self, rt: &impl Abort, way: &[u32], pid: u32) -> Result<bool, Fail> {
+        self.follow(rt, way)?;
         Ok(self.step(rt, pid)? == Step::Did && self.leads(pid))
     }
 
@@ -177,8 +179,15 @@ impl<'a> Steps<'a> {
         if more > left || before > 1_000 || more > 1_000 {
             panic!(rt; "too many steps");
         }
-        let hosts = functions(alloc)?;
+        let hosts = match functions(alloc) {
+            Ok(hosts) => hosts,
+            Err(fail) => {
+                drop(network);
+                return Err(fail);
+            }
+        };
         let picked = network.run_picked(&hosts, u64::from(seed), before + u64::from(more));
+        drop(hosts);
         let closed = closed_by(rt, picked);
         Ok((closed, network.into_history()))
     }

@@ -1,22 +1,19 @@
 //! Offices that are told the events of scheduled runs.
 
-ghost use Rattle.std.specs.Prelude.{IfOk, OnOk};
 ghost use Rattle.chor_host.specs.Functions.{names_of};
 ghost use Rattle.chor_host.specs.Tables.{functions_of};
-ghost use Rattle.endpoint_code.specs.Faults.{IsFaultlessWith, AsksKnown, is_listed};
+ghost use Rattle.endpoint_code.specs.Faults.{IsFaultlessWith};
 
-use chor_base::{Entry, Event, HostOp, List, Load, Meaning, NameId, Value, Word};
+use chor_base::{Entry, Event, HostOp, Load, Meaning, NameId, Value, Word};
 use chor_host::{HostFn, HostTable, host_max};
-use endpoint_check::read_programs;
 use endpoint_code::Endpoints;
 use endpoint_runs::run_endpoints;
-use known_functions::{asks_known, host_names};
 use office_runs::office_of;
 use post_office::Office;
 use std::alloc::Global;
 use std::process::Abort;
 use std::test::Fail;
-use transcript::{Book, print_events};
+use test_programs::{lines, read};
 use worked::endpoints::{EXAMPLES, HELLO};
 
 // How many events a run has at most.
@@ -46,22 +43,6 @@ fn events_of(alloc: Global, entries: &[Entry]) -> Result<Vec<Event>, Fail> {
     Ok(events)
 }
 
-// The lines of entries.
-fn lines_of(alloc: Global, endpoints: &Endpoints, entries: &[Entry]) -> Result<Vec<u8>, Fail> {
-    let mut processes = List::new(alloc);
-    for process in endpoints.processes.as_slice() {
-        processes.push(process.name)?;
-    }
-    let book = Book {
-        names: &endpoints.names,
-        texts: &endpoints.texts,
-        processes: &processes,
-    };
-    let mut out = Vec::new(alloc);
-    print_events(alloc, entries, &book, &mut out)?;
-    Ok(out)
-}
-
 // What stands in an office of a run's first events: whether its history is these, and of its first
 // session what A has sent B first, whether that queue is full, and the start that the first process has
 // to take over.
@@ -80,8 +61,8 @@ fn seen_in(
     office: &Office<'_>,
     entries: &[Entry],
 ) -> Result<Found, Fail> {
-    let told = lines_of(alloc, endpoints, office.history())?;
-    let want = lines_of(alloc, endpoints, entries)?;
+    let told = lines(alloc, endpoints, office.history())?;
+    let want = lines(alloc, endpoints, entries)?;
     let from = endpoints.names.find(b"A").unwrap_or(NameId(0));
     let to = endpoints.names.find(b"B").unwrap_or(NameId(0));
     Ok(Found {
@@ -90,35 +71,6 @@ fn seen_in(
         is_full: office.full(0, from, to),
         joined: office.joined(0),
     })
-}
-
-// The programs that a text is of.
-fn read(rt: &impl Abort, alloc: Global, text: &[u8], hosts: &HostTable) -> Result<Endpoints, Fail>
-    ensures { IfOk result (IsFaultlessWith (names_of (functions_of hosts.now))) }
-{
-    endpoint_laws::made_is_faultless();
-    if text.len() > 16_777_216 {
-        panic!(rt; "too long");
-    }
-    let endpoints = read_programs(alloc, text, hosts)?;
-    judge(rt, alloc, &endpoints, hosts)?;
-    Ok(endpoints)
-}
-
-// Programs that ask no other host functions.
-fn judge(
-    rt: &impl Abort,
-    alloc: Global,
-    endpoints: &Endpoints,
-    hosts: &HostTable,
-) -> Result<(), Fail>
-    ensures { OnOk result (AsksKnown (is_listed (names_of (functions_of hosts.now)) endpoints.now) endpoints.now) }
-{
-    let known = host_names(alloc, hosts)?;
-    if !asks_known(endpoints, known.as_slice()) {
-        panic!(rt; "it asks a host function that isn't known");
-    }
-    Ok(())
 }
 
 // Which office is looked at: of how many events of the run with which seed, with queues of which capacity.
@@ -140,21 +92,53 @@ fn told(
     requires { IsFaultlessWith (names_of (functions_of hosts.now)) endpoints.now }
 {
     let events = events_of(alloc, entries)?;
-    match office_of(alloc, endpoints, hosts, capacity, events.as_slice())? {
-        Some(office) => Ok(Some(seen_in(alloc, endpoints, &office, entries)?)),
-        None => Ok(None),
-    }
+    let Some(office) = office_of(alloc, endpoints, hosts, capacity, events.as_slice())? else {
+        return Ok(None);
+    };
+    let found = seen_in(alloc, endpoints, &office, entries);
+    drop(office);
+    Ok(Some(found?))
 }
 
 // The office of the first events of a run of these programs: of all of its events, where there are
 // fewer.
-fn look(rt: &impl Abort, alloc: Global, text: &[u8], asked: Asked) -> Result<Option<Found>, Fail> {
-    let hosts = functions(alloc)?;
-    let endpoints = read(rt, alloc, text, &hosts)?;
-    let ran = run_endpoints(alloc, &endpoints, &hosts, u64::from(asked.seed), STEPS)?;
+fn look_at(
+    alloc: Global,
+    endpoints: &Endpoints,
+    hosts: &HostTable,
+    asked: Asked,
+) -> Result<Option<Found>, Fail>
+    requires { IsFaultlessWith (names_of (functions_of hosts.now)) endpoints.now }
+{
+    let ran = run_endpoints(alloc, endpoints, hosts, u64::from(asked.seed), STEPS)?;
     let history = ran.history.as_slice();
     let entries = &history[..asked.count.min(history.len())];
-    told(alloc, &endpoints, &hosts, asked.capacity, entries)
+    let found = told(alloc, endpoints, hosts, asked.capacity, entries);
+    drop(ran);
+    found
+}
+
+// The same of programs that are read, with these host functions.
+fn look_with(
+    rt: &impl Abort,
+    alloc: Global,
+    text: &[u8],
+    hosts: &HostTable,
+    asked: Asked,
+) -> Result<Option<Found>, Fail> {
+    let Some(endpoints) = read(alloc, text, hosts)? else {
+        panic!(rt; "it is too long, or asks other host functions");
+    };
+    let found = look_at(alloc, &endpoints, hosts, asked);
+    drop(endpoints);
+    found
+}
+
+fn look(rt: &impl Abort, alloc: Global, text: &[u8], asked: Asked) -> Result<Option<Found>, Fail> {
+    let hosts = functions(alloc)?;
+    let found = look_with(rt, alloc, text, &hosts, asked);
+    drop(hosts);
+    found
 }
 
 #[test]

@@ -1,4 +1,5 @@
-//! Numbers that follow from a first one, and look as if they came by chance.
+//! Numbers for tests that follow from a first one, and look as if they came by chance.
+#![tactic(auto)]
 
 /// A sequence of numbers: each is worked out from the one before it.
 #[derive(Clone, Copy)]
