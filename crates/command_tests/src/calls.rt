@@ -59,22 +59,26 @@ fn file_of(alloc: Global, name: &[u8], bytes: &[u8]) -> anyhow::Result<(Word, Wo
     ))
 }
 
+// The files of a source.
+fn files_of(alloc: Global, source: &[u8]) -> anyhow::Result<List<(Word, Word)>> {
+    let file = file_of(alloc, b"FILE".as_slice(), source)?;
+    let mut files = List::new(alloc);
+    files.push(file)?;
+    Ok(files)
+}
+
 // A shelf with one file.
 fn shelf_of(alloc: Global, source: &[u8]) -> anyhow::Result<MemoryShelf> {
-    let mut files = List::new(alloc);
-    files.push(file_of(alloc, b"FILE".as_slice(), source)?)?;
+    let files = files_of(alloc, source)?;
     Ok(MemoryShelf::new(alloc, files, List::new(alloc)))
 }
 
 // A shelf with a source and a file of events.
 fn shelf_of_replay(alloc: Global, replay: &Replay<'_>) -> anyhow::Result<MemoryShelf> {
-    let mut files = List::new(alloc);
-    files.push(file_of(alloc, b"FILE".as_slice(), replay.call.source)?)?;
-    files.push(file_of(alloc, b"EVENTS".as_slice(), replay.events)?)?;
-    let mut fails = List::new(alloc);
-    for number in replay.fails {
-        fails.push(*number)?;
-    }
+    let fails = List::from_slice(alloc, replay.fails)?;
+    let events = file_of(alloc, b"EVENTS".as_slice(), replay.events)?;
+    let mut files = files_of(alloc, replay.call.source)?;
+    files.push(events)?;
     Ok(MemoryShelf::new(alloc, files, fails))
 }
 
@@ -141,14 +145,45 @@ fn answer_on(
     mut shelf: MemoryShelf,
     room: u32,
 ) -> anyhow::Result<()> {
+    let put = put_to(rt, alloc, call, &mut shelf, room);
+    drop(shelf);
+    put
+}
+
+// The same with a sink of so much room.
+fn put_to(
+    rt: &impl Print,
+    alloc: Global,
+    call: Call<'_>,
+    shelf: &mut MemoryShelf,
+    room: u32,
+) -> anyhow::Result<()> {
+    let mut out = MemorySink::new(alloc, room, List::new(alloc))?;
+    let put = ask(rt, alloc, call, shelf, &mut out);
+    drop(out);
+    put
+}
+
+fn ask(
+    rt: &impl Print,
+    alloc: Global,
+    call: Call<'_>,
+    shelf: &mut MemoryShelf,
+    out: &mut MemorySink,
+) -> anyhow::Result<()> {
     let line = line_of(call.title);
     let (_, last) = line.split_once(" | ").unwrap_or(("", line));
     let words = words_of(alloc, last)?;
-    let mut out = MemorySink::new(alloc, room, List::new(alloc))?;
-    let status = chor(alloc, &words, call.hosts, &mut shelf, &mut out, &OpenGate);
-    println!(rt; "=== {}", call.title)?;
-    println!(rt; "status {}", status.number())?;
-    let text = str::from_utf8(out.bytes()).unwrap_or("(bytes that are no UTF-8)\n");
+    let status = chor(alloc, &words, call.hosts, shelf, out, &OpenGate);
+    drop(words);
+    tell(rt, call.title, status.number(), out.bytes())
+}
+
+// Writes a title, the number of a status and a text.
+fn tell(rt: &impl Print, title: &str, status: u8, bytes: &[u8]) -> anyhow::Result<()> {
+    println!(rt; "=== {title}")?;
+    println!(rt; "status {status}")?;
+    let text = str::from_utf8(bytes).unwrap_or("(bytes that are no UTF-8)\n");
     print!(rt; "{text}")?;
     if !text.is_empty() && !text.ends_with('\n') {
         println!(rt; "")?;

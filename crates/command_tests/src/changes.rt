@@ -3,30 +3,62 @@
 use anyhow::bail;
 use std::alloc::Global;
 
+// A text, and one part of it with another in its place.
+#[derive(Drop)]
+struct Change {
+    source: String,
+    old: String,
+    new: String,
+}
+
+impl Change {
+    // The new part stands in the place of the old one, and both are empty.
+    fn make(&mut self, alloc: Global) -> anyhow::Result<()> {
+        let (old, new) = (self.old.as_str(), self.new.as_str());
+        self.source = replaced(alloc, self.source.as_str(), old, new)?;
+        self.old.clear();
+        self.new.clear();
+        Ok(())
+    }
+
+    // A line of the old part or of the new one. A line of the old part after a new one begins the next change.
+    fn take(&mut self, alloc: Global, line: &str) -> anyhow::Result<()> {
+        if let Some(text) = line.strip_prefix("- ") {
+            if !self.new.is_empty() {
+                self.make(alloc)?;
+            }
+            return push_line(&mut self.old, text);
+        }
+        match line.strip_prefix("+ ") {
+            Some(text) => push_line(&mut self.new, text),
+            None => bail!("a line of a change begins with neither - nor +"),
+        }
+    }
+
+    fn take_all(&mut self, alloc: Global, lines: &str) -> anyhow::Result<()> {
+        for line in lines.lines() {
+            self.take(alloc, line)?;
+        }
+        if self.old.is_empty() {
+            return Ok(());
+        }
+        self.make(alloc)
+    }
+}
+
 /// The base after the changes that these lines say: lines with `- ` are the old text, and lines with `+ `
 /// after them the new one. An `Err` where an old text doesn't stand in it exactly once.
 pub fn changed(alloc: Global, base: &str, lines: &str) -> anyhow::Result<String> {
-    let mut source = String::from_str(alloc, base)?;
-    let mut old = String::new(alloc);
-    let mut new = String::new(alloc);
-    for line in lines.lines() {
-        if let Some(text) = line.strip_prefix("- ") {
-            if !new.is_empty() {
-                source = replaced(alloc, source.as_str(), old.as_str(), new.as_str())?;
-                old.clear();
-                new.clear();
-            }
-            push_line(&mut old, text)?;
-        } else if let Some(text) = line.strip_prefix("+ ") {
-            push_line(&mut new, text)?;
-        } else {
-            bail!("a line of a change begins with neither - nor +");
-        }
+    let mut change = Change {
+        source: String::from_str(alloc, base)?,
+        old: String::new(alloc),
+        new: String::new(alloc),
+    };
+    if let Err(error) = change.take_all(alloc, lines) {
+        drop(change);
+        return Err(error);
     }
-    if old.is_empty() {
-        return Ok(source);
-    }
-    replaced(alloc, source.as_str(), old.as_str(), new.as_str())
+    Ok(change.source)
 }
 
 // Puts a line after those that stand there.

@@ -18,7 +18,7 @@ use crate::hosts::host_names;
 use crate::made::answer_made;
 use crate::programs::answer_programs;
 use crate::replays::answer_replays;
-use chor_base::{HostOp, Meaning};
+use chor_base::{HostOp, Meaning, Memory};
 use chor_host::{HostFn, HostTable, host_gap, host_max, host_min};
 use std::fs;
 
@@ -33,19 +33,39 @@ mod replays;
 fn main(rt: HostRuntime) -> anyhow::Result<()> {
     let names = host_names(rt.alloc())?;
     let mut hosts = HostTable::new(rt.alloc());
-    hosts.add(HostFn::new(names.min, Meaning::Exact(HostOp::Min), host_min))?;
-    hosts.add(HostFn::new(names.max, Meaning::Exact(HostOp::Max), host_max))?;
-    hosts.add(HostFn::new(names.gap, Meaning::Exact(HostOp::Gap), host_gap))?;
-    let index = fs::read_to_string(&rt, "cases")?;
-    for name in index.lines() {
-        let text = fs::read_to_string(&rt, name)?;
-        println!(rt; "##### {name}")?;
-        answer_cases(&rt, rt.alloc(), &hosts, text.as_str())?;
-    }
+    let min = hosts.add(HostFn::new(names.min, Meaning::Exact(HostOp::Min), host_min));
+    let max = hosts.add(HostFn::new(names.max, Meaning::Exact(HostOp::Max), host_max));
+    let gap = hosts.add(HostFn::new(names.gap, Meaning::Exact(HostOp::Gap), host_gap));
+    let answered = if min.is_ok() && max.is_ok() && gap.is_ok() {
+        answer_all(&rt, &hosts)
+    } else {
+        Err(anyhow::Error::from(Memory))
+    };
+    drop(hosts);
+    answered
+}
+
+// The cases of the files that are listed, and what is made here.
+fn answer_all(rt: &HostRuntime, hosts: &HostTable) -> anyhow::Result<()> {
+    answer_listed(rt, hosts)?;
     println!(rt; "##### made")?;
-    answer_made(&rt, rt.alloc(), &hosts)?;
+    answer_made(rt, rt.alloc(), hosts)?;
     println!(rt; "##### programs")?;
-    answer_programs(&rt, rt.alloc(), &hosts)?;
+    answer_programs(rt, rt.alloc(), hosts)?;
     println!(rt; "##### replays")?;
-    answer_replays(&rt, rt.alloc(), &hosts)
+    answer_replays(rt, rt.alloc(), hosts)
+}
+
+fn answer_listed(rt: &HostRuntime, hosts: &HostTable) -> anyhow::Result<()> {
+    let index = fs::read_to_string(rt, "cases")?;
+    for name in index.lines() {
+        answer_file(rt, hosts, name)?;
+    }
+    Ok(())
+}
+
+fn answer_file(rt: &HostRuntime, hosts: &HostTable, name: &str) -> anyhow::Result<()> {
+    let text = fs::read_to_string(rt, name)?;
+    println!(rt; "##### {name}")?;
+    answer_cases(rt, rt.alloc(), hosts, text.as_str())
 }

@@ -1,15 +1,24 @@
 //! Which sources say the same.
 
 use crate::sources::read;
-use chor_tree::same;
+use chor_tree::{File, same};
 use std::alloc::Global;
 use std::test::Fail;
+
+// Whether a source says the same as a file.
+fn says_the_same(alloc: Global, file: &File, source: &[u8]) -> Result<bool, Fail> {
+    let other = read(alloc, source)?;
+    let is_same = same(file, &other);
+    drop(other);
+    Ok(is_same)
+}
 
 // Whether two sources say the same.
 fn say_the_same(alloc: Global, source: &[u8], other: &[u8]) -> Result<bool, Fail> {
     let file = read(alloc, source)?;
-    let other_file = read(alloc, other)?;
-    Ok(same(&file, &other_file))
+    let is_same = says_the_same(alloc, &file, other);
+    drop(file);
+    is_same
 }
 
 // What a small file says, and others that differ in one thing.

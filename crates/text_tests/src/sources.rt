@@ -14,18 +14,31 @@ pub fn read(alloc: Global, source: &[u8]) -> Result<File, Denied> {
     let mut texts = Texts::new(alloc);
     let front = &source[..source.len().min(100_000)];
     let tokens = tokens(alloc, front, &mut names, &mut texts)?;
-    parse(alloc, &tokens, names, texts)
+    let file = parse(alloc, &tokens, names, texts);
+    drop(tokens);
+    file
+}
+
+// What a source is refused for, if it isn't taken.
+fn denied(alloc: Global, source: &[u8]) -> Option<Denied> {
+    match read(alloc, source) {
+        Ok(file) => {
+            drop(file);
+            None
+        }
+        Err(denied) => Some(denied),
+    }
 }
 
 // Whether a source is taken.
 fn is_taken(alloc: Global, source: &[u8]) -> bool {
-    read(alloc, source).is_ok()
+    denied(alloc, source).is_none()
 }
 
 // Whether a source of one line is refused for the token at a column, which can't be there.
 fn is_refused(alloc: Global, source: &[u8], col: u32) -> bool {
-    match read(alloc, source) {
-        Err(Denied::Refused(refusal)) => {
+    match denied(alloc, source) {
+        Some(Denied::Refused(refusal)) => {
             refusal.rule == Rule::P1 && refusal.place.line == 1 && refusal.place.col == col
         }
         _ => false,
@@ -34,8 +47,8 @@ fn is_refused(alloc: Global, source: &[u8], col: u32) -> bool {
 
 // Whether a source is refused by the rule of a token that can't be there, or for an open text.
 fn is_cut(alloc: Global, source: &[u8]) -> bool {
-    match read(alloc, source) {
-        Err(Denied::Refused(refusal)) => refusal.rule == Rule::P1 || refusal.rule == Rule::L2,
+    match denied(alloc, source) {
+        Some(Denied::Refused(refusal)) => refusal.rule == Rule::P1 || refusal.rule == Rule::L2,
         _ => false,
     }
 }

@@ -2,6 +2,7 @@
 
 use chor_base::{BinOp, Entry, Event, Expr, List, Memory, NameId, Value, Vars, eval};
 use std::alloc::Global;
+use std::process::Abort;
 use std::test::Fail;
 
 // Whether an event is the start of session 4 on channel 1 with one part.
@@ -16,27 +17,43 @@ fn is_that_start(event: &Event) -> bool {
     }
 }
 
-#[test]
-fn events_are_copied(rt: HostRuntime) -> Result<(), Fail> {
-    let alloc = rt.alloc();
+fn that_start(alloc: Global) -> Result<Event, Fail> {
     let mut parts = List::new(alloc);
     parts.push((NameId(2), 9))?;
-    let mut events = List::new(alloc);
-    events.push(Event::Start {
+    Ok(Event::Start {
         channel: NameId(1),
         sid: 4,
         parts,
-    })?;
-    let events = events.copy(alloc)?;
-    assert_eq!(rt; events.len(), 1);
+    })
+}
+
+// The same event, out of a copy of a list of it alone.
+fn event_copied(rt: &impl Abort, alloc: Global, event: Event) -> Result<Event, Fail> {
+    let mut events = List::new(alloc);
+    events.push(event)?;
+    let copied = events.copy(alloc)?;
+    drop(events);
+    assert_eq!(rt; copied.len(), 1);
+    let event = copied.at(0).copy(alloc)?;
+    Ok(event)
+}
+
+// The same entry, out of a copy of a list of it alone.
+fn entry_copied(rt: &impl Abort, alloc: Global, entry: Entry) -> Result<Entry, Fail> {
     let mut entries = List::new(alloc);
-    entries.push(Entry {
-        worker: 3,
-        event: events.at(0).copy(alloc)?,
-    })?;
-    let entries = entries.copy(alloc)?;
-    assert_eq!(rt; entries.len(), 1);
-    let entry = entries.at(0).copy(alloc)?;
+    entries.push(entry)?;
+    let copied = entries.copy(alloc)?;
+    drop(entries);
+    assert_eq!(rt; copied.len(), 1);
+    let entry = copied.at(0).copy(alloc)?;
+    Ok(entry)
+}
+
+#[test]
+fn events_are_copied(rt: HostRuntime) -> Result<(), Fail> {
+    let alloc = rt.alloc();
+    let event = event_copied(&rt, alloc, that_start(alloc)?)?;
+    let entry = entry_copied(&rt, alloc, Entry { worker: 3, event })?;
     assert_eq!(rt; entry.worker, 3);
     assert!(rt; is_that_start(&entry.event));
     Ok(())
