@@ -125,6 +125,26 @@ HasEnded functions words shelf shelf' sink sink' WriteFault =
 HasEnded functions words shelf shelf' sink sink' Memory = HasForm words × (sink'.written ≡ sink.written)
 HasEnded functions words shelf shelf' sink sink' status = (text : List ℕ) × Ends functions words shelf shelf' status text × Wrote sink.written sink'.written text
 
+-- Each call of which this is said, with its host functions, its words, and the shelf before and after it, has ended so
+abbrev pub EachEnds : (List Function → Words → ShelfState → ShelfState → Type 0) → SinkState → SinkState → Status → Type 0
+EachEnds Said sink sink' status =
+    (functions : List Function) (words : Words) (shelf shelf' : ShelfState) → Said functions words shelf shelf' → HasEnded functions words shelf shelf' sink sink' status
+
+-- the same of calls with words of a form
+abbrev pub EachFormEnds : (List Function → Words → ShelfState → ShelfState → Type 0) → SinkState → SinkState → Status → Type 0
+EachFormEnds Said sink sink' status =
+    (functions : List Function) (words : Words) (shelf shelf' : ShelfState) → HasForm words → Said functions words shelf shelf'
+    → HasEnded functions words shelf shelf' sink sink' status
+
+-- the same of calls with these host functions
+abbrev pub EachEndsWith : List Function → (Words → ShelfState → ShelfState → Type 0) → SinkState → SinkState → Status → Type 0
+EachEndsWith functions Said sink sink' status =
+    (words : Words) (shelf shelf' : ShelfState) → Said words shelf shelf' → HasEnded functions words shelf shelf' sink sink' status
+
+-- the same of calls with words of this form, with this shelf before and after them
+abbrev pub FormEnds : List Function → Command → List (List ℕ) → ShelfState → ShelfState → SinkState → SinkState → Status → Type 0
+FormEnds functions command names shelf shelf' sink sink' status = (words : Words) → IsForm words command names → HasEnded functions words shelf shelf' sink sink' status
+
 -- ---- which status comes
 
 -- A call ends with this status and has written such a text, or there was no memory, or a fetch of a file or a write failed,

@@ -1,6 +1,6 @@
 -- What came of a fetch (this project's own).
 use Rattle.std.specs.Prelude.{ℕ, ◌≡◌, ◌<◌, ◌≤◌, List, [], ◌∷◌, length, Contains}
-use Rattle.chor_io.specs.Outside.{Risen, ShelfState}
+use Rattle.chor_io.specs.Outside.{Risen, ShelfState, SinkState}
 use Rattle.chor_cmd.specs.declared.fetching.Unread.{Unread}
 use Rattle.chor_cmd.specs.declared.fetching.Unread.TheVariants.{Failed, TooLong, Memory}
 use Rattle.chor_tree.specs.declared.file.File.{File}
@@ -12,10 +12,11 @@ use Rattle.command_words.specs.declared.words.Command.TheVariants.{Replay}
 use Rattle.command_words.specs.Words.{IsForm}
 use Rattle.chor_base.specs.declared.rule.Denied.{Denied}
 use Rattle.chor_base.specs.declared.rule.Denied.TheVariants.{Refused, Memory as NoMemory}
+use Rattle.chor_cmd.specs.declared.status.Status.{Status}
 use Rattle.chor_cmd.specs.declared.status.Status.TheVariants as status
 use Rattle.chor_cmd.specs.declared.status.Status.TheVariants.{ReadFault, TooLarge}
 use Rattle.chor_cmd.specs.Outputs.{read_fault_line, too_large_line, refused_line}
-use Rattle.chor_cmd.specs.Endings.{MayTell, MayAsk, Ends}
+use Rattle.chor_cmd.specs.Endings.{MayTell, MayAsk, Ends, HasEnded, FormEnds}
 
 -- why the file of this name wasn't read: a fetch of it failed, and was counted; or it may have more bytes than so many
 abbrev pub IsUnread : List ℕ → ℕ → ShelfState → ShelfState → Unread → Type 0
@@ -45,6 +46,20 @@ pub record HasReadLog (functions : List Function) (words : Words) (before : Shel
   pub accepted : IsAccepted All (names_of functions) bytes f
 
 -- ---- how a call ends then
+
+-- each call for a replay of this source and this events file, with this shelf before and after it, has ended so
+abbrev pub ReplayEnds : List Function → List ℕ → List ℕ → ShelfState → ShelfState → SinkState → SinkState → Status → Type 0
+ReplayEnds functions file events shelf shelf' sink sink' status = FormEnds functions (Replay 1 2) (file ∷ events ∷ []) shelf shelf' sink sink' status
+
+-- each call that had read this source and then this shelf, and was to read this events file, has ended so
+abbrev pub EventsEnd : List Function → File → List ℕ → ShelfState → ShelfState → SinkState → SinkState → Status → Type 0
+EventsEnd functions f name now after sink sink' status =
+    (words : Words) (before : ShelfState) → HasReadSource functions words before now name f → HasEnded functions words before after sink sink' status
+
+-- each call that had read this source and this events file has ended so
+abbrev pub LogEnds : List Function → File → List ℕ → SinkState → SinkState → Status → Type 0
+LogEnds functions f log sink sink' status =
+    (words : Words) (before after : ShelfState) → HasReadLog functions words before f log → HasEnded functions words before after sink sink' status
 
 -- a call ends so for a file of this name that wasn't read
 abbrev pub EndsUnread : List Function → Words → ShelfState → ShelfState → List ℕ → Unread → Type 0

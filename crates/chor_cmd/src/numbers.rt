@@ -2,12 +2,10 @@
 
 ghost use Rattle.std.specs.Prelude.{◌≤◌, [], IfOk};
 ghost use Rattle.chor_host.specs.Tables.{functions_of};
-ghost use Rattle.chor_io.specs.Outside.{ShelfState};
-ghost use Rattle.command_words.specs.declared.words.Words.{Words as CommandWords};
 ghost use Rattle.command_words.specs.declared.words.Command.TheVariants.{Gen};
 ghost use Rattle.command_words.specs.Words.{IsForm};
 ghost use Rattle.chor_cmd.specs.Outputs.{IsGenerated};
-ghost use Rattle.chor_cmd.specs.Endings.{HasEnded};
+ghost use Rattle.chor_cmd.specs.Endings.{EachEndsWith};
 
 use crate::output::finish_line;
 use crate::status::Status;
@@ -27,7 +25,7 @@ pub fn answer_number<K: Sink>(
 ) -> Status
     requires some { 1 ≤ count }
     requires few { count ≤ 4000 }
-    ensures { (words : CommandWords) (before after : ShelfState) → IsForm words (Gen count whole) [] → HasEnded (functions_of hosts.now) words before after (K.state out.old) (K.state out.new) result }
+    ensures { EachEndsWith (functions_of hosts.now) (λ ws a b. IsForm ws (Gen count whole) []) (K.state out.old) (K.state out.new) result }
 {
     finish_line(out, generated(alloc, count, whole, hosts), Status::Done)
 }

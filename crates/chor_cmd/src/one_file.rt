@@ -1,15 +1,11 @@
 //! Answering a command on one file.
 
-ghost use Rattle.std.specs.Prelude.{◌≡◌, ◌<◌, ◌≤◌, ◌^◌, List, [], ◌∷◌, length};
-ghost use Rattle.chor_host.specs.Functions.{Function};
+ghost use Rattle.std.specs.Prelude.{◌≡◌, ◌<◌, ◌≤◌, ◌^◌, [], ◌∷◌, length};
 ghost use Rattle.chor_host.specs.Tables.{functions_of};
-ghost use Rattle.chor_io.specs.Outside.{ShelfState};
-ghost use Rattle.command_words.specs.declared.words.Words.{Words as CommandWords};
 ghost use Rattle.command_words.specs.declared.words.Command.TheVariants.{Exec};
-ghost use Rattle.command_words.specs.Words.{IsForm};
 ghost use Rattle.chor_cmd.specs.Readings.{reading_of, limit_of, limits_of, IsOnSource};
 ghost use Rattle.chor_cmd.specs.Status.{status_of};
-ghost use Rattle.chor_cmd.specs.Endings.{MayAsk, Ends, HasEnded};
+ghost use Rattle.chor_cmd.specs.Endings.{MayAsk, Ends, EachEnds, EachEndsWith, FormEnds};
 ghost use Rattle.chor_cmd.specs.Fetches.{TouchesOnly};
 
 use crate::exec::executed;
@@ -40,7 +36,7 @@ pub fn answer_file<F: Shelf, K: Sink>(
     out: &mut K,
 ) -> Status
     requires { length (limits_of command) ≡ 1 }
-    ensures ended { (words : CommandWords) → IsForm words command (name.now ∷ []) → HasEnded (functions_of hosts.now) words (F.state shelf.old) (F.state shelf.new) (K.state out.old) (K.state out.new) result }
+    ensures ended { FormEnds (functions_of hosts.now) command (name.now ∷ []) (F.state shelf.old) (F.state shelf.new) (K.state out.old) (K.state out.new) result }
     ensures only { TouchesOnly (name.now ∷ []) (F.state shelf.old) (F.state shelf.new) }
 {
     match fetched(alloc, name, limit_of(command), shelf) {
@@ -71,7 +67,7 @@ fn answer_bytes<K: Sink>(
 ) -> Status
     requires one { length (limits_of command) ≡ 1 }
     requires few { length bytes.now ≤ limit_of (reading_of command) }
-    ensures { (words : CommandWords) (before after : ShelfState) → MayAsk words before command (bytes.now ∷ []) → HasEnded (functions_of hosts.now) words before after (K.state out.old) (K.state out.new) result }
+    ensures { EachEndsWith (functions_of hosts.now) (λ ws a b. MayAsk ws a command (bytes.now ∷ [])) (K.state out.old) (K.state out.new) result }
 {
     match command {
         Command::Exec(word, options) => answer_programs(alloc, (word, options), bytes, hosts, out),
@@ -89,7 +85,7 @@ fn answer_source<K: Sink>(
 ) -> Status
     requires few { length bytes.now ≤ 2 ^ 20 }
     requires source { IsOnSource command }
-    ensures { (words : CommandWords) (before after : ShelfState) → MayAsk words before command (bytes.now ∷ []) → HasEnded (functions_of hosts.now) words before after (K.state out.old) (K.state out.new) result }
+    ensures { EachEndsWith (functions_of hosts.now) (λ ws a b. MayAsk ws a command (bytes.now ∷ [])) (K.state out.old) (K.state out.new) result }
 {
     match text_of(alloc, command, bytes, hosts) {
         Ok(text) => finish(out, text.as_slice(), Status::Done),
@@ -106,7 +102,7 @@ fn answer_programs<K: Sink>(
     out: &mut K,
 ) -> Status
     requires { length bytes.now ≤ 2 ^ 24 }
-    ensures { (words : CommandWords) (before after : ShelfState) → MayAsk words before (Exec exec.0 exec.1) (bytes.now ∷ []) → HasEnded (functions_of hosts.now) words before after (K.state out.old) (K.state out.new) result }
+    ensures { EachEndsWith (functions_of hosts.now) (λ ws a b. MayAsk ws a (Exec exec.0 exec.1) (bytes.now ∷ [])) (K.state out.old) (K.state out.new) result }
 {
     match executed(alloc, exec.1, bytes, hosts) {
         Ok(executed) => finish_executed(out, &executed),
@@ -116,7 +112,7 @@ fn answer_programs<K: Sink>(
 
 // Writes the transcript of endpoint programs.
 fn finish_executed<K: Sink>(out: &mut K, executed: &Executed) -> Status
-    ensures { (functions : List Function) (words : CommandWords) (before after : ShelfState) → Ends functions words before after (status_of executed.now.stuck) executed.now.text.items → HasEnded functions words before after (K.state out.old) (K.state out.new) result }
+    ensures { EachEnds (λ fs ws a b. Ends fs ws a b (status_of executed.now.stuck) executed.now.text.items) (K.state out.old) (K.state out.new) result }
 {
     let status = if executed.stuck {
         Status::Stuck

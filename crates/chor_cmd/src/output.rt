@@ -1,12 +1,8 @@
 //! Writing the text with which a call ends.
 
-ghost use Rattle.std.specs.Prelude.{◌≡◌, ◌++◌, List, IfOk, OnOk};
-ghost use Rattle.command_words.specs.declared.words.Words.{Words as CommandWords};
-ghost use Rattle.chor_host.specs.Functions.{Function};
-ghost use Rattle.chor_io.specs.Outside.{ShelfState};
-ghost use Rattle.command_words.specs.Words.{HasForm};
+ghost use Rattle.std.specs.Prelude.{◌≡◌, ◌++◌, IfOk, OnOk};
 ghost use Rattle.chor_cmd.specs.Outputs.{line_naming, refused_line, who_told};
-ghost use Rattle.chor_cmd.specs.Endings.{Ends, HasEnded};
+ghost use Rattle.chor_cmd.specs.Endings.{Ends, EachEnds, EachFormEnds};
 ghost use Rattle.chor_cmd.specs.Fetches.{EndsUnread, EndsDenied};
 
 use crate::fetching::Unread;
@@ -18,7 +14,7 @@ use std::alloc::Global;
 /// Writes the text with which a call ends, and answers the status.
 #[tactic(auto, using(crate::proofs::Written::wrote_all, crate::proofs::Written::wrote_some))]
 pub fn finish<K: Sink>(out: &mut K, text: &[u8], status: Status) -> Status
-    ensures { (functions : List Function) (words : CommandWords) (before after : ShelfState) → Ends functions words before after status text.now → HasEnded functions words before after (K.state out.old) (K.state out.new) result }
+    ensures { EachEnds (λ fs ws a b. Ends fs ws a b status text.now) (K.state out.old) (K.state out.new) result }
 {
     match out.put(text) {
         Put::All => status,
@@ -28,7 +24,7 @@ pub fn finish<K: Sink>(out: &mut K, text: &[u8], status: Status) -> Status
 
 /// Writes a line that was made, or nothing where there was no memory for it, and answers the status.
 pub fn finish_line<K: Sink>(out: &mut K, line: Result<Vec<u8>, Memory>, status: Status) -> Status
-    ensures { (functions : List Function) (words : CommandWords) (before after : ShelfState) → HasForm words → IfOk line (λ l. Ends functions words before after status l.items) → HasEnded functions words before after (K.state out.old) (K.state out.new) result }
+    ensures { EachFormEnds (λ fs ws a b. IfOk line (λ l. Ends fs ws a b status l.items)) (K.state out.old) (K.state out.new) result }
 {
     match line {
         Ok(line) => finish(out, line.as_slice(), status),
@@ -38,7 +34,7 @@ pub fn finish_line<K: Sink>(out: &mut K, line: Result<Vec<u8>, Memory>, status: 
 
 /// Writes why the file of this name wasn't read, and answers the status.
 pub fn finish_unread<K: Sink>(alloc: Global, out: &mut K, name: &Word, unread: Unread) -> Status
-    ensures { (functions : List Function) (words : CommandWords) (before after : ShelfState) → HasForm words → EndsUnread functions words before after name.now unread → HasEnded functions words before after (K.state out.old) (K.state out.new) result }
+    ensures { EachFormEnds (λ fs ws a b. EndsUnread fs ws a b name.now unread) (K.state out.old) (K.state out.new) result }
 {
     match unread {
         Unread::Failed => {
@@ -64,7 +60,7 @@ fn naming_line(alloc: Global, what: &[u8], name: &Word) -> Result<Vec<u8>, Memor
 
 /// Writes the line of a refusal, or nothing where there was no memory, and answers the status.
 pub fn finish_denying<K: Sink>(alloc: Global, out: &mut K, denied: &Denied) -> Status
-    ensures { (functions : List Function) (words : CommandWords) (before after : ShelfState) → HasForm words → EndsDenied functions words before after denied.now → HasEnded functions words before after (K.state out.old) (K.state out.new) result }
+    ensures { EachFormEnds (λ fs ws a b. EndsDenied fs ws a b denied.now) (K.state out.old) (K.state out.new) result }
 {
     match denied {
         Denied::Refused(refusal) => finish_line(out, refused_line(alloc, refusal), Status::Refused),

@@ -2,16 +2,12 @@
 
 ghost use Rattle.std.specs.Prelude.{◌≡◌, ◌≤◌, ◌^◌, ◌++◌, ◌∷◌, [], IfOk, IfErr, length, codes};
 ghost use Rattle.chor_host.specs.Tables.{functions_of};
-ghost use Rattle.chor_io.specs.Outside.{ShelfState};
 ghost use Rattle.source_check.specs.declared.rules.Rules.TheVariants.{All};
 ghost use Rattle.source_check.specs.Source.{IsAccepted, IsDenialOf};
-ghost use Rattle.command_words.specs.declared.words.Words.{Words as CommandWords};
-ghost use Rattle.command_words.specs.declared.words.Command.TheVariants.{Replay};
-ghost use Rattle.command_words.specs.Words.{IsForm};
 ghost use Rattle.chor_cmd.specs.Outputs.{replayed_line, unmatched_line, state_word};
-ghost use Rattle.chor_cmd.specs.Endings.{HasEnded, host_names};
+ghost use Rattle.chor_cmd.specs.Endings.{host_names};
 ghost use Rattle.event_reader.specs.Known.{AreWords};
-ghost use Rattle.chor_cmd.specs.Fetches.{TouchesOnly, HasReadSource, HasReadLog};
+ghost use Rattle.chor_cmd.specs.Fetches.{TouchesOnly, ReplayEnds, EventsEnd, LogEnds};
 
 use crate::fetching::fetched;
 use crate::one_file::SOURCE_LIMIT;
@@ -38,7 +34,7 @@ pub fn answer_replay<F: Shelf, K: Sink>(
     shelf: &mut F,
     out: &mut K,
 ) -> Status
-    ensures ended { (words : CommandWords) → IsForm words (Replay 1 2) (file.now ∷ events.now ∷ []) → HasEnded (functions_of hosts.now) words (F.state shelf.old) (F.state shelf.new) (K.state out.old) (K.state out.new) result }
+    ensures ended { ReplayEnds (functions_of hosts.now) file.now events.now (F.state shelf.old) (F.state shelf.new) (K.state out.old) (K.state out.new) result }
     ensures only { TouchesOnly (file.now ∷ events.now ∷ []) (F.state shelf.old) (F.state shelf.new) }
 {
     let bytes = match fetched(alloc, file, SOURCE_LIMIT, shelf) {
@@ -80,7 +76,7 @@ fn answer_events<F: Shelf, K: Sink>(
 ) -> Status
     requires hosts { accepted.now.typed.hosts ≡ host_names hosts.now }
     requires words { AreWords accepted.now.typed.file.names }
-    ensures ended { (words : CommandWords) (before : ShelfState) → HasReadSource (functions_of hosts.now) words before (F.state shelf.old) name.now accepted.now.typed.file → HasEnded (functions_of hosts.now) words before (F.state shelf.new) (K.state out.old) (K.state out.new) result }
+    ensures ended { EventsEnd (functions_of hosts.now) accepted.now.typed.file name.now (F.state shelf.old) (F.state shelf.new) (K.state out.old) (K.state out.new) result }
     ensures only { TouchesOnly (name.now ∷ []) (F.state shelf.old) (F.state shelf.new) }
 {
     match fetched(alloc, name, EVENTS_LIMIT, shelf) {
@@ -100,7 +96,7 @@ fn answer_log<K: Sink>(
     requires hosts { accepted.now.typed.hosts ≡ host_names hosts.now }
     requires words { AreWords accepted.now.typed.file.names }
     requires few { length events.now ≤ 2 ^ 26 }
-    ensures { (words : CommandWords) (before after : ShelfState) → HasReadLog (functions_of hosts.now) words before accepted.now.typed.file events.now → HasEnded (functions_of hosts.now) words before after (K.state out.old) (K.state out.new) result }
+    ensures { LogEnds (functions_of hosts.now) accepted.now.typed.file events.now (K.state out.old) (K.state out.new) result }
 {
     match replay_accepted(alloc, accepted, hosts, events) {
         Ok(replayed) => finish_line(out, replayed_line(alloc, replayed), Status::Done),
