@@ -37,6 +37,8 @@ struct Maker {
     alloc: Global,
     chance: Chance,
     channels: usize,
+    // The channel that is started again and again.
+    often: usize,
     // How many channels have been started once.
     used: usize,
     is_open: bool,
@@ -45,10 +47,16 @@ struct Maker {
 
 /// The source of a number.
 pub fn source_of(alloc: Global, number: usize) -> Result<Vec<u8>, Fail> {
+    let channels = COUNTS[number / 4 % 8];
     let mut maker = Maker {
         alloc,
         chance: Chance::new(number),
-        channels: COUNTS[number / 4 % 8],
+        channels,
+        often: if number / 4 % 2 == 0 {
+            0
+        } else {
+            channels.saturating_sub(1)
+        },
         used: 1,
         is_open: promise_of(number) == Promise::Open,
         out: Vec::new(alloc),
@@ -58,11 +66,9 @@ pub fn source_of(alloc: Global, number: usize) -> Result<Vec<u8>, Fail> {
     maker.put(b"main (p0, p1, p2, p3) {\n")?;
     let last = maker.relay(4)?;
     if promise_of(number) == Promise::Torn {
-        maker.start(
-            0,
-            circle(last.wrapping_add(2), 4),
-            circle(last.wrapping_add(3), 4),
-        )?;
+        let often = maker.often;
+        let first = circle(last.wrapping_add(2), 4);
+        maker.start(often, first, circle(last.wrapping_add(3), 4))?;
         maker.put(b"  end\n}\n")?;
     } else {
         maker.tail(4, last)?;
@@ -149,8 +155,8 @@ impl Maker {
         self.message(from, to)
     }
 
-    // The first channel and the last two are started by the first two processes, then by the second and the third, and so on.
-    // Answers the first of the two that started them last.
+    // A channel is started by the first two processes, then by the second and the third, and so on; and so are the last two where
+    // that is the first one. Answers the first of the two that started them last.
     fn relay(&mut self, processes: usize) -> Result<usize, Fail> {
         let steps = self.chance.below(7).wrapping_add(2);
         for step in 0..steps {
@@ -159,9 +165,11 @@ impl Maker {
             if step > 0 {
                 self.tell(processes, first, second)?;
             }
-            self.start(0, first, second)?;
-            self.start(self.channels.saturating_sub(2), first, second)?;
-            self.start(self.channels.saturating_sub(1), first, second)?;
+            self.start(self.often, first, second)?;
+            if self.often == 0 {
+                self.start(self.channels.saturating_sub(2), first, second)?;
+                self.start(self.channels.saturating_sub(1), first, second)?;
+            }
         }
         Ok(circle(steps.wrapping_sub(1), processes))
     }
