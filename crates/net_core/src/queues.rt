@@ -7,11 +7,11 @@ ghost use Rattle.net_core.specs.Lanes.{loads_in, room_on, lane_from};
 
 use chor_base::{Load, Memory, NameId};
 use indexmap::IndexSet;
+use recent_places::RecentPlaces;
 use std::alloc::Global;
 use std::collections::VecDeque;
 use std::marker::Model;
 use std::mem::replace;
-use waiting_processes::RecentPlaces;
 
 /// The loads in transit from one role of a session to another.
 #[derive(Drop)]

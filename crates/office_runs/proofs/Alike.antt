@@ -2,17 +2,19 @@
 use Rattle.std.proofs.Common.{◌≡◌, ℕ, List, [], ◌∷◌, length, max, refl, sym, ap, ◌∙◌, subst, Option, None, arith}
 use Rattle.chor_base.specs.declared.event.Event.{Event}
 use Rattle.chor_base.specs.declared.event.Event.TheVariants as event
+use Rattle.chor_base.specs.declared.value.Load.{Load}
+use Rattle.chor_base.specs.Events.{Triple}
 use Rattle.chor_base.specs.Meaning.{Hosts}
 use Rattle.endpoint_code.specs.declared.endpoints.Channel.{Channel}
 use Rattle.endpoint_code.specs.declared.endpoints.Endpoints.{Endpoints}
-use Rattle.endpoint_code.specs.Network.{NetworkState, NetworkSteps, first_state, has_room}
+use Rattle.endpoint_code.specs.Network.{NetworkState, NetworkSteps, first_state}
 use Rattle.endpoint_code.specs.NetworkRuns.{NetworkLeads}
 use Rattle.net_core.specs.Views.{NetworkView}
 use Rattle.net_core.specs.Follows.{HasFollowed}
 use Rattle.net_core.specs.Steps.{FitsMore}
 use Rattle.net_core.specs.Steps.{most_served as served_by_network}
-use Rattle.post_office.specs.Queues.{loads_at}
-use Rattle.post_office.specs.Views.{OfficeView, CanMake, events_of}
+use Rattle.post_office.specs.Lanes.{loads_in}
+use Rattle.post_office.specs.Views.{OfficeView, loads_at, CanMake, events_of}
 use Rattle.post_office.specs.Answers.{HasNoted}
 use Rattle.post_office.specs.Kept.{IsKept}
 use Rattle.post_office.specs.Starts.{FitsStart, most_served}
@@ -55,15 +57,15 @@ may_come table v u w x count alike fits processes kept f =
       fits = record { sid = omega (arith, sid, fits.sid); processes = omega (arith, there, most, fits.machines) };
     }
 
--- the queue on which an event sends has room in the state after the events of an office
-finds_room : (w : OfficeView) (kept : IsKept w) (x : Event) → HasRoomFor w x → FindsRoom w.capacity kept.state (sends_on x)
-finds_room w kept (event.Start c s ps) h = tt
-finds_room w kept (event.Send p s a b l) h = sym (ap (has_room w.capacity) (kept.queues (s, a, b))) ∙ not_full w.capacity (loads_at w.queues (s, a, b)) h
-finds_room w kept (event.Recv p s a b l) h = tt
-finds_room w kept (event.Test p b) h = tt
-finds_room w kept (event.Set p y v) h = tt
-finds_room w kept (event.Show p v) h = tt
-finds_room w kept (event.Host p y f a b v) h = tt
+-- the queue on which an event sends has room in an office
+finds_room : (w : OfficeView) (x : Event) → HasRoomFor w x → FindsRoom w.capacity (loads_in w.queues.lanes) (sends_on x)
+finds_room w (event.Start c s ps) h = tt
+finds_room w (event.Send p s a b l) h = not_full w.capacity (loads_at w.queues (s, a, b)) h
+finds_room w (event.Recv p s a b l) h = tt
+finds_room w (event.Test p b) h = tt
+finds_room w (event.Set p y v) h = tt
+finds_room w (event.Show p v) h = tt
+finds_room w (event.Host p y f a b v) h = tt
 
 -- where both have made the same event they are alike
 pub alike_more : (table : Hosts) (v u : NetworkView) (w o : OfficeView) (x : Event) → IsKept w → AreAlike table v w → HasFollowed table v x u → HasRoomFor w x → HasNoted w 0 x o → AreAlike table u o
@@ -71,7 +73,8 @@ alike_more table v u w o x kept alike f room noted =
     let free : NetworkSteps w.endpoints w.hosts None v.state x f.state =
     subst (λ (e : Endpoints). NetworkSteps e w.hosts None v.state x f.state) (sym alike.endpoints) (subst (λ (h : Hosts). NetworkSteps v.endpoints h None v.state x f.state) (sym alike.hosts) f.steps) in
     let same : kept.state ≡ v.state = one_state w kept.state v.state kept.after alike.after in
-    let found : FindsRoom w.capacity v.state (sends_on x) = subst (λ (n : NetworkState). FindsRoom w.capacity n (sends_on x)) same (finds_room w kept x room) in
+    let queues : loads_in w.queues.lanes ≡ v.state.queues = kept.queues ∙ ap (λ (n : NetworkState). n.queues) same in
+    let found : FindsRoom w.capacity v.state.queues (sends_on x) = subst (λ (qs : List (Triple × List Load)). FindsRoom w.capacity qs (sends_on x)) queues (finds_room w x room) in
     let step : NetworkSteps w.endpoints w.hosts w.capacity v.state x f.state = step_capped w.capacity x f.state w.endpoints w.hosts v.state found free in
     let leads = after_more w v.state f.state x 0 o.history noted.history alike.after step in
     let of_endpoints = subst (λ (e : Endpoints). NetworkLeads e w.hosts w.capacity (first_state e) (events_of o.history) f.state) (sym noted.endpoints) leads in

@@ -7,14 +7,13 @@ use Rattle.chor_base.specs.declared.event.Entry.{Entry}
 use Rattle.chor_base.specs.declared.event.Event.{Event}
 use Rattle.chor_base.specs.declared.event.Event.TheVariants as event
 use Rattle.chor_base.specs.Meaning.{Hosts}
-use Rattle.chor_base.specs.Events.{actors_of}
+use Rattle.chor_base.specs.Events.{Triple, actors_of}
 use Rattle.endpoint_code.specs.declared.endpoints.Endpoints.{Endpoints}
-use Rattle.endpoint_code.specs.Network.{NetworkState, NetworkSteps}
+use Rattle.endpoint_code.specs.Network.{NetworkState, NetworkSteps, loads_for}
 use Rattle.endpoint_code.specs.NetworkRuns.{IsNetworkRun}
 use Rattle.post_office.specs.declared.desk.Desk.{Desk}
 use Rattle.post_office.specs.declared.post.Received.TheVariants.{Got, Empty}
-use Rattle.post_office.specs.Queues.{loads_at}
-use Rattle.post_office.specs.Views.{OfficeView, CanMake, CanReceive, events_of, post_at}
+use Rattle.post_office.specs.Views.{OfficeView, loads_at, CanMake, CanReceive, events_of, post_at}
 use Rattle.post_office.specs.Kept.{IsKept}
 use Rattle.post_office.specs.Answers.{IsSame, HasNoted, HasActed, AnswersReceipt}
 use Rattle.office_runs.specs.Told.{AllBusy}
@@ -45,7 +44,7 @@ acted_busy v w u k x same acted busy p = ap (λ (ds : List Desk). post_at ds p) 
 
 module _ (v w : OfficeView) (p s : ℕ) (a b : NameId) (l : Load) (kept : IsKept v) (can : CanMake v (event.Recv p s a b l)) (same : IsSame v w) where
   first : slice_get (loads_at w.queues (s, a, b)) 0 ≡ Some l
-  first = ap (λ (ls : List Load). slice_get ls 0) (same.queues (s, a, b)) ∙ first_is v p s a b l kept can
+  first = ap (λ (qs : List (Triple × List Load)). slice_get (loads_for qs (s, a, b)) 0) same.queues ∙ first_is v p s a b l kept can
 
   load_same : (k : Load) → slice_get (loads_at w.queues (s, a, b)) 0 ≡ Some k → k ≡ l
   load_same k h = let i : Some k ≡ Some l = sym h ∙ first in cc

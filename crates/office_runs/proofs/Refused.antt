@@ -14,15 +14,15 @@ use Rattle.endpoint_code.specs.declared.code.CodeId.{CodeId}
 use Rattle.endpoint_code.specs.declared.code.CodeNode.{CodeNode}
 use Rattle.endpoint_code.specs.declared.code.CodeNode.TheVariants.{Join, Send, Recv, Pick, Branch, Throw, Catch, Set, Show, Host, If, Call, End}
 use Rattle.endpoint_code.specs.declared.endpoints.Endpoints.{Endpoints}
-use Rattle.endpoint_code.specs.Network.{Sessions, Machine, NetworkState, Place, Makes, Taking, Goes, moved, put_if, puts, has_room, queue_of, takes, takes_from, went, part_load, node_makes, place_makes, machine_makes, place_of, NetworkSteps, acts, begins, first_state}
+use Rattle.endpoint_code.specs.Network.{Sessions, Machine, NetworkState, Place, Makes, Taking, Goes, loads_for, moved, put_if, puts, has_room, queue_of, takes, takes_from, went, part_load, node_makes, place_makes, machine_makes, place_of, NetworkSteps, acts, begins, first_state}
 use Rattle.endpoint_code.specs.NetworkRuns.{NetworkLeads}
 use Rattle.endpoint_code.proofs.Fifo.{step_keeps}
 use Rattle.endpoint_code.proofs.Queues.{triple_same}
 use Rattle.net_core.specs.Views.{NetworkView}
 use Rattle.net_core.specs.Follows.{IsStep}
-use Rattle.post_office.specs.Views.{OfficeView, IsAfter, CanMake, events_of}
+use Rattle.post_office.specs.Views.{OfficeView, loads_at, IsAfter, CanMake, events_of}
 use Rattle.post_office.specs.Kept.{IsKept}
-use Rattle.post_office.specs.Queues.{loads_at}
+use Rattle.post_office.specs.Lanes.{loads_in}
 use Rattle.post_office.proofs.Callers.{one_state}
 use Rattle.post_office.proofs.Steps.{FindsRoom, sends_on, is_start, starts_start}
 use Rattle.office_runs.specs.Told.{AreAlike, HasRoomFor, IsNoStep, IsNoRun}
@@ -31,7 +31,7 @@ use Rattle.office_runs.specs.Told.{AreAlike, HasRoomFor, IsNoStep, IsNoRun}
 
 module _ (cap : Option ℕ) (x : Event) (m : NetworkState) where
   abbrev Room : NetworkState → Type 0
-  Room n = FindsRoom cap n (sends_on x)
+  Room n = FindsRoom cap n.queues (sends_on x)
 
   put_freely : (n : NetworkState) (p : ℕ) (at : CodeId) (vars : Variables) (ss : Sessions) (b : NameId) (o : Option (ℕ × NameId)) (ol : Option Load) → puts cap (moved n p at vars ss) p b o ol ≡ Some (Makes x m) → (puts None (moved n p at vars ss) p b o ol ≡ Some (Makes x m)) × Room n
   put_freely n p at vars ss b None ol h = absurd cc
@@ -40,12 +40,12 @@ module _ (cap : Option ℕ) (x : Event) (m : NetworkState) where
     where
       go : (r : Bool) → has_room cap (queue_of n (s, a, b)) ≡ r → put_if r (moved n p at vars ss) p (s, a, b) l ≡ Some (Makes x m) → (put_if true (moved n p at vars ss) p (s, a, b) l ≡ Some (Makes x m)) × Room n
       go false e i = absurd cc
-      go true e i = (let is : event.Send p s a b l ≡ x = cc in (i, subst (λ (y : Event). FindsRoom cap n (sends_on y)) is e))
+      go true e i = (let is : event.Send p s a b l ≡ x = cc in (i, subst (λ (y : Event). FindsRoom cap n.queues (sends_on y)) is e))
 
   quiet : (n k : NetworkState) (y : Event) → sends_on y ≡ None → Some (Makes y k) ≡ Some (Makes x m) → Room n
   quiet n k y e h =
       let is : y ≡ x = cc in
-      subst (λ (o : Option Triple). FindsRoom cap n o) (sym e ∙ ap sends_on is) tt
+      subst (λ (o : Option Triple). FindsRoom cap n.queues o) (sym e ∙ ap sends_on is) tt
 
   take_quiet : (n : NetworkState) (p : ℕ) (a : NameId) (o : Option (ℕ × NameId)) (f : Load → Option Taking) → takes n p a o f ≡ Some (Makes x m) → Room n
   take_quiet n p a None f h = absurd cc
@@ -77,7 +77,7 @@ module _ (cap : Option ℕ) (x : Event) (m : NetworkState) where
   start_quiet : (n : NetworkState) → is_start x ≡ true → Room n
   start_quiet n h = go x h
     where
-      go : (y : Event) → is_start y ≡ true → FindsRoom cap n (sends_on y)
+      go : (y : Event) → is_start y ≡ true → FindsRoom cap n.queues (sends_on y)
       go (event.Start c s ps) i = tt
       go (event.Send p s a b l) i = absurd cc
       go (event.Recv p s a b l) i = tt
@@ -113,11 +113,12 @@ no_follow table v w x alike none n m after step =
 pub no_room : (w : OfficeView) (x : Event) → IsKept w → (HasRoomFor w x → ⊥) → IsNoStep w x
 no_room w x kept none n m after step =
     let same : n ≡ kept.state = one_state w n kept.state after kept.after in
-    none (go x (subst (λ (k : NetworkState). FindsRoom w.capacity k (sends_on x)) same (step_freely w.capacity x m w.endpoints w.hosts n step).1))
+    let queues : n.queues ≡ loads_in w.queues.lanes = ap (λ (k : NetworkState). k.queues) same ∙ sym kept.queues in
+    none (go x (subst (λ (qs : List (Triple × List Load)). FindsRoom w.capacity qs (sends_on x)) queues (step_freely w.capacity x m w.endpoints w.hosts n step).1))
   where
-    go : (y : Event) → FindsRoom w.capacity kept.state (sends_on y) → HasRoomFor w y
+    go : (y : Event) → FindsRoom w.capacity (loads_in w.queues.lanes) (sends_on y) → HasRoomFor w y
     go (event.Start c s ps) h = tt
-    go (event.Send p s a b l) h = ap not (ap (has_room w.capacity) (kept.queues (s, a, b)) ∙ h)
+    go (event.Send p s a b l) h = ap not h
     go (event.Recv p s a b l) h = tt
     go (event.Test p b) h = tt
     go (event.Set p y v) h = tt
@@ -136,7 +137,7 @@ first_is w p s a b l kept can =
     let t : Triple = (s, a, b) in
     let keeps = step_keeps w.endpoints w.hosts None kept.state (event.Recv p s a b l) step.0 t step.1 in
     let taken : l ∷ queue_of step.0 t ≡ queue_of kept.state t ++ [] = ap (λ (o : Bool). (if o then l ∷ [] else []) ++ queue_of step.0 t) (sym (triple_same t)) ∙ keeps in
-    ap (λ (ls : List Load). slice_get ls 0) (kept.queues t) ∙ first_of (queue_of kept.state t) (queue_of step.0 t) l taken
+    ap (λ (qs : List (Triple × List Load)). slice_get (loads_for qs t) 0) kept.queues ∙ first_of (queue_of kept.state t) (queue_of step.0 t) l taken
 
 -- ---- so the events are no run
 

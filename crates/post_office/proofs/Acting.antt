@@ -1,8 +1,7 @@
 -- What an event of one process changes in an office.
-use Rattle.std.proofs.Common.{◌≡◌, ◌≢◌, ℕ, zero, suc, ◌==◌, Bool, true, false, List, [], ◌∷◌, ◌++◌, refl, sym, ap, ◌∙◌, subst, Option, Some, None, arith, drop, if◌then◌else◌}
-use Rattle.std.specs.Prelude.{slice_get, slice_set, not}
-use Rattle.std.proofs.lemmas.List.{map-append, append-nil}
-use Rattle.std.proofs.lemmas.Bool.Decides.{nat_tests}
+use Rattle.std.proofs.Common.{◌≡◌, ◌≢◌, ℕ, zero, suc, ◌==◌, Bool, true, false, List, [], ◌∷◌, ◌++◌, refl, sym, ap, ◌∙◌, subst, Option, Some, None}
+use Rattle.std.specs.Prelude.{slice_get, slice_set, not, IfSome}
+use Rattle.std.proofs.lemmas.List.{map-append}
 use Rattle.std.proofs.lemmas.Bool.{eqb-true, eqb-false}
 use Rattle.chor_base.specs.declared.value.Load.{Load}
 use Rattle.chor_base.specs.declared.names.NameId.{NameId}
@@ -11,20 +10,17 @@ use Rattle.chor_base.specs.declared.event.Entry.{Entry}
 use Rattle.chor_base.specs.declared.event.Event.{Event}
 use Rattle.chor_base.specs.declared.event.Event.TheVariants as event
 use Rattle.chor_base.specs.Meaning.{Hosts}
-use Rattle.chor_base.specs.Events.{Triple, triple_eq, load_on, sent_by, received_by}
+use Rattle.chor_base.specs.Events.{Triple}
 use Rattle.endpoint_code.specs.declared.endpoints.Endpoints.{Endpoints}
 use Rattle.endpoint_code.specs.Network.{Machine, NetworkState, queue_of, has_room, NetworkSteps, first_state}
 use Rattle.endpoint_code.specs.NetworkRuns.{NetworkLeads, waits_for}
-use Rattle.endpoint_code.proofs.Fifo.{same_triple}
-use Rattle.endpoint_code.proofs.Queues.{triple_same}
 use Rattle.post_office.specs.declared.desk.Desk.{Desk}
 use Rattle.post_office.specs.declared.post.Post.{Post}
 use Rattle.post_office.specs.declared.post.Post.TheVariants.{Busy, Joining, Waiting, Ended}
-use Rattle.post_office.specs.Queues.{QueueTable, loads_at, HasPut, HasTaken}
 use Rattle.post_office.specs.Views.{OfficeView, events_of, IsAfter, post_at, joined_at, made_busy}
 use Rattle.post_office.specs.Posts.{holding, IsPostOf, IsTrueIn}
 use Rattle.post_office.specs.Answers.{is_local}
-use Rattle.post_office.proofs.Steps.{ActsAlone, is_start, sends_on, get-set_other}
+use Rattle.post_office.proofs.Steps.{ActsAlone, queues_after, is_start, sends_on, FindsRoom, get-set_other}
 
 -- ---- the run
 
@@ -87,47 +83,7 @@ posts_after e n m x p ds alone first posts q = go (q == p) refl
         subst (λ (w : Post). IsTrueIn e m q w) (sym (post_other ds p q _ apart))
         (subst (λ (o : Option Machine). IsPostOf e m o (post_at ds q)) (sym (alone.others q apart)) (post_stays e n m (slice_get n.machines q) (post_at ds q) (first q apart) (posts q)))
 
--- ---- the queues
-
--- what an event takes out of each queue, and what it puts there
-abbrev pub Flows : QueueTable → Event → QueueTable → Type 0
-Flows old x new = (t : Triple) → received_by t x ++ loads_at new t ≡ loads_at old t ++ sent_by t x
-
-turned : (t u : Triple) → triple_eq t u ≡ false → triple_eq u t ≡ false
-turned t u h = grind (arith, nat_tests)
-
--- what is put into one queue, where all queues have become others
-module _ (old new : QueueTable) (u : Triple) (l : Load) where
-  pub put_flows : HasPut old u l new → (t : Triple) → loads_at new t ≡ loads_at old t ++ load_on t u l
-  put_flows put t = put.loads t ∙ go (triple_eq t u) refl
-    where
-      go : (b : Bool) → triple_eq t u ≡ b → (if triple_eq u t then loads_at old u ++ l ∷ [] else loads_at old t) ≡ loads_at old t ++ (if triple_eq t u then l ∷ [] else [])
-      go true e =
-          let is : t ≡ u = same_triple t u e in
-          let back : triple_eq u t ≡ true = subst (λ (w : Triple). triple_eq u w ≡ true) (sym is) (triple_same u) in
-          rw (e, back) (ap (λ (w : Triple). loads_at old w ++ l ∷ []) (sym is))
-      go false e = let back : triple_eq u t ≡ false = turned t u e in rw (e, back) (sym (append-nil (loads_at old t)))
-
-  first_and_rest : (ls : List Load) → slice_get ls 0 ≡ Some l → l ∷ drop 1 ls ≡ ls
-  first_and_rest [] h = absurd cc
-  first_and_rest (k ∷ ls) h = (let is : l ≡ k = cc in ap (λ (w : Load). w ∷ ls) is)
-
-  pub take_flows : HasTaken old u new → slice_get (loads_at old u) 0 ≡ Some l → (t : Triple) → load_on t u l ++ loads_at new t ≡ loads_at old t ++ []
-  take_flows taken first t = ap (λ ls. load_on t u l ++ ls) (taken.loads t) ∙ go (triple_eq t u) refl ∙ sym (append-nil (loads_at old t))
-    where
-      go : (b : Bool) → triple_eq t u ≡ b → (if triple_eq t u then l ∷ [] else []) ++ (if triple_eq u t then drop 1 (loads_at old u) else loads_at old t) ≡ loads_at old t
-      go true e =
-          let is : t ≡ u = same_triple t u e in
-          let back : triple_eq u t ≡ true = subst (λ (w : Triple). triple_eq u w ≡ true) (sym is) (triple_same u) in
-          rw (e, back) (first_and_rest (loads_at old u) first ∙ ap (λ (w : Triple). loads_at old w) (sym is))
-      go false e = let back : triple_eq u t ≡ false = turned t u e in rw (e, back) refl
-
 -- ---- the three kinds of events
-
--- where an event sends, its queue has room
-abbrev pub HasPlace : Option ℕ → QueueTable → Option Triple → Type 0
-HasPlace cap qs None = Unit {0}
-HasPlace cap qs (Some t) = has_room cap (loads_at qs t) ≡ true
 
 pub not_full : (cap : Option ℕ) (ls : List Load) → not (has_room cap ls) ≡ false → has_room cap ls ≡ true
 not_full cap ls h = go (has_room cap ls) h
@@ -135,6 +91,11 @@ not_full cap ls h = go (has_room cap ls) h
     go : (b : Bool) → not b ≡ false → b ≡ true
     go true i = refl
     go false i = absurd cc
+
+-- what is said of an answer, where there is one
+pub of_some : {X P : Type 0} (o : Option X) (x : X) → o ≡ Some x → IfSome o (λ _. P) → P
+of_some None x e h = absurd cc
+of_some (Some y) x e h = h
 
 pub none_first : (ls : List Load) → slice_get ls 0 ≡ None → ls ≡ []
 none_first [] h = refl
@@ -149,7 +110,7 @@ local_alone (event.Set p y v) h = refl
 local_alone (event.Show p v) h = refl
 local_alone (event.Host p y f a b v) h = refl
 
-pub local_place : (x : Event) (cap : Option ℕ) (qs : QueueTable) → is_local x ≡ true → HasPlace cap qs (sends_on x)
+pub local_place : (x : Event) (cap : Option ℕ) (qs : List (Triple × List Load)) → is_local x ≡ true → FindsRoom cap qs (sends_on x)
 local_place (event.Start c s ps) cap qs h = absurd cc
 local_place (event.Send p s a b l) cap qs h = absurd cc
 local_place (event.Recv p s a b l) cap qs h = tt
@@ -158,11 +119,11 @@ local_place (event.Set p y v) cap qs h = tt
 local_place (event.Show p v) cap qs h = tt
 local_place (event.Host p y f a b v) cap qs h = tt
 
-pub local_flows : (x : Event) (qs : QueueTable) → is_local x ≡ true → Flows qs x qs
-local_flows (event.Start c s ps) qs h t = absurd cc
-local_flows (event.Send p s a b l) qs h t = absurd cc
-local_flows (event.Recv p s a b l) qs h t = absurd cc
-local_flows (event.Test p b) qs h t = sym (append-nil (loads_at qs t))
-local_flows (event.Set p y v) qs h t = sym (append-nil (loads_at qs t))
-local_flows (event.Show p v) qs h t = sym (append-nil (loads_at qs t))
-local_flows (event.Host p y f a b v) qs h t = sym (append-nil (loads_at qs t))
+pub local_queues : (x : Event) (qs : List (Triple × List Load)) → is_local x ≡ true → qs ≡ queues_after x qs
+local_queues (event.Start c s ps) qs h = absurd cc
+local_queues (event.Send p s a b l) qs h = absurd cc
+local_queues (event.Recv p s a b l) qs h = absurd cc
+local_queues (event.Test p b) qs h = refl
+local_queues (event.Set p y v) qs h = refl
+local_queues (event.Show p v) qs h = refl
+local_queues (event.Host p y f a b v) qs h = refl

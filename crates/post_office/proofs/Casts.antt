@@ -1,10 +1,8 @@
 -- The partners of a start, as they are posted.
-use Rattle.std.proofs.Common.{◌≡◌, ℕ, zero, suc, ◌+◌, ◌<◌, ◌==◌, ◌&&◌, Bool, true, false, cond, List, [], ◌∷◌, ◌++◌, length, drop, get_or, refl, sym, ap, ◌∙◌, subst, Some, None, is_some, arith}
+use Rattle.std.proofs.Common.{◌≡◌, ℕ, zero, suc, ◌+◌, ◌==◌, Bool, true, false, cond, List, [], ◌∷◌, ◌++◌, refl, sym, ap, ◌∙◌, subst, Some, None, is_some, arith}
 use Rattle.std.specs.Prelude.{map}
-use Rattle.std.proofs.lemmas.List.{drop_more}
 use Rattle.std.proofs.lemmas.List.Elements.{All-cons, All-nil}
 use Rattle.std.proofs.lemmas.Bool.Decides.{nat_tests}
-use Rattle.std.proofs.lemmas.Bool.{and_parts}
 use Rattle.chor_base.specs.declared.names.NameId.{NameId}
 use Rattle.endpoint_code.specs.Network.{paired, one_pair}
 use Rattle.post_office.specs.declared.desk.Desk.{Desk}
@@ -15,13 +13,6 @@ pub name_same : (a b : NameId) → (a.0 == b.0) ≡ true → a ≡ b
 name_same a b h = let e : a.0 ≡ b.0 = grind (arith, nat_tests) in ap (λ (n : ℕ). let r : NameId = record { 0 = n } in r) e
 
 -- ---- going through the board and the roles
-
--- one desk more
-pub least_turn : (ds : List Desk) (i : ℕ) (d : Desk) (c r : NameId) → i < length ds → least_posted i (drop i ds) c r ≡ cond (joins_as (get_or ds i d).post c r) (Some i) (least_posted (i + 1) (drop (i + 1) ds) c r)
-least_turn ds i d c r lt = ap (λ (es : List Desk). least_posted i es c r) (drop_more ds i d lt) ∙ ap (λ n. cond (joins_as (get_or ds i d).post c r) (Some i) (least_posted n (drop (i + 1) ds) c r)) (omega arith)
-
-pub absent_turn : (ds : List Desk) (c : NameId) (p : ℕ) (own : NameId) (rs : List NameId) (i : ℕ) (d : NameId) → i < length rs → first_absent ds c p own (drop i rs) ≡ cond (is_some (partner_for ds c p own (get_or rs i d))) (first_absent ds c p own (drop (i + 1) rs)) (Some (get_or rs i d))
-absent_turn ds c p own rs i d lt = ap (first_absent ds c p own) (drop_more rs i d lt)
 
 pub absent_head : (ds : List Desk) (c : NameId) (p : ℕ) (own r : NameId) (rs : List NameId) → first_absent ds c p own (r ∷ rs) ≡ None → (is_some (partner_for ds c p own r) ≡ true) × (first_absent ds c p own rs ≡ None)
 absent_head ds c p own r rs h = go (is_some (partner_for ds c p own r)) refl h

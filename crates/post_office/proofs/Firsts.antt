@@ -20,7 +20,7 @@ use Rattle.endpoint_code.specs.NetworkRuns.{NetworkLeads}
 use Rattle.post_office.specs.declared.desk.Desk.{Desk}
 use Rattle.post_office.specs.declared.post.Post.{Post}
 use Rattle.post_office.specs.declared.post.Post.TheVariants.{Busy}
-use Rattle.post_office.specs.Queues.{QueueTable, loads_at}
+use Rattle.post_office.specs.Lanes.{QueuesView, loads_in}
 use Rattle.post_office.specs.Views.{events_of, post_at, idle}
 use Rattle.post_office.specs.Posts.{IsTrueIn}
 use Rattle.post_office.specs.Kept.{IsKept}
@@ -105,7 +105,7 @@ module _ (names : List (List ℕ)) (fs : List Function) (i : ℕ) (f : Function)
 
 -- ---- the first office
 
-pub first_kept : (e : Endpoints) (hosts : Hosts) (capacity : Option ℕ) (history : List Entry) (queues : QueueTable) (desks : List Desk) (room : ℕ) → IsFaultless e → length e.processes < 2 ^ 32 → history ≡ [] → queues ≡ [] → desks ≡ replicate (length e.processes) idle
+pub first_kept : (e : Endpoints) (hosts : Hosts) (capacity : Option ℕ) (history : List Entry) (queues : QueuesView) (desks : List Desk) (room : ℕ) → IsFaultless e → length e.processes < 2 ^ 32 → history ≡ [] → queues.lanes ≡ [] → desks ≡ replicate (length e.processes) idle
     → IsKept (record { endpoints = e; hosts = hosts; capacity = capacity; history = history; queues = queues; sid = 0; desks = desks; room = room })
 first_kept e hosts capacity history queues desks room faultless few no_history no_queues all_idle =
     let many : length desks ≡ length e.processes = ap length all_idle ∙ length-replicate (length e.processes) idle in
@@ -113,7 +113,7 @@ first_kept e hosts capacity history queues desks room faultless few no_history n
       faultless = faultless;
       state = first_state e;
       after = subst (λ (h : List Entry). NetworkLeads e hosts capacity (first_state e) (events_of h) (first_state e)) (sym no_history) refl;
-      queues = λ t. ap (λ (qs : QueueTable). loads_at qs t) no_queues;
+      queues = ap loads_in no_queues;
       sid = refl;
       processes = as_many e.processes ∙ sym many;
       few = subst (λ n. n < 2 ^ 32) (sym many) few;

@@ -1,4 +1,5 @@
-pub mod QueueTables
+pub mod Lanes
+pub mod Places
 pub mod Steps
 pub mod Acting
 pub mod Firsts

@@ -1,16 +1,26 @@
 -- What the calls of an office change and answer.
-use Rattle.std.specs.Prelude.{ℕ, ◌≡◌, ◌+◌, ◌≤◌, ◌++◌, Bool, true, false, [], ◌∷◌, Some, None, slice_get, slice_set}
+use Rattle.std.specs.Prelude.{ℕ, ◌≡◌, ◌+◌, ◌≤◌, ◌++◌, Bool, true, false, [], ◌∷◌, Some, None, drop, slice_get, slice_set}
 use Rattle.chor_base.specs.declared.value.Load.{Load}
 use Rattle.chor_base.specs.declared.event.Event.{Event}
 use Rattle.chor_base.specs.declared.event.Event.TheVariants as event
 use Rattle.chor_base.specs.Events.{Triple, actors_of}
+use Rattle.endpoint_code.specs.Network.{with_loads}
 use Rattle.post_office.specs.declared.post.Post.{Post}
 use Rattle.post_office.specs.declared.post.Sent.{Sent as Sending}
 use Rattle.post_office.specs.declared.post.Sent.TheVariants.{Sent, Full}
 use Rattle.post_office.specs.declared.post.Received.{Received}
 use Rattle.post_office.specs.declared.post.Received.TheVariants.{Got, Empty}
-use Rattle.post_office.specs.Queues.{loads_at, room_at, IsSameQueues, HasPut, HasTaken}
-use Rattle.post_office.specs.Views.{OfficeView, made_busy, is_full}
+use Rattle.post_office.specs.Lanes.{QueuesView, loads_in, room_on}
+use Rattle.post_office.specs.Views.{OfficeView, loads_at, made_busy, is_full}
+
+-- one load more on a triple, after all others
+abbrev pub HasPut : QueuesView → Triple → Load → QueuesView → Type 0
+HasPut old t l new = loads_in new.lanes ≡ with_loads (loads_in old.lanes) t (loads_at old t ++ l ∷ [])
+
+-- the first load of a triple is gone, and there is no less room
+pub record HasTaken (old : QueuesView) (t : Triple) (new : QueuesView) : Type 0 where
+  pub loads : loads_in new.lanes ≡ with_loads (loads_in old.lanes) t (drop 1 (loads_at old t))
+  pub room : (u : Triple) → room_on old u ≤ room_on new u
 
 -- nothing has changed but room, of which there is no less
 pub record IsSame (old new : OfficeView) : Type 0 where
@@ -18,11 +28,11 @@ pub record IsSame (old new : OfficeView) : Type 0 where
   pub hosts : new.hosts ≡ old.hosts
   pub capacity : new.capacity ≡ old.capacity
   pub history : new.history ≡ old.history
-  pub queues : IsSameQueues old.queues new.queues
+  pub queues : loads_in new.queues.lanes ≡ loads_in old.queues.lanes
   pub sid : new.sid ≡ old.sid
   pub desks : new.desks ≡ old.desks
   pub room : old.room ≤ new.room
-  pub places : (t : Triple) → room_at old.queues t ≤ room_at new.queues t
+  pub places : (t : Triple) → room_on old.queues t ≤ room_on new.queues t
 
 -- one event more of this worker, of the same origin
 pub record HasNoted (old : OfficeView) (worker : ℕ) (x : Event) (new : OfficeView) : Type 0 where

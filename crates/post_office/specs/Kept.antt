@@ -1,10 +1,9 @@
 -- What an office keeps.
 use Rattle.std.specs.Prelude.{ℕ, ◌≡◌, ◌<◌, ◌^◌, length}
-use Rattle.chor_base.specs.Events.{Triple}
 use Rattle.endpoint_code.specs.Faults.{IsFaultless}
-use Rattle.endpoint_code.specs.Network.{NetworkState, queue_of}
+use Rattle.endpoint_code.specs.Network.{NetworkState}
 use Rattle.post_office.specs.declared.post.Post.{Post}
-use Rattle.post_office.specs.Queues.{loads_at}
+use Rattle.post_office.specs.Lanes.{loads_in}
 use Rattle.post_office.specs.Views.{OfficeView, IsAfter, post_at}
 use Rattle.post_office.specs.Posts.{IsTrueIn}
 
@@ -13,7 +12,7 @@ pub record IsKept (v : OfficeView) : Type 0 where
   pub faultless : IsFaultless v.endpoints
   pub state : NetworkState
   pub after : IsAfter v state
-  pub queues : (t : Triple) → loads_at v.queues t ≡ queue_of state t
+  pub queues : loads_in v.queues.lanes ≡ state.queues
   pub sid : state.sid ≡ v.sid
   pub processes : length state.machines ≡ length v.desks
   pub few : length v.desks < 2 ^ 32

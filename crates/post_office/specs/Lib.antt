@@ -1,4 +1,5 @@
-pub mod Queues
+pub mod Lanes
+pub mod Indexed
 pub mod Views
 pub mod Posts
 pub mod Kept

@@ -9,12 +9,12 @@ use Rattle.chor_base.specs.declared.value.Load.{Load}
 use Rattle.chor_base.specs.Events.{Triple}
 use Rattle.chor_base.specs.Meaning.{Hosts}
 use Rattle.endpoint_code.specs.declared.endpoints.Endpoints.{Endpoints}
-use Rattle.endpoint_code.specs.Network.{NetworkState, NetworkSteps, has_room}
+use Rattle.endpoint_code.specs.Network.{NetworkState, NetworkSteps, has_room, loads_for}
 use Rattle.endpoint_code.specs.NetworkRuns.{IsNetworkRun}
 use Rattle.post_office.specs.declared.desk.Desk.{Desk}
 use Rattle.post_office.specs.declared.post.Post.{Post}
 use Rattle.post_office.specs.declared.post.Post.TheVariants.{Busy}
-use Rattle.post_office.specs.Queues.{QueueTable, loads_at}
+use Rattle.post_office.specs.Lanes.{QueuesView, loads_in}
 
 -- Its origin: endpoint programs, host functions by the numbers of their names, and a capacity. Then the events so far, the
 -- queues, the next session's number, what was posted of each process and which start it has to take over, and how many events
@@ -24,17 +24,23 @@ pub record OfficeView : Type 0 where
   pub hosts : Hosts
   pub capacity : Option ℕ
   pub history : List Entry
-  pub queues : QueueTable
+  pub queues : QueuesView
   pub sid : ℕ
   pub desks : List Desk
   pub room : ℕ
 
+-- how many events more fit without taking memory
 abbrev pub room_in : Vec Entry Global → ℕ
 room_in h = vec_capacity h - vec_len h
 
-abbrev pub office_of : Endpoints → Hosts → Option ℕ → Vec Entry Global → QueueTable → ℕ → List Desk → OfficeView
+-- an office by its fields
+abbrev pub office_of : Endpoints → Hosts → Option ℕ → Vec Entry Global → QueuesView → ℕ → List Desk → OfficeView
 office_of e hosts capacity history queues sid desks =
     record { endpoints = e; hosts = hosts; capacity = capacity; history = history.items; queues = queues; sid = sid; desks = desks; room = room_in history }
+
+-- the loads in transit on a triple, the first to be received first
+abbrev pub loads_at : QueuesView → Triple → List Load
+loads_at q t = loads_for (loads_in q.lanes) t
 
 -- ---- what was posted
 

@@ -11,3 +11,4 @@ mod queues;
 
 pub use office::Office;
 pub use post::{Post, Received, Sent, Started};
+pub use queues::Queues;

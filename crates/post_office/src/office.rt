@@ -65,7 +65,7 @@ impl<'a> Office<'a> {
         ensures hosts { IfOk result (λ office. office.hosts ≡ hosts_in endpoints.now.names (functions_of hosts.now)) }
         ensures capacity { IfOk result (λ office. office.capacity ≡ capacity) }
         ensures history { IfOk result (λ office. office.history ≡ []) }
-        ensures queues { IfOk result (λ office. office.queues ≡ []) }
+        ensures queues { IfOk result (λ office. office.queues.lanes ≡ []) }
         ensures sid { IfOk result (λ office. office.sid ≡ 0) }
         ensures desks { IfOk result (λ office. office.desks ≡ replicate (length endpoints.now.processes) idle) }
     {

@@ -4,11 +4,9 @@
 ghost use Rattle.waiting_processes.specs.Untouched.{OthersStay, OthersStayListed};
 
 mod lists;
-mod recent;
 mod waits;
 
 pub use lists::WaitingLists;
-pub use recent::RecentPlaces;
 pub use waits::{Awaited, awaited_by, touched_by};
 
 /// A process that neither makes an event nor waits for what it changes is where it was after it,

@@ -4,10 +4,10 @@ ghost use Rattle.std.specs.Prelude.{◌≡◌, ◌++◌, ◌∷◌, [], OnOk, if
 ghost use Rattle.waiting_processes.specs.declared.waits.Awaited.{Awaited as AnyAwaited};
 ghost use Rattle.waiting_processes.specs.Lists.{same_awaited, waiting_for, IsPlaceOf, HasCome};
 
-use crate::recent::RecentPlaces;
 use crate::waits::Awaited;
 use chor_base::Memory;
 use indexmap::IndexMap;
+use recent_places::RecentPlaces;
 use std::alloc::Global;
 use std::marker::Model;
 use std::mem::replace;

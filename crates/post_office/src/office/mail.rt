@@ -2,15 +2,14 @@
 
 ghost use Rattle.std.specs.Prelude.{◌≡◌, ◌≤◌, Some, [], slice_get, OnOk, OnErr, IsOk, true};
 ghost use Rattle.chor_base.specs.declared.event.Event.TheVariants as event;
-ghost use Rattle.post_office.specs.Queues.{loads_at, room_at};
-ghost use Rattle.post_office.specs.Views.{CanMake, CanReceive, is_full};
+ghost use Rattle.post_office.specs.Lanes.{room_on};
+ghost use Rattle.post_office.specs.Views.{loads_at, CanMake, CanReceive, is_full};
 ghost use Rattle.post_office.specs.Answers.{IsSame, HasActed, AnswersSend, AnswersReceipt, is_local};
 
 use super::Office;
 use crate::desk::make_busy;
 use crate::entries::{actor, append};
 use crate::post::{Received, Sent};
-use crate::queues::Triple;
 use chor_base::{Event, Load, Memory, NameId};
 
 impl Office<'_> {
@@ -18,11 +17,11 @@ impl Office<'_> {
     pub fn reserve(&mut self, sid: u32, from: NameId, to: NameId) -> Result<(), Memory>
         ensures same { IsSame self.old self.new }
         ensures room { OnOk result (1 ≤ self.new.room) }
-        ensures place { OnOk result (1 ≤ room_at self.new.queues (sid, from, to)) }
-        ensures succeeds { 1 ≤ self.old.room → 1 ≤ room_at self.old.queues (sid, from, to) → IsOk result }
+        ensures place { OnOk result (1 ≤ room_on self.new.queues (sid, from, to)) }
+        ensures succeeds { 1 ≤ self.old.room → 1 ≤ room_on self.old.queues (sid, from, to) → IsOk result }
     {
         self.history.reserve(1)?;
-        self.queues.reserve(Triple { sid, from, to })
+        self.queues.reserve(sid, from, to)
     }
 
     /// Takes memory for so many events.
@@ -39,20 +38,14 @@ impl Office<'_> {
     pub fn first(&self, sid: u32, from: NameId, to: NameId) -> Option<Load>
         ensures { result ≡ slice_get (loads_at self.now.queues (sid, from, to)) 0 }
     {
-        self.queues.first(Triple { sid, from, to })
+        self.queues.first(sid, from, to)
     }
 
     /// Whether a declared capacity is reached in a queue.
     pub fn full(&self, sid: u32, from: NameId, to: NameId) -> bool
         ensures { result ≡ is_full self.now (sid, from, to) }
     {
-        match self.capacity {
-            Some(capacity) => {
-                let messages = self.queues.len(Triple { sid, from, to });
-                messages >= capacity as usize
-            }
-            None => false,
-        }
+        !self.queues.has_room(self.capacity, sid, from, to)
     }
 
     /// Sends a message, which makes an event of a process that is at a head for it.
@@ -66,14 +59,14 @@ impl Office<'_> {
         load: Load,
     ) -> Sent
         requires room { 1 ≤ self.old.room }
-        requires place { 1 ≤ room_at self.old.queues (sid, from, to) }
+        requires place { 1 ≤ room_on self.old.queues (sid, from, to) }
         requires stands { CanMake self.old (event.Send pid sid from to load) }
         ensures { AnswersSend self.old worker pid (sid, from, to) load result self.new }
     {
         if self.full(sid, from, to) {
             return Sent::Full;
         }
-        self.queues.put(Triple { sid, from, to }, load);
+        self.queues.put(sid, from, to, load);
         make_busy(&mut self.desks, pid);
         let event = Event::Send {
             pid,
@@ -93,11 +86,10 @@ impl Office<'_> {
         requires stands { CanReceive self.old pid (sid, from, to) }
         ensures { AnswersReceipt self.old worker pid (sid, from, to) result self.new }
     {
-        let triple = Triple { sid, from, to };
-        let Some(load) = self.queues.first(triple) else {
+        let Some(load) = self.queues.first(sid, from, to) else {
             return Received::Empty;
         };
-        self.queues.take(triple);
+        let _ = self.queues.take(sid, from, to);
         make_busy(&mut self.desks, pid);
         let event = Event::Recv {
             pid,

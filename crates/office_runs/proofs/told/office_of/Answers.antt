@@ -8,7 +8,7 @@ use Rattle.endpoint_code.specs.declared.endpoints.Endpoints.{Endpoints}
 use Rattle.net_core.specs.Follows.{HasFollowed}
 use Rattle.endpoint_code.specs.Network.{first_state}
 use Rattle.endpoint_code.specs.NetworkRuns.{NetworkLeads}
-use Rattle.replay.proofs.Runs.{begun, underway_more}
+use Rattle.replay.proofs.Runs.{begun, fits_one, underway_more}
 use Rattle.post_office.specs.Views.{events_of}
 use Rattle.office_runs.specs.Told.{AreAlike}
 use Rattle.office_runs.proofs.Board.{begins_busy}
@@ -33,6 +33,11 @@ loop-event-init g c =
       refl,
       begins_busy w (length e.processes) o.desks,
     )
+
+pub tell-requires-clause-fits : goal.tell-requires-clause-fits
+tell-requires-clause-fits g c =
+    let e = c.args.endpoints.now in
+    fits_one e (hosts_in e.names (functions_of c.args.hosts.now)) c.args.events.now c.loop-event.event-index c.loop-event.network c.loop-event-test.true c.loop-event.invariant.0
 
 pub loop-event-preserved : goal.loop-event-preserved
 loop-event-preserved g c =

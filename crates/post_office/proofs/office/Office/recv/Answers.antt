@@ -1,9 +1,8 @@
 use Rattle.std.proofs.Common.{sym, subst, refl, ap, ◌∙◌}
 use Rattle.chor_base.specs.Events.{Triple}
 use Rattle.chor_base.specs.declared.event.Event.TheVariants as event
-use Rattle.post_office.specs.Queues.{loads_at}
-use Rattle.post_office.specs.Views.{OfficeView, CanReceive}
-use Rattle.post_office.proofs.Acting.{none_first, take_flows}
+use Rattle.post_office.specs.Views.{OfficeView, loads_at, CanReceive}
+use Rattle.post_office.proofs.Acting.{none_first, of_some}
 use Rattle.post_office.proofs.Acted.{acted_kept}
 use Rattle.post_office.proofs.office.Office.recv.Goals as goal
 
@@ -13,7 +12,7 @@ invariant_of-self c =
     let x = event.Recv c.args.pid c.args.sid c.args.from c.args.to c.in-Some.load in
     let can = subst (λ (v : OfficeView). CanReceive v c.args.pid t) (sym c.self.view_is) c.requires.stands in
     acted_kept c.self.invariant x c.args.pid refl refl (can c.in-Some.load (sym c.in-Some.ensures)) tt c.args.worker c.append.new.history.items c.take.new.self c.make_busy.new.desks.items _
-    c.append.ensures.items (take_flows c.self.inside.queues c.take.new.self t c.in-Some.load c.take.ensures (sym c.in-Some.ensures)) c.make_busy.ensures
+    c.append.ensures.items (of_some c.take.result c.in-Some.load (c.take.ensures.first ∙ sym c.in-Some.ensures) c.take.ensures.rest) c.make_busy.ensures
 
 pub returns-in_default : goal.returns-in_default
 returns-in_default c =

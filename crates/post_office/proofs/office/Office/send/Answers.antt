@@ -1,9 +1,8 @@
 use Rattle.std.proofs.Common.{sym, subst, refl, ◌≡◌, false}
 use Rattle.chor_base.specs.Events.{Triple}
 use Rattle.chor_base.specs.declared.event.Event.TheVariants as event
-use Rattle.post_office.specs.Queues.{loads_at}
-use Rattle.post_office.specs.Views.{OfficeView, CanMake, is_full}
-use Rattle.post_office.proofs.Acting.{not_full, put_flows}
+use Rattle.post_office.specs.Views.{OfficeView, loads_at, CanMake, is_full}
+use Rattle.post_office.proofs.Acting.{not_full}
 use Rattle.post_office.proofs.Acted.{acted_kept}
 use Rattle.post_office.proofs.office.Office.send.Goals as goal
 
@@ -14,4 +13,4 @@ invariant_of-self c =
     let room : is_full c.args.self.now t ≡ false = sym c.if-full.ensures in
     acted_kept c.self.invariant x c.args.pid refl refl (subst (λ (v : OfficeView). CanMake v x) (sym c.self.view_is) c.requires.stands)
     (not_full c.self.inside.capacity (loads_at c.self.inside.queues t) (subst (λ (v : OfficeView). is_full v t ≡ false) (sym c.self.view_is) room)) c.args.worker c.append.new.history.items c.put.new.self c.make_busy.new.desks.items _
-    c.append.ensures.items (put_flows c.self.inside.queues c.put.new.self t c.args.load c.put.ensures) c.make_busy.ensures
+    c.append.ensures.items c.put.ensures c.make_busy.ensures

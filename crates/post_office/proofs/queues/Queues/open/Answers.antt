@@ -1,17 +1,15 @@
-use Rattle.std.proofs.Common.{ap, sym, arith, ◌∙◌, ◌≡◌}
+use Rattle.std.proofs.Common.{◌∙◌, ap, refl, rules}
 use Rattle.chor_base.specs.Events.{Triple}
-use Rattle.post_office.specs.Queues.{loads_in, room_in, room_at}
-use Rattle.post_office.proofs.QueueTables.{updated_same, updated_kept}
+use Rattle.post_office.specs.Lanes.{QueuesView, lane_from}
+use Rattle.post_office.proofs.Places.{is_direction, indexed_more}
 use Rattle.post_office.proofs.queues.Queues.open.Goals as goal
 
-pub returns-clause-same : goal.returns-clause-same
-returns-clause-same c =
-    let t : Triple = (c.args.triple.sid, c.args.triple.from, c.args.triple.to) in
-    updated_same c.self.inside.queues.entries c.args.self.now c.insert.new.self.entries t _ c.self.view_is (λ u. c.in_ok-insert.ensures.updates.0 (record { sid = u.0; from = u.1; to = u.2 }))
-    (c.in_ok-reserve.ensures.loads ∙ c.new-queue.ensures ∙ sym (ap loads_in c.requires))
-
-pub returns-clause-kept : goal.returns-clause-kept
-returns-clause-kept c =
-    let t : Triple = (c.args.triple.sid, c.args.triple.from, c.args.triple.to) in
-    updated_kept c.self.inside.queues.entries c.args.self.now c.insert.new.self.entries t _ c.self.view_is (λ u. c.in_ok-insert.ensures.updates.0 (record { sid = u.0; from = u.1; to = u.2 }))
-    (let none : room_at c.args.self.now t ≡ 0 = ap room_in c.requires in omega arith)
+pub invariant_of-self : goal.invariant_of-self
+invariant_of-self c =
+    let i = c.self.inside in
+    let t : Triple = (c.args.sid, c.args.from, c.args.to) in
+    record {
+      same = indexed_more _ t i.directions.keys c.insert.new.self.keys i.lanes.items c.push.new.self.items _ _ (λ d. is_direction c.args.sid c.args.from c.args.to d) c.self.invariant.same
+          (ap (λ (v : QueuesView). lane_from 0 v.lanes t) c.self.view_is ∙ c.requires.absent) c.in-Ok.ensures.keys c.in-Ok-push.ensures.items refl;
+      unused = search rules;
+    }

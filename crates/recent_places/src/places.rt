@@ -1,4 +1,4 @@
-//! Where something was found lately.
+//! Places of a table at which something was found lately.
 
 use std::alloc::Global;
 
