@@ -1,5 +1,5 @@
 -- A part of a run by the pick rule, and the run that goes on from it.
-use Rattle.std.proofs.Common.{◌≡◌, ◌-◌, ◌+◌, ◌*◌, ◌^◌, ◌<◌, ◌≤◌, ℕ, suc, Bool, true, false, nat_lt, List, [], ◌∷◌, ◌++◌, length, refl, sym, ap, ◌∙◌, subst, Some, None, Option, arith}
+use Rattle.std.proofs.Common.{◌≡◌, ◌-◌, ◌+◌, ◌*◌, ◌^◌, ◌<◌, ◌≤◌, ℕ, suc, Bool, true, false, nat_lt, List, [], ◌++◌, length, refl, sym, ap, ◌∙◌, subst, Some, None, Option, arith}
 use Rattle.std.specs.Prelude.{◌≢◌, min}
 use Rattle.std.proofs.lemmas.Bool.{ltb-true, ltb-false}
 use Rattle.chor_base.specs.declared.event.Event.{Event}
@@ -25,18 +25,18 @@ use Rattle.endpoint_runs.specs.Runs.{close_of}
 
 -- ---- counted from another event on
 
-later_pick : (e : Endpoints) (n : NetworkState) (seed k j p : ℕ) → picked e None (seed + k) j n ≡ Some p → picked e None seed (k + j) n ≡ Some p
-later_pick e n seed k j p h = let same : (seed + k) + j ≡ seed + (k + j) = omega arith in subst (λ (i : ℕ). picked_of (listed e None n) i ≡ Some p) same h
+later_pick : (e : Endpoints) (cap : Option ℕ) (n : NetworkState) (seed k j p : ℕ) → picked e cap (seed + k) j n ≡ Some p → picked e cap seed (k + j) n ≡ Some p
+later_pick e cap n seed k j p h = let same : (seed + k) + j ≡ seed + (k + j) = omega arith in subst (λ (i : ℕ). picked_of (listed e cap n) i ≡ Some p) same h
 
 other_later : (k j s : ℕ) → j ≢ s → (k + j) ≢ (k + s)
 other_later k j s h = λ e. h (let same : k + j ≡ k + s = e in omega arith)
 
 -- the seed counts on from where a part begins
-pub goes_later : (k : ℕ) → {e : Endpoints} {hosts : Hosts} {seed s : ℕ} {n m : NetworkState} {j : ℕ} {xs : List Event} → GoesOn e hosts (seed + k) s n j xs m → GoesOn e hosts seed (k + s) n (k + j) xs m
+pub goes_later : (k : ℕ) → {e : Endpoints} {hosts : Hosts} {cap : Option ℕ} {seed s : ℕ} {n m : NetworkState} {j : ℕ} {xs : List Event} → GoesOn e hosts cap (seed + k) s n j xs m → GoesOn e hosts cap seed (k + s) n (k + j) xs m
 goes_later k picks.stays = picks.stays
-goes_later k {e} {hosts} {seed} {s} (picks.goes {n} {m} {last} {events = j} {p} {x} {xs} a b c d rest) =
+goes_later k {e} {hosts} {cap} {seed} {s} (picks.goes {n} {m} {last} {events = j} {p} {x} {xs} a b c d rest) =
     let next : k + suc j ≡ suc (k + j) = omega arith in
-    picks.goes a (other_later k j s b) (later_pick e n seed k j p c) d (subst (λ (i : ℕ). GoesOn e hosts seed (k + s) m i xs last) next (goes_later k rest))
+    picks.goes a (other_later k j s b) (later_pick e cap n seed k j p c) d (subst (λ (i : ℕ). GoesOn e hosts cap seed (k + s) m i xs last) next (goes_later k rest))
 
 closes_later : (k : ℕ) → {e : Endpoints} {s : ℕ} {n : NetworkState} {j : ℕ} {c : Close} → Closes e None s n j c → Closes e None (k + s) n (k + j) c
 closes_later k (close.ended a) = close.ended a
@@ -46,22 +46,22 @@ closes_later k {s = s} {j = j} (close.stuck a b c) = close.stuck (other_later k 
 -- ---- up to a greater number of events
 
 -- a part has no more events than were asked for
-pub goes_within : {e : Endpoints} {hosts : Hosts} {seed s : ℕ} {n m : NetworkState} {j : ℕ} {xs : List Event} → j ≤ s → GoesOn e hosts seed s n j xs m → j + length xs ≤ s
+pub goes_within : {e : Endpoints} {hosts : Hosts} {cap : Option ℕ} {seed s : ℕ} {n m : NetworkState} {j : ℕ} {xs : List Event} → j ≤ s → GoesOn e hosts cap seed s n j xs m → j + length xs ≤ s
 goes_within le picks.stays = omega arith
 goes_within le (picks.goes {events = j} {xs = xs} a b c d rest) = let more = goes_within (let x = le in let y = b in omega arith) rest in omega arith
 
-pub goes_raised : {e : Endpoints} {hosts : Hosts} {seed s : ℕ} {n m : NetworkState} {j : ℕ} {xs : List Event} → (t : ℕ) → j ≤ s → s ≤ t → GoesOn e hosts seed s n j xs m → GoesOn e hosts seed t n j xs m
+pub goes_raised : {e : Endpoints} {hosts : Hosts} {cap : Option ℕ} {seed s : ℕ} {n m : NetworkState} {j : ℕ} {xs : List Event} → (t : ℕ) → j ≤ s → s ≤ t → GoesOn e hosts cap seed s n j xs m → GoesOn e hosts cap seed t n j xs m
 goes_raised t le up picks.stays = picks.stays
 goes_raised t le up (picks.goes a b c d rest) = picks.goes a (let x = le in let y = b in let z = up in omega arith) c d (goes_raised t (let x = le in let y = b in omega arith) up rest)
 
 -- a run goes on to where it is closed
-pub goes_to_close : {e : Endpoints} {hosts : Hosts} {seed s : ℕ} {n m : NetworkState} {j : ℕ} {xs : List Event} {c : Close} → IsScheduled e hosts None seed s n j xs m c → GoesOn e hosts seed s n j xs m
+pub goes_to_close : {e : Endpoints} {hosts : Hosts} {cap : Option ℕ} {seed s : ℕ} {n m : NetworkState} {j : ℕ} {xs : List Event} {c : Close} → IsScheduled e hosts cap seed s n j xs m c → GoesOn e hosts cap seed s n j xs m
 goes_to_close (close.closed h) = picks.stays
 goes_to_close (close.goes a b c d rest) = picks.goes a b c d (goes_to_close rest)
 
-pub closes_at : {e : Endpoints} {hosts : Hosts} {seed s : ℕ} {n m : NetworkState} {j : ℕ} {xs : List Event} {c : Close} → IsScheduled e hosts None seed s n j xs m c → Closes e None s m (j + length xs) c
-closes_at {e} {s = s} {n = n} {j = j} {c = c} (close.closed h) = let same : j ≡ j + 0 = omega arith in subst (λ (i : ℕ). Closes e None s n i c) same h
-closes_at {e} {s = s} {m = m} {j = j} {c = c} (close.goes {xs = xs} a b p d rest) = let same : suc j + length xs ≡ j + suc (length xs) = omega arith in subst (λ (i : ℕ). Closes e None s m i c) same (closes_at rest)
+pub closes_at : {e : Endpoints} {hosts : Hosts} {cap : Option ℕ} {seed s : ℕ} {n m : NetworkState} {j : ℕ} {xs : List Event} {c : Close} → IsScheduled e hosts cap seed s n j xs m c → Closes e cap s m (j + length xs) c
+closes_at {e} {cap = cap} {s = s} {n = n} {j = j} {c = c} (close.closed h) = let same : j ≡ j + 0 = omega arith in subst (λ (i : ℕ). Closes e cap s n i c) same h
+closes_at {e} {cap = cap} {s = s} {m = m} {j = j} {c = c} (close.goes {xs = xs} a b p d rest) = let same : suc j + length xs ≡ j + suc (length xs) = omega arith in subst (λ (i : ℕ). Closes e cap s m i c) same (closes_at rest)
 
 closes_raised : {e : Endpoints} {s : ℕ} {n : NetworkState} {i : ℕ} {c : Close} → (t : ℕ) → i ≤ s → s ≤ t → (c ≡ close.Limit → s ≡ t) → Closes e None s n i c → Closes e None t n i c
 closes_raised t le up same (close.ended a) = close.ended a
@@ -74,11 +74,11 @@ limit_count (close.limit a b) = b
 -- ---- a part of a run
 
 -- what a network has made by the pick rule, however that ended
-gone_of : (hosts : Hosts) (seed steps : ℕ) (old new : NetworkView) (r : Picked) → Runs hosts seed steps old r new → HasGone hosts seed steps old new
+pub gone_of : (hosts : Hosts) (seed steps : ℕ) (old new : NetworkView) (r : Picked) → Runs hosts seed steps old r new → HasGone hosts seed steps old new
 gone_of hosts seed steps old new r run = go r run
   where
     of_run : (c : Close) → HasRun hosts seed steps old new c → HasGone hosts seed steps old new
-    of_run c h = record { events = h.events; endpoints = h.endpoints; history = h.history; run = goes_to_close h.run; grown = h.grown }
+    of_run c h = record { events = h.events; endpoints = h.endpoints; capacity = h.capacity; history = h.history; run = goes_to_close h.run; grown = h.grown }
 
     go : (r : Picked) → Runs hosts seed steps old r new → HasGone hosts seed steps old new
     go picked.Ended h = of_run close.Ended h
@@ -86,9 +86,10 @@ gone_of hosts seed steps old new r run = go r run
     go (picked.Stuck p why) h = of_run (close.Stuck p why) h
     go picked.Memory h = h
 
--- where a part begins: the events before it are forgotten
+-- where a part begins: the events before it are forgotten, and queues have no capacity
 pub record Begins (old first : NetworkView) : Type 0 where
   pub endpoints : first.endpoints ≡ old.endpoints
+  pub capacity : first.capacity ≡ None
   pub state : first.state ≡ old.state
   pub history : first.history ≡ []
 
@@ -145,14 +146,15 @@ pub record LedBy (e : Endpoints) (hosts : Hosts) (seed steps k : ℕ) (n : Netwo
 
 module _ (hosts : Hosts) (seed k part steps : ℕ) (old first new : NetworkView) (b : Begins old first) (le : k ≤ steps) (few : part ≤ steps - k) where
   -- from where the run was before the part, with the events counted on
-  counted_on : (xs : List Event) → GoesOn first.endpoints hosts (seed + k) part first.state (length first.history) xs new.state → GoesOn old.endpoints hosts seed steps old.state k xs new.state
+  counted_on : (xs : List Event) → GoesOn first.endpoints hosts first.capacity (seed + k) part first.state (length first.history) xs new.state → GoesOn old.endpoints hosts None seed steps old.state k xs new.state
   counted_on xs run =
       let none : length first.history ≡ 0 = ap length b.history in
-      let begun = subst (λ (i : ℕ). GoesOn first.endpoints hosts (seed + k) part first.state i xs new.state) none run in
-      let stood = subst (λ (n : NetworkState). GoesOn first.endpoints hosts (seed + k) part n 0 xs new.state) b.state begun in
-      let here = subst (λ (e : Endpoints). GoesOn e hosts (seed + k) part old.state 0 xs new.state) b.endpoints stood in
+      let free = subst (λ (c : Option ℕ). GoesOn first.endpoints hosts c (seed + k) part first.state (length first.history) xs new.state) b.capacity run in
+      let begun = subst (λ (i : ℕ). GoesOn first.endpoints hosts None (seed + k) part first.state i xs new.state) none free in
+      let stood = subst (λ (n : NetworkState). GoesOn first.endpoints hosts None (seed + k) part n 0 xs new.state) b.state begun in
+      let here = subst (λ (e : Endpoints). GoesOn e hosts None (seed + k) part old.state 0 xs new.state) b.endpoints stood in
       let same : k + 0 ≡ k = omega arith in
-      goes_raised steps (omega arith) (omega arith) (subst (λ (i : ℕ). GoesOn old.endpoints hosts seed (k + part) old.state i xs new.state) same (goes_later k here))
+      goes_raised steps (omega arith) (omega arith) (subst (λ (i : ℕ). GoesOn old.endpoints hosts None seed (k + part) old.state i xs new.state) same (goes_later k here))
 
   count_of : (c : Close) (run : HasRun hosts (seed + k) part first new c) → length run.events ≤ part
   count_of c run =
@@ -164,7 +166,7 @@ module _ (hosts : Hosts) (seed k part steps : ℕ) (old first new : NetworkView)
   closes_here c run =
       let begun : length first.history ≡ 0 = ap length b.history in
       let none : length first.history + length run.events ≡ length run.events = omega arith in
-      subst (λ (e : Endpoints). Closes e None part new.state (length run.events) c) b.endpoints (subst (λ (i : ℕ). Closes first.endpoints None part new.state i c) none (closes_at run.run))
+      subst (λ (e : Endpoints). Closes e None part new.state (length run.events) c) b.endpoints (subst (λ (i : ℕ). Closes first.endpoints None part new.state i c) none (subst (λ (o : Option ℕ). Closes first.endpoints o part new.state (length first.history + length run.events) c) b.capacity (closes_at run.run)))
 
   part_of : (c : Close) (run : HasRun hosts (seed + k) part first new c) → new.history ≡ entries_of run.events
   part_of c run = run.history ∙ ap (λ es. es ++ entries_of run.events) b.history

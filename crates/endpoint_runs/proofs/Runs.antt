@@ -56,11 +56,12 @@ has_run hosts seed steps old picked.Limit new c run e = let same : Close.Limit �
 has_run hosts seed steps old (picked.Stuck p why) new c run e = let same : Close.Stuck p why ≡ c = cc in subst (HasRun hosts seed steps old new) same run
 has_run hosts seed steps old picked.Memory new c run e = absurd cc
 
-pub run_is : (hosts : Hosts) (seed steps : ℕ) (e : Endpoints) (old new : NetworkView) (p : Picked) (c : Close) → old.endpoints ≡ e → old.state ≡ first_state e → old.history ≡ []
+pub run_is : (hosts : Hosts) (seed steps : ℕ) (e : Endpoints) (old new : NetworkView) (p : Picked) (c : Close) → old.endpoints ≡ e → old.capacity ≡ None → old.state ≡ first_state e → old.history ≡ []
     → Runs hosts seed steps old p new → close_by p ≡ Some c → IsRun e hosts seed steps new.history c
-run_is hosts seed steps e old new p c programs state history runs closed =
+run_is hosts seed steps e old new p c programs capacity state history runs closed =
     let r = has_run hosts seed steps old p new c runs closed in
-    let counted : IsScheduled old.endpoints hosts None seed steps old.state 0 r.events new.state c = subst (λ (es : List Entry). IsScheduled old.endpoints hosts None seed steps old.state (length es) r.events new.state c) history r.run in
+    let free : IsScheduled old.endpoints hosts None seed steps old.state (length old.history) r.events new.state c = subst (λ (k : Option ℕ). IsScheduled old.endpoints hosts k seed steps old.state (length old.history) r.events new.state c) capacity r.run in
+    let counted : IsScheduled old.endpoints hosts None seed steps old.state 0 r.events new.state c = subst (λ (es : List Entry). IsScheduled old.endpoints hosts None seed steps old.state (length es) r.events new.state c) history free in
     let begun : IsScheduled old.endpoints hosts None seed steps (first_state e) 0 r.events new.state c = subst (λ (n : NetworkState). IsScheduled old.endpoints hosts None seed steps n 0 r.events new.state c) state counted in
     let run : IsScheduled e hosts None seed steps (first_state e) 0 r.events new.state c = subst (λ (x : Endpoints). IsScheduled x hosts None seed steps (first_state e) 0 r.events new.state c) programs begun in
     record { history = r.events; entries_are = r.history ∙ ap (λ (es : List Entry). es ++ entries_of r.events) history; last = new.state; scheduled = run }

@@ -24,7 +24,7 @@ closed_after picked.Memory more = None
 
 -- From a state after so many events, these follow by the pick rule, at least one; or they close the run so
 abbrev pub Leads : Endpoints → Hosts → ℕ → ℕ → NetworkState → ℕ → List Event → NetworkState → Option Closed → Type 0
-Leads e hosts seed steps n k xs m None = GoesOn e hosts seed steps n k xs m × (1 ≤ length xs)
+Leads e hosts seed steps n k xs m None = GoesOn e hosts None seed steps n k xs m × (1 ≤ length xs)
 Leads e hosts seed steps n k xs m (Some c) = IsScheduled e hosts None seed steps n k xs m (close_of c)
 
 -- The run has gone on by a part, which is the one that is kept, and is closed by it so, if it is

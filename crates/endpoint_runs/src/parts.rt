@@ -1,6 +1,6 @@
 //! A run that is made in parts.
 
-ghost use Rattle.std.specs.Prelude.{◌≡◌, ◌+◌, ◌-◌, ◌*◌, ◌<◌, ◌≤◌, ◌^◌, [], length, IfOk};
+ghost use Rattle.std.specs.Prelude.{◌≡◌, ◌+◌, ◌-◌, ◌*◌, ◌<◌, ◌≤◌, ◌^◌, [], length, IfOk, None};
 ghost use Rattle.endpoint_code.specs.Faults.{IsFaultless};
 ghost use Rattle.endpoint_code.specs.Network.{first_state};
 ghost use Rattle.net_core.specs.Steps.{most_served};
@@ -26,6 +26,7 @@ pub struct Run<'a> {
     pub(crate) schedule: Schedule,
     // How many events there were before that part.
     pub(crate) before: u64,
+    ghost capacity: { network.capacity ≡ None },
     ghost seed: { schedule.seed < 2 ^ 32 },
     ghost few: { schedule.steps ≤ 1000000 },
     ghost within: { before + length network.history ≤ schedule.steps },
@@ -52,7 +53,7 @@ impl<'a> Run<'a> {
         if !are_few(endpoints) {
             return Err(Memory);
         }
-        let network = Network::new(alloc, endpoints)?;
+        let network = Network::new(alloc, endpoints, None)?;
         Ok(Run {
             network,
             schedule,

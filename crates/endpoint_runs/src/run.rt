@@ -50,7 +50,7 @@ pub fn run_endpoints(
     if !are_few(endpoints) {
         return Err(Memory);
     }
-    let mut network = Network::new(alloc, endpoints)?;
+    let mut network = Network::new(alloc, endpoints, None)?;
     let closed = closed_by(network.run_picked(hosts, seed, steps))?;
     let history = list_of(network.into_history())?;
     Ok(Ran { history, closed })

@@ -1,5 +1,5 @@
 -- Events that are read and followed, line by line.
-use Rattle.std.proofs.Common.{◌≡◌, ◌≤◌, ◌<◌, ◌+◌, ◌*◌, ◌^◌, ℕ, zero, suc, List, [], ◌∷◌, ◌++◌, length, length-append, refl, sym, ap, ◌∙◌, subst, None, Err, arith}
+use Rattle.std.proofs.Common.{◌≡◌, ◌≤◌, ◌<◌, ◌+◌, ◌*◌, ◌^◌, ℕ, zero, suc, List, [], ◌∷◌, ◌++◌, length, length-append, refl, sym, ap, ◌∙◌, subst, Option, None, Err, arith}
 use Rattle.std.specs.Prelude.{All}
 use Rattle.chor_base.specs.declared.event.Event.{Event}
 use Rattle.chor_base.specs.Meaning.{Hosts}
@@ -32,14 +32,15 @@ pub record Along (w : Words) (e : Endpoints) (hosts : Hosts) (bytes rest : List 
   pub read : IsRead w bytes history rest
   pub counted : count ≡ length history
   pub endpoints : v.endpoints ≡ e
+  pub capacity : v.capacity ≡ None
   pub run : IsNetworkRun e hosts None history v.state
   pub left : ℕ
   pub enough : length rest ≤ left
   pub fits : FitsMore v left
 
 module _ (w : Words) (e : Endpoints) (hosts : Hosts) (bytes : List ℕ) where
-  pub begun : (v : NetworkView) → v.endpoints ≡ e → v.state ≡ first_state e → length bytes ≤ 2 ^ 26 → All (λ k. length k.serve ≤ 60) e.channels → length e.processes ≤ 1000000 → Along w e hosts bytes bytes 0 v
-  begun v same at few served processes =
+  pub begun : (v : NetworkView) → v.endpoints ≡ e → v.capacity ≡ None → v.state ≡ first_state e → length bytes ≤ 2 ^ 26 → All (λ k. length k.serve ≤ 60) e.channels → length e.processes ≤ 1000000 → Along w e hosts bytes bytes 0 v
+  begun v same free at few served processes =
       let s : v.state.sid ≡ 0 = ap (λ (n : NetworkState). n.sid) at in
       let m : length v.state.machines ≡ length (standing_all e.processes) = ap (λ (n : NetworkState). length n.machines) at in
       let count = length-standing_all e.processes in
@@ -50,6 +51,7 @@ module _ (w : Words) (e : Endpoints) (hosts : Hosts) (bytes : List ℕ) where
         read = none_read w bytes;
         counted = refl;
         endpoints = same;
+        capacity = free;
         run = sym at;
         left = length bytes;
         enough = omega arith;
@@ -72,9 +74,9 @@ module _ (w : Words) (e : Endpoints) (hosts : Hosts) (bytes : List ℕ) where
   fits_later (suc k) rest after v u same g enough less f = (k, omega (arith, enough, less), fits_after v u k same g f)
 
   -- the next line is followed, and what was made is forgotten
-  pub along_more : (rest after line : List ℕ) (count : ℕ) (x : Event) (v u z : NetworkView) → Along w e hosts bytes rest count v → lines_of rest ≡ line ∷ lines_of after → length after < length rest → HasEvent w x → line ≡ event_text w (count + 1) x → HasFollowed hosts v x u → HasGrown v u → z.endpoints ≡ u.endpoints → z.state ≡ u.state → Along w e hosts bytes after (count + 1) z
-  along_more rest after line count x v u z a first less has text f g same at =
-      let step = subst (λ (b : Endpoints). NetworkSteps b hosts None v.state x f.state) a.endpoints f.steps in
+  pub along_more : (rest after line : List ℕ) (count : ℕ) (x : Event) (v u z : NetworkView) → Along w e hosts bytes rest count v → lines_of rest ≡ line ∷ lines_of after → length after < length rest → HasEvent w x → line ≡ event_text w (count + 1) x → HasFollowed hosts v x u → HasGrown v u → z.endpoints ≡ u.endpoints → z.capacity ≡ u.capacity → z.state ≡ u.state → Along w e hosts bytes after (count + 1) z
+  along_more rest after line count x v u z a first less has text f g same alike at =
+      let step = subst (λ (k : Option ℕ). NetworkSteps e hosts k v.state x f.state) a.capacity (subst (λ (b : Endpoints). NetworkSteps b hosts v.capacity v.state x f.state) a.endpoints f.steps) in
       let run = leads_more e hosts a.history x (first_state e) v.state f.state a.run step in
       let later = fits_later a.left rest after v u f.becomes.endpoints g a.enough less a.fits in
       let k = later.0 in
@@ -85,6 +87,7 @@ module _ (w : Words) (e : Endpoints) (hosts : Hosts) (bytes : List ℕ) where
         read = one_read w bytes rest after line a.history x a.read first has (text_there count a.history line x a.counted text);
         counted = ap (λ (n : ℕ). n + 1) a.counted ∙ sym (length-append a.history (x ∷ []));
         endpoints = same ∙ f.becomes.endpoints ∙ a.endpoints;
+        capacity = alike ∙ f.becomes.capacity ∙ a.capacity;
         run = subst (λ (n : NetworkState). IsNetworkRun e hosts None (a.history ++ x ∷ []) n) (sym (at ∙ f.becomes.state)) run;
         left = k;
         enough = later.1;
@@ -95,7 +98,7 @@ module _ (w : Words) (e : Endpoints) (hosts : Hosts) (bytes : List ℕ) where
       }
 
   -- the next line is that of an event that can't happen
-  pub unmatched : IsBook w → (rest after line : List ℕ) (count : ℕ) (x : Event) (v : NetworkView) → Along w e hosts bytes rest count v → length bytes ≤ 2 ^ 26 → lines_of rest ≡ line ∷ lines_of after → HasEvent w x → line ≡ event_text w (count + 1) x → (IsStep e hosts v.state x → ⊥) → ReplaysNetwork w e hosts bytes (Err (Unmatched (count + 1)))
+  pub unmatched : IsBook w → (rest after line : List ℕ) (count : ℕ) (x : Event) (v : NetworkView) → Along w e hosts bytes rest count v → length bytes ≤ 2 ^ 26 → lines_of rest ≡ line ∷ lines_of after → HasEvent w x → line ≡ event_text w (count + 1) x → (IsStep e hosts None v.state x → ⊥) → ReplaysNetwork w e hosts bytes (Err (Unmatched (count + 1)))
   unmatched book rest after line count x v a few first has text cannot =
       let there = text_there count a.history line x a.counted text in
       let small : length a.history + 1 < 2 ^ 64 = (let n = few_lines rest count v a few in omega (arith, n, a.counted)) in

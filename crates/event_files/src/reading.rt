@@ -34,7 +34,7 @@ pub fn follow_events<'a>(
     requires processes { length endpoints.now.processes ≤ 1000000 }
     ensures { IsAnswered (words book.now) endpoints.now (hosts_in endpoints.now.names (functions_of hosts.now)) bytes.now result }
 {
-    let mut network = Network::new(alloc, endpoints)?;
+    let mut network = Network::new(alloc, endpoints, None)?;
     let mut count = 0;
     let mut rest = bytes;
     while let Some((line, after)) = first_line(rest) {

@@ -1,5 +1,5 @@
 -- Processes that are noted and judged anew.
-use Rattle.std.proofs.Common.{◌≡◌, ◌⊎◌, inl, inr, ℕ, zero, suc, ◌+◌, ◌==◌, ◌<◌, Bool, true, false, ◌||◌, List, [], ◌∷◌, ◌++◌, length, refl, sym, ap, ◌∙◌, subst, Option, Some, arith}
+use Rattle.std.proofs.Common.{◌≡◌, ◌⊎◌, inl, inr, ℕ, zero, suc, ◌+◌, ◌==◌, ◌<◌, Bool, true, false, ◌||◌, List, [], ◌∷◌, ◌++◌, length, refl, sym, ap, ◌∙◌, subst, Option, Some, None, arith}
 use Rattle.std.specs.Prelude.{slice_get, slice_set, not, ◌≢◌, if◌then◌else◌}
 use Rattle.std.proofs.lemmas.Bool.{eqb-true, eqb-false}
 use Rattle.std.proofs.lemmas.Bool.Decides.{nat_tests}
@@ -10,9 +10,9 @@ use Rattle.endpoint_code.specs.declared.endpoints.Endpoints.{Endpoints}
 use Rattle.endpoint_code.specs.Network.{NetworkState}
 use Rattle.endpoint_machine.specs.declared.head.Head.{Head}
 use Rattle.waiting_processes.specs.declared.waits.Awaited.{Awaited}
-use Rattle.waiting_processes.specs.declared.waits.Awaited.TheVariants.{Channel}
+use Rattle.waiting_processes.specs.declared.waits.Awaited.TheVariants.{Queue, Channel}
 use Rattle.waiting_processes.specs.declared.lists.WaitingLists.{WaitingLists}
-use Rattle.waiting_processes.specs.Waits.{awaited_by, awaited_in, awaited_at, awaited_of}
+use Rattle.waiting_processes.specs.Waits.{awaits_room, awaited_by, awaited_in, awaited_at, awaited_of}
 use Rattle.waiting_processes.specs.Lists.{waiting_for, same_awaited}
 use Rattle.waiting_processes.proofs.Left.{get_other}
 use Rattle.waiting_processes.proofs.Entries.{is_same, same_itself}
@@ -98,23 +98,27 @@ grown_more count first old listed unended g l u = record {
 
 -- ---- one process
 
-pub awaits : (e : Endpoints) (n : NetworkState) (p : ℕ) (h : Head) → Shows e n p h → awaited_at e n p ≡ awaited_by h
-awaits e n p h s = ap (awaited_in e) s.stands.there ∙ ap awaited_of (taker e n p h s)
+pub awaits : (e : Endpoints) (cap : Option ℕ) (n : NetworkState) (p : ℕ) (h : Head) → Shows e n p h → awaited_at e cap n p ≡ awaited_by cap h
+awaits e cap n p h s = ap (awaited_in e cap) s.stands.there ∙ ap (awaited_of cap) (taker e n p h s)
 
-no_channel : (h : Head) → is_joining_head h ≡ false → (c : NameId) → awaited_by h ≡ Some (Channel c) → ⊥
-no_channel (head.Join d r) none c i = cc
-no_channel (head.Take s a b) none c i = cc
-no_channel (head.Out s a b) none c i = cc
-no_channel head.Local none c i = cc
-no_channel head.Ended none c i = cc
+no_channel : (cap : Option ℕ) (h : Head) → is_joining_head h ≡ false → (c : NameId) → awaited_by cap h ≡ Some (Channel c) → ⊥
+no_channel cap (head.Join d r) none c i = cc
+no_channel cap (head.Take s a b) none c i = cc
+no_channel cap (head.Out s a b) none c i = for_room cap i
+  where
+    for_room : (o : Option ℕ) → awaits_room o (Queue s a b) ≡ Some (Channel c) → ⊥
+    for_room None j = cc
+    for_room (Some k) j = cc
+no_channel cap head.Local none c i = cc
+no_channel cap head.Ended none c i = cc
 
-module _ (e : Endpoints) (n : NetworkState) where
+module _ (e : Endpoints) (cap : Option ℕ) (n : NetworkState) where
   -- ---- noted
 
   -- what is kept of one process is noted anew, and it is judged unless it joins
-  pub entered_one : (old new : Candidates) (p : ℕ) (joins : Bool) → p < length n.machines → HasPlaces (length n.machines) old → Judges e n old.listed [] new.listed → (joins ≡ false → IsSettled e n new.listed p)
-      → new.unended ≡ slice_set old.unended p (not (ended_at e n p)) → IsKept e n new.waiting p → ((w : Awaited) (q : ℕ) → IsIn (waiting_for old.waiting w) q → IsIn (waiting_for new.waiting w) q) → AreWithin (length n.machines) new.waiting
-      → Enters e n old (p ∷ []) joins new
+  pub entered_one : (old new : Candidates) (p : ℕ) (joins : Bool) → p < length n.machines → HasPlaces (length n.machines) old → Judges e cap n old.listed [] new.listed → (joins ≡ false → IsSettled e cap n new.listed p)
+      → new.unended ≡ slice_set old.unended p (not (ended_at e n p)) → IsKept e cap n new.waiting p → ((w : Awaited) (q : ℕ) → IsIn (waiting_for old.waiting w) q → IsIn (waiting_for new.waiting w) q) → AreWithin (length n.machines) new.waiting
+      → Enters e cap n old (p ∷ []) joins new
   entered_one old new p joins lt places listed settled unended kept more within = record {
     places = record {
       listed = listed.count ∙ places.listed;
@@ -122,33 +126,33 @@ module _ (e : Endpoints) (n : NetworkState) where
       within = within;
     };
     stays = stays;
-    entered = λ q i. subst (IsNoted e n new) (in_one p q i) own;
+    entered = λ q i. subst (IsNoted e cap n new) (in_one p q i) own;
     still = listed.stays;
-    settled = λ f q i. subst (IsSettled e n new.listed) (in_one p q i) (settled f);
+    settled = λ f q i. subst (IsSettled e cap n new.listed) (in_one p q i) (settled f);
   }
     where
-      own : IsNoted e n new p
+      own : IsNoted e cap n new p
       own =
           let inside : p < length old.unended = subst (λ k. p < k) (sym places.unended) lt in
           record { unended = ap (λ (bs : List Bool). slice_get bs p) unended ∙ get_set old.unended p (not (ended_at e n p)) inside; kept = kept }
 
-      stays : (q : ℕ) → IsNoted e n old q → IsNoted e n new q
+      stays : (q : ℕ) → IsNoted e cap n old q → IsNoted e cap n new q
       stays q r = go (p == q) refl
         where
-          go : (t : Bool) → (p == q) ≡ t → IsNoted e n new q
-          go true i = subst (IsNoted e n new) (eqb-true p q i) own
+          go : (t : Bool) → (p == q) ≡ t → IsNoted e cap n new q
+          go true i = subst (IsNoted e cap n new) (eqb-true p q i) own
           go false i =
               let apart : q ≢ p = λ s. eqb-false p q i (sym s) in
               record { unended = ap (λ (bs : List Bool). slice_get bs q) unended ∙ get_other old.unended p q (not (ended_at e n p)) apart ∙ r.unended; kept = λ w a. more w q (r.kept w a) }
 
-  pub entered_none : (c : Candidates) → HasPlaces (length n.machines) c → Enters e n c [] false c
+  pub entered_none : (c : Candidates) → HasPlaces (length n.machines) c → Enters e cap n c [] false c
   entered_none c places = record { places = places; stays = λ q r. r; entered = λ q i. absurd (in_none q i); still = λ q r. r; settled = λ f q i. absurd (in_none q i) }
 
   neither : (j k : Bool) → (j || k) ≡ false → (j ≡ false) × (k ≡ false)
   neither false k h = (refl, h)
   neither true k h = absurd cc
 
-  pub entered_more : (a b c : Candidates) (ps : List ℕ) (p : ℕ) (j k : Bool) → Enters e n a ps j b → Enters e n b (p ∷ []) k c → Enters e n a (ps ++ p ∷ []) (j || k) c
+  pub entered_more : (a b c : Candidates) (ps : List ℕ) (p : ℕ) (j k : Bool) → Enters e cap n a ps j b → Enters e cap n b (p ∷ []) k c → Enters e cap n a (ps ++ p ∷ []) (j || k) c
   entered_more a b c ps p j k s t = record {
     places = t.places;
     stays = λ q r. t.stays q (s.stays q r);
@@ -157,25 +161,25 @@ module _ (e : Endpoints) (n : NetworkState) where
     settled = λ f q i. settled (neither j k f) q (in_either ps p q i);
   }
     where
-      go : (q : ℕ) → IsIn ps q ⊎ (p ≡ q) → IsNoted e n c q
+      go : (q : ℕ) → IsIn ps q ⊎ (p ≡ q) → IsNoted e cap n c q
       go q (inl i) = t.stays q (s.entered q i)
       go q (inr i) = t.entered q (0, ap (λ (k : ℕ). Some k) i)
 
-      settled : (j ≡ false) × (k ≡ false) → (q : ℕ) → IsIn ps q ⊎ (p ≡ q) → IsSettled e n c.listed q
+      settled : (j ≡ false) × (k ≡ false) → (q : ℕ) → IsIn ps q ⊎ (p ≡ q) → IsSettled e cap n c.listed q
       settled f q (inl i) = let r = s.settled f.0 q i in record { joins_none = r.joins_none; judged = t.still q r.judged }
       settled f q (inr i) = t.settled f.1 q (0, ap (λ (k : ℕ). Some k) i)
 
   -- one process after the other
-  pub entered_next : (old new : Candidates) (p : ℕ) (joins : Bool) → Enters e n old (p ∷ []) joins new → ((q : ℕ) → q < p → IsNoted e n old q) → (q : ℕ) → q < p + 1 → IsNoted e n new q
+  pub entered_next : (old new : Candidates) (p : ℕ) (joins : Bool) → Enters e cap n old (p ∷ []) joins new → ((q : ℕ) → q < p → IsNoted e cap n old q) → (q : ℕ) → q < p + 1 → IsNoted e cap n new q
   entered_next old new p joins l before q lt = go (p == q) refl
     where
-      go : (t : Bool) → (p == q) ≡ t → IsNoted e n new q
+      go : (t : Bool) → (p == q) ≡ t → IsNoted e cap n new q
       go true i = l.entered q (0, ap (λ (k : ℕ). Some k) (eqb-true p q i))
       go false i = let apart = eqb-false p q i in let less : q < p = grind (arith, nat_tests) in l.stays q (before q less)
 
   -- one more in the list of what it waits for
   module _ (old new : WaitingLists) (a : Awaited) (p : ℕ) (put : (w : Awaited) → waiting_for new w ≡ (if same_awaited a w then waiting_for old a ++ p ∷ [] else waiting_for old w)) where
-    pub added : awaited_at e n p ≡ Some a → (w : Awaited) → awaited_at e n p ≡ Some w → IsIn (waiting_for new w) p
+    pub added : awaited_at e cap n p ≡ Some a → (w : Awaited) → awaited_at e cap n p ≡ Some w → IsIn (waiting_for new w) p
     added is w i =
         let both : Some a ≡ Some w = sym is ∙ i in
         let same : a ≡ w = cc in
@@ -201,73 +205,73 @@ module _ (e : Endpoints) (n : NetworkState) where
 
   -- ---- judged
 
-  pub judged_one : (old new : List Bool) (p : ℕ) (b : Bool) → p < length n.machines → length old ≡ length n.machines → b ≡ is_listed_at e n p → new ≡ slice_set old p b → Judges e n old (p ∷ []) new
-  judged_one old new p b lt count is put = record { count = ap length put ∙ length_set old p b; stays = stays; judged = λ q i. subst (IsJudged e n new) (in_one p q i) own }
+  pub judged_one : (old new : List Bool) (p : ℕ) (b : Bool) → p < length n.machines → length old ≡ length n.machines → b ≡ is_listed_at e cap n p → new ≡ slice_set old p b → Judges e cap n old (p ∷ []) new
+  judged_one old new p b lt count is put = record { count = ap length put ∙ length_set old p b; stays = stays; judged = λ q i. subst (IsJudged e cap n new) (in_one p q i) own }
     where
-      own : IsJudged e n new p
+      own : IsJudged e cap n new p
       own = let inside : p < length old = subst (λ k. p < k) (sym count) lt in ap (λ (bs : List Bool). slice_get bs p) put ∙ get_set old p b inside ∙ ap (λ (x : Bool). Some x) is
 
-      stays : (q : ℕ) → IsJudged e n old q → IsJudged e n new q
+      stays : (q : ℕ) → IsJudged e cap n old q → IsJudged e cap n new q
       stays q r = go (p == q) refl
         where
-          go : (t : Bool) → (p == q) ≡ t → IsJudged e n new q
-          go true i = subst (IsJudged e n new) (eqb-true p q i) own
+          go : (t : Bool) → (p == q) ≡ t → IsJudged e cap n new q
+          go true i = subst (IsJudged e cap n new) (eqb-true p q i) own
           go false i = let apart : q ≢ p = λ s. eqb-false p q i (sym s) in ap (λ (bs : List Bool). slice_get bs q) put ∙ get_other old p q b apart ∙ r
 
-  pub judged_none : (bits : List Bool) → Judges e n bits [] bits
+  pub judged_none : (bits : List Bool) → Judges e cap n bits [] bits
   judged_none bits = record { count = refl; stays = λ q r. r; judged = λ q i. absurd (in_none q i) }
 
-  pub judged_more : (a b c : List Bool) (ps : List ℕ) (p : ℕ) → Judges e n a ps b → Judges e n b (p ∷ []) c → Judges e n a (ps ++ p ∷ []) c
+  pub judged_more : (a b c : List Bool) (ps : List ℕ) (p : ℕ) → Judges e cap n a ps b → Judges e cap n b (p ∷ []) c → Judges e cap n a (ps ++ p ∷ []) c
   judged_more a b c ps p s t = record { count = t.count ∙ s.count; stays = λ q r. t.stays q (s.stays q r); judged = λ q i. go q (in_either ps p q i) }
     where
-      go : (q : ℕ) → IsIn ps q ⊎ (p ≡ q) → IsJudged e n c q
+      go : (q : ℕ) → IsIn ps q ⊎ (p ≡ q) → IsJudged e cap n c q
       go q (inl i) = t.stays q (s.judged q i)
       go q (inr i) = t.judged q (0, ap (λ (k : ℕ). Some k) i)
 
-  pub judged_next : (old new : List Bool) (p : ℕ) → Judges e n old (p ∷ []) new → ((q : ℕ) → q < p → IsJudged e n old q) → (q : ℕ) → q < p + 1 → IsJudged e n new q
+  pub judged_next : (old new : List Bool) (p : ℕ) → Judges e cap n old (p ∷ []) new → ((q : ℕ) → q < p → IsJudged e cap n old q) → (q : ℕ) → q < p + 1 → IsJudged e cap n new q
   judged_next old new p l before q lt = go (p == q) refl
     where
-      go : (t : Bool) → (p == q) ≡ t → IsJudged e n new q
+      go : (t : Bool) → (p == q) ≡ t → IsJudged e cap n new q
       go true i = l.judged q (0, ap (λ (k : ℕ). Some k) (eqb-true p q i))
       go false i = let apart = eqb-false p q i in let less : q < p = grind (arith, nat_tests) in l.stays q (before q less)
 
   -- ---- with those who join the same channel
 
-  pub renewed_none : (done : Option NameId) (bits : List Bool) → Renews e n done bits [] bits
-  renewed_none done bits = record { judges = judged_none bits; came = λ p c i a o q lt b. absurd (in_none p i) }
+  pub renewed_none : (over : Option NameId) (bits : List Bool) → Renews e cap n over bits [] bits
+  renewed_none over bits = record { judges = judged_none bits; came = λ p c i a o q lt b. absurd (in_none p i) }
 
-  pub renewed_more : (done : Option NameId) (a b c : List Bool) (ps : List ℕ) (p : ℕ) → Renews e n done a ps b → Renews e n done b (p ∷ []) c → Renews e n done a (ps ++ p ∷ []) c
-  renewed_more done a b c ps p s t = record { judges = judged_more a b c ps p s.judges t.judges; came = λ r d i. go r d (in_either ps p r i) }
+  pub renewed_more : (over : Option NameId) (a b c : List Bool) (ps : List ℕ) (p : ℕ) → Renews e cap n over a ps b → Renews e cap n over b (p ∷ []) c → Renews e cap n over a (ps ++ p ∷ []) c
+  renewed_more over a b c ps p s t = record { judges = judged_more a b c ps p s.judges t.judges; came = λ r d i. go r d (in_either ps p r i) }
     where
-      go : (r : ℕ) (d : NameId) → IsIn ps r ⊎ (p ≡ r) → awaited_at e n r ≡ Some (Channel d) → (done ≡ Some d → ⊥) → (q : ℕ) → q < length n.machines → awaited_at e n q ≡ Some (Channel d) → IsJudged e n c q
+      go : (r : ℕ) (d : NameId) → IsIn ps r ⊎ (p ≡ r) → awaited_at e cap n r ≡ Some (Channel d) → (over ≡ Some d → ⊥) → (q : ℕ) → q < length n.machines → awaited_at e cap n q ≡ Some (Channel d) → IsJudged e cap n c q
       go r d (inl i) w o q lt v = t.judges.stays q (s.came r d i w o q lt v)
       go r d (inr i) w o q lt v = t.came r d (0, ap (λ (j : ℕ). Some j) i) w o q lt v
 
   -- none of these joins a channel, and all are judged
-  pub renewed_settled : (done : Option NameId) (bits : List Bool) (ps : List ℕ) → ((q : ℕ) → IsIn ps q → IsSettled e n bits q) → Renews e n done bits ps bits
-  renewed_settled done bits ps settled = record {
+  pub renewed_settled : (over : Option NameId) (bits : List Bool) (ps : List ℕ) → ((q : ℕ) → IsIn ps q → IsSettled e cap n bits q) → Renews e cap n over bits ps bits
+  renewed_settled over bits ps settled = record {
     judges = record { count = refl; stays = λ q r. r; judged = λ q i. (settled q i).judged };
     came = λ p c i a o q lt b. absurd ((settled p i).joins_none c a);
   }
 
   -- a process that doesn't join is judged
-  pub settled_one : (bits : List Bool) (p : ℕ) (h : Head) → Shows e n p h → is_joining_head h ≡ false → IsJudged e n bits p → IsSettled e n bits p
-  settled_one bits p h s none judged = record { joins_none = λ c a. no_channel h none c (sym (awaits e n p h s) ∙ a); judged = judged }
+  pub settled_one : (bits : List Bool) (p : ℕ) (h : Head) → Shows e n p h → is_joining_head h ≡ false → IsJudged e cap n bits p → IsSettled e cap n bits p
+  settled_one bits p h s none judged = record { joins_none = λ c a. no_channel cap h none c (sym (awaits e cap n p h s) ∙ a); judged = judged }
 
-  -- the process joins no channel but the one that is done
-  pub renewed_alone : (done : Option NameId) (old new : List Bool) (p : ℕ) → Judges e n old (p ∷ []) new → ((c : NameId) → awaited_at e n p ≡ Some (Channel c) → done ≡ Some c) → Renews e n done old (p ∷ []) new
-  renewed_alone done old new p l none = record {
+  -- the process joins no channel but the one that is over
+  pub renewed_alone : (over : Option NameId) (old new : List Bool) (p : ℕ) → Judges e cap n old (p ∷ []) new → ((c : NameId) → awaited_at e cap n p ≡ Some (Channel c) → over ≡ Some c) → Renews e cap n over old (p ∷ []) new
+  renewed_alone over old new p l none = record {
     judges = l;
-    came = λ r c i a o q lt b. absurd (o (none c (subst (λ (j : ℕ). awaited_at e n j ≡ Some (Channel c)) (sym (in_one p r i)) a)));
+    came = λ r c i a o q lt b. absurd (o (none c (subst (λ (j : ℕ). awaited_at e cap n j ≡ Some (Channel c)) (sym (in_one p r i)) a)));
   }
 
   -- it joins this channel
-  pub renewed_channel : (done : Option NameId) (lists : WaitingLists) (old mid new : List Bool) (p : ℕ) (c : NameId) → ListsAll e n lists → Judges e n old (p ∷ []) mid → awaited_at e n p ≡ Some (Channel c)
-      → Judges e n mid (waiting_for lists (Channel c)) new → Renews e n done old (p ∷ []) new
-  renewed_channel done lists old mid new p c all l is j = record {
+  pub renewed_channel : (over : Option NameId) (lists : WaitingLists) (old mid new : List Bool) (p : ℕ) (c : NameId) → ListsAll e cap n lists → Judges e cap n old (p ∷ []) mid → awaited_at e cap n p ≡ Some (Channel c)
+      → Judges e cap n mid (waiting_for lists (Channel c)) new → Renews e cap n over old (p ∷ []) new
+  renewed_channel over lists old mid new p c all l is j = record {
     judges = record { count = j.count ∙ l.count; stays = λ q r. j.stays q (l.stays q r); judged = λ q i. j.stays q (l.judged q i) };
     came = λ r d i a o q lt b.
-        let both : Some (Channel c) ≡ Some (Channel d) = sym is ∙ subst (λ (m : ℕ). awaited_at e n m ≡ Some (Channel d)) (sym (in_one p r i)) a in
+        let both : Some (Channel c) ≡ Some (Channel d) = sym is ∙ subst (λ (m : ℕ). awaited_at e cap n m ≡ Some (Channel d)) (sym (in_one p r i)) a in
         let same : c ≡ d = cc in
         j.judged q (all.kept q lt (Channel c) (b ∙ ap (λ (x : NameId). Some (Channel x)) (sym same)));
   }

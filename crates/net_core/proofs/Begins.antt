@@ -1,5 +1,5 @@
 -- The start that a process makes.
-use Rattle.std.proofs.Common.{◌≡◌, ℕ, suc, ◌==◌, ◌&&◌, Bool, true, false, cond, List, [], ◌∷◌, ◌++◌, length, refl, sym, ap, ◌∙◌, subst, Option, Some, None, arith}
+use Rattle.std.proofs.Common.{◌≡◌, ℕ, suc, ◌==◌, ◌&&◌, Bool, true, false, cond, List, [], ◌∷◌, ◌++◌, length, refl, sym, ap, ◌∙◌, subst, Option, Some, arith}
 use Rattle.std.specs.Prelude.{slice_get, map, pos}
 use Rattle.std.proofs.lemmas.Bool.Decides.{nat_tests}
 use Rattle.chor_base.specs.declared.names.NameId.{NameId}
@@ -82,9 +82,9 @@ abbrev started_with : NetworkState → NameId → List (NameId × ℕ) → List 
 started_with n c ps ms = Makes (event.Start c n.sid ps) (record n { machines = ms; sid = suc n.sid })
 
 -- a start by the least partners is the choice of the process that makes it
-pub begins : (e : Endpoints) (hosts : Hosts) (n : NetworkState) (p : ℕ) (c own l : NameId) (next : CodeId) (k : Channel) (ps : List (NameId × ℕ)) (ms : List Machine) → Stands e n p (Join c own l next) → channel_of e.channels c ≡ Some k → IsCast e n.machines c p own k.active ps → HasStarted e k n.sid n.machines ps ms
-    → Chooses e hosts None n p (event.Start k.name n.sid (ps ++ served_parts k.serve (length n.machines))) (record n { machines = ms; sid = suc n.sid })
-begins e hosts n p c own l next k ps ms s found cast h =
+pub begins : (e : Endpoints) (hosts : Hosts) (cap : Option ℕ) (n : NetworkState) (p : ℕ) (c own l : NameId) (next : CodeId) (k : Channel) (ps : List (NameId × ℕ)) (ms : List Machine) → Stands e n p (Join c own l next) → channel_of e.channels c ≡ Some k → IsCast e n.machines c p own k.active ps → HasStarted e k n.sid n.machines ps ms
+    → Chooses e hosts cap n p (event.Start k.name n.sid (ps ++ served_parts k.serve (length n.machines))) (record n { machines = ms; sid = suc n.sid })
+begins e hosts cap n p c own l next k ps ms s found cast h =
     let active = scoped_join s.at_node.bound.scoped c own l next s.at_node.found in
     let same : active.0 ≡ k = (let a : Some active.0 ≡ Some k = sym active.1 ∙ found in cc) in
     let among : is_among own k.active ≡ true = subst (λ (x : Channel). is_among own x.active ≡ true) same active.2 in
@@ -97,8 +97,8 @@ begins e hosts n p c own l next k ps ms s found cast h =
           subst (λ (o : Option Machine). MachineAnswers hosts e o (pos 0)) (sym s.there)
           (subst (λ (o : Option Place). PlaceAnswers hosts s.machine.vars o (pos 0)) (sym s.at_node.place) tt);
       made =
-          ap (λ (o : Option Machine). chosen_at e None n p (pos 0) (place_at e o)) s.there
-          ∙ ap (chosen_at e None n p (pos 0)) s.at_node.place
+          ap (λ (o : Option Machine). chosen_at e cap n p (pos 0) (place_at e o)) s.there
+          ∙ ap (chosen_at e cap n p (pos 0)) s.at_node.place
           ∙ ap (started_on e n p c own) found
           ∙ ap (started e n c) (cast_partners cast)
           ∙ ap (channel_starts e n c (map (λ q. q.1) ps)) found

@@ -267,17 +267,17 @@ starts_made e n k qs js found some h j =
 abbrev pub start_on : NetworkState → Channel → List (NameId × ℕ) → Event
 start_on n k ps = event.Start k.name n.sid ps
 
-pub casting_step : (e : Endpoints) (hosts : Hosts) (n : NetworkState) (k : Channel) (ps : List (NameId × ℕ)) → channel_of e.channels k.name ≡ Some k → IsCasting e n.machines k ps → IsStep e hosts n (start_on n k ps)
-casting_step e hosts n k ps found cast =
+pub casting_step : (e : Endpoints) (hosts : Hosts) (cap : Option ℕ) (n : NetworkState) (k : Channel) (ps : List (NameId × ℕ)) → channel_of e.channels k.name ≡ Some k → IsCasting e n.machines k ps → IsStep e hosts cap n (start_on n k ps)
+casting_step e hosts cap n k ps found cast =
     let js = joiners_made e n k.name n.sid k.active cast.joining cast.joins in
     let made = starts_made e n k cast.joining js.0 found cast.some cast.joins js.1 in
     let after : NetworkState = record n { machines = with_machines n.machines js.0 ++ served e k.name n.sid k.serve; sid = suc n.sid } in
     (after, begins k.name (map (λ q. q.1) cast.joining) (made ∙ ap (λ (l : List (NameId × ℕ)). Some (Makes (start_on n k l) after)) (sym cast.whole)))
 
 -- the start of a session is a step only where its parts can start it
-pub step_casting : (e : Endpoints) (hosts : Hosts) (n : NetworkState) (c : NameId) (s : ℕ) (ps : List (NameId × ℕ)) → IsStep e hosts n (event.Start c s ps) → (k : Channel) × (channel_of e.channels c ≡ Some k) × (s ≡ n.sid) × IsCasting e n.machines k ps
-step_casting e hosts n c s ps (m, acts p v allowed made) = let no : None ≡ Some p = made_maker e n p (event.Start c s ps) v m made in absurd cc
-step_casting e hosts n c s ps (m, begins d qs made) =
+pub step_casting : (e : Endpoints) (hosts : Hosts) (cap : Option ℕ) (n : NetworkState) (c : NameId) (s : ℕ) (ps : List (NameId × ℕ)) → IsStep e hosts cap n (event.Start c s ps) → (k : Channel) × (channel_of e.channels c ≡ Some k) × (s ≡ n.sid) × IsCasting e n.machines k ps
+step_casting e hosts cap n c s ps (m, acts p v allowed made) = let no : None ≡ Some p = made_maker e cap n p (event.Start c s ps) v m made in absurd cc
+step_casting e hosts cap n c s ps (m, begins d qs made) =
     let b = begun_as e n d qs (event.Start c s ps) m made in
     let k : Channel = b.channel in
     let is : event.Start d n.sid (b.parts ++ served_parts k.serve (length n.machines)) ≡ event.Start c s ps = b.is in
@@ -355,6 +355,6 @@ started_step hosts old new k c s ps found cast named number h =
     record {
       state = after;
       becomes = subst (λ (y : Event). Becomes old new y after) x h.becomes;
-      steps = subst (λ (y : Event). NetworkSteps e hosts None n y after) x
+      steps = subst (λ (y : Event). NetworkSteps e hosts old.capacity n y after) x
           (begins k.name (map (λ q. q.1) qs) (made ∙ ap (λ (ms : List Machine). Some (Makes (start_on n k (qs ++ served_parts k.serve (length n.machines))) (let m : NetworkState = record n { machines = ms; sid = suc n.sid } in m))) machines));
     }

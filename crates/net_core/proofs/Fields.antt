@@ -1,5 +1,5 @@
 -- The fields of a network and what contracts see of it.
-use Rattle.std.proofs.Common.{◌≡◌, ℕ, suc, ◌+◌, ◌*◌, ◌^◌, ◌<◌, ◌≤◌, ◌==◌, max, cond, true, false, ◌++◌, ◌∷◌, [], Bool, List, length, get_or, sym, ap, ◌∙◌, subst, refl, Some, None, arith, length-set, length-append}
+use Rattle.std.proofs.Common.{◌≡◌, ℕ, suc, ◌+◌, ◌*◌, ◌^◌, ◌<◌, ◌≤◌, ◌==◌, max, cond, true, false, ◌++◌, ◌∷◌, [], Bool, List, length, get_or, sym, ap, ◌∙◌, subst, refl, Option, Some, arith, length-set, length-append}
 use Rattle.std.specs.Prelude.{slice_get, slice_set, map}
 use Rattle.std.proofs.lemmas.List.{length-map, map-set}
 use Rattle.chor_base.specs.declared.names.NameId.{NameId}
@@ -13,7 +13,7 @@ use Rattle.endpoint_code.specs.declared.endpoints.Channel.{Channel}
 use Rattle.endpoint_code.specs.Network.{Machine, NetworkState, with_machines, served, served_parts, channel_of}
 use Rattle.endpoint_code.specs.Scheduled.{Chooses}
 use Rattle.endpoint_machine.specs.Views.{MachineView}
-use Rattle.net_core.specs.Lanes.{QueuesView, loads_in}
+use Rattle.post_office.specs.Lanes.{QueuesView, loads_in}
 use Rattle.session_starts.specs.Machines.{standing_of}
 use Rattle.endpoint_machine.specs.declared.head.Head.{Head}
 use Rattle.net_core.specs.Heads.{Stands, Shows}
@@ -24,8 +24,8 @@ use Rattle.waiting_processes.proofs.Left.{get_other}
 use Rattle.net_core.specs.Shown.{MovesAlone}
 use Rattle.net_core.proofs.Scopes.{runner_at}
 
-abbrev pub fields : Endpoints → List MachineView → QueuesView → ℕ → List Entry → List Bool → NetworkView
-fields e ms q sid h res = record { endpoints = e; state = state_of ms q sid; history = h; reserved = res }
+abbrev pub fields : Endpoints → Option ℕ → List MachineView → QueuesView → ℕ → List Entry → List Bool → NetworkView
+fields e cap ms q sid h res = record { endpoints = e; capacity = cap; state = state_of ms q sid; history = h; reserved = res }
 
 -- the machine of a process is the one at its place
 pub stands_there : (e : Endpoints) (ms : List MachineView) (q : QueuesView) (sid p : ℕ) (r : MachineView) (node : CodeNode) (s : Stands e (state_of ms q sid) p node) → p < length ms → r ≡ get_or ms p r → s.machine ≡ standing_of r
@@ -75,19 +75,19 @@ grown_begun old k parts new found h =
       machines = omega arith;
     }
 
-module _ {e : Endpoints} (ms : List MachineView) (q : QueuesView) {sid : ℕ} {h : List Entry} {res : List Bool} {v : NetworkView} (is : fields e ms q sid h res ≡ v) where
+module _ {e : Endpoints} {cap : Option ℕ} (ms : List MachineView) (q : QueuesView) {sid : ℕ} {h : List Entry} {res : List Bool} {v : NetworkView} (is : fields e cap ms q sid h res ≡ v) where
   pub within : (p : ℕ) → p < length v.state.machines → p < length ms
   within p lt = let k = ap (λ (w : NetworkView). length w.state.machines) is in omega (arith, k, length-map ms standing_of)
 
   pub shows_in : (p : ℕ) (a : Head) → Shows v.endpoints v.state p a → Shows e (state_of ms q sid) p a
   shows_in p a s = subst (λ (w : NetworkView). Shows w.endpoints w.state p a) (sym is) s
 
-  pub stepped : (hosts : Hosts) (new : NetworkView) (p : ℕ) (x : Event) (n : NetworkState) → new.endpoints ≡ e → new.state ≡ n → new.history ≡ h ++ record { worker = 0; event = x } ∷ [] → Chooses e hosts None (state_of ms q sid) p x n → HasStepped hosts v p new
-  stepped hosts new p x n a b d chooses =
-      subst (λ (w : NetworkView). HasStepped hosts w p new) is (record { event = x; state = n; becomes = record { endpoints = a; state = b; history = d }; chooses = chooses })
+  pub stepped : (hosts : Hosts) (new : NetworkView) (p : ℕ) (x : Event) (n : NetworkState) → new.endpoints ≡ e → new.capacity ≡ cap → new.state ≡ n → new.history ≡ h ++ record { worker = 0; event = x } ∷ [] → Chooses e hosts cap (state_of ms q sid) p x n → HasStepped hosts v p new
+  stepped hosts new p x n a t b d chooses =
+      subst (λ (w : NetworkView). HasStepped hosts w p new) is (record { event = x; state = n; becomes = record { endpoints = a; capacity = t; state = b; history = d }; chooses = chooses })
 
-  pub same_but_room : (new : NetworkView) → new.endpoints ≡ e → new.state ≡ state_of ms q sid → new.history ≡ h → IsSame v new
-  same_but_room new a b d = subst (λ (w : NetworkView). IsSame w new) is (record { endpoints = a; state = b; history = d })
+  pub same_but_room : (new : NetworkView) → new.endpoints ≡ e → new.capacity ≡ cap → new.state ≡ state_of ms q sid → new.history ≡ h → IsSame v new
+  same_but_room new a t b d = subst (λ (w : NetworkView). IsSame w new) is (record { endpoints = a; capacity = t; state = b; history = d })
 
   -- there are numbers for the new processes of a start
   pub numbers_left : (k : Channel) → channel_of v.endpoints.channels k.name ≡ Some k → FitsMore v 1 → length ms + length k.serve < 2 ^ 32
@@ -98,14 +98,15 @@ module _ {e : Endpoints} (ms : List MachineView) (q : QueuesView) {sid : ℕ} {h
       let same = length-map ms standing_of in
       omega arith
 
-  pub has_begun : (new : NetworkView) (k : Channel) (parts all : List (NameId × ℕ)) (ns : List Machine) → new.endpoints ≡ e → new.state ≡ record { machines = ns; queues = loads_in q.lanes; sid = suc sid } → new.history ≡ h ++ record { worker = 0; event = event.Start k.name sid all } ∷ [] → all ≡ parts ++ served_parts k.serve (length ms) → HasStarted e k sid (map standing_of ms) parts ns → HasBegun v k parts new
-  has_begun new k parts all ns a b d same started =
+  pub has_begun : (new : NetworkView) (k : Channel) (parts all : List (NameId × ℕ)) (ns : List Machine) → new.endpoints ≡ e → new.capacity ≡ cap → new.state ≡ record { machines = ns; queues = loads_in q.lanes; sid = suc sid } → new.history ≡ h ++ record { worker = 0; event = event.Start k.name sid all } ∷ [] → all ≡ parts ++ served_parts k.serve (length ms) → HasStarted e k sid (map standing_of ms) parts ns → HasBegun v k parts new
+  has_begun new k parts all ns a t b d same started =
       subst (λ (w : NetworkView). HasBegun w k parts new) is
       (record {
         machines = ns;
         started = started;
         becomes = record {
           endpoints = a;
+          capacity = t;
           state = b;
           history =
               d

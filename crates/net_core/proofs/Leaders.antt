@@ -100,14 +100,14 @@ role_joined e ms c own r rs j h = go (r.0 == own.0) (is_joined e ms c r) refl re
     go false false s t k = absurd cc
 
 -- a process at a join can step where nobody is absent
-join_steps : (e : Endpoints) (n : NetworkState) (m : Machine) (c r : NameId) → JoinPlace (place_of e m) c r → absent_on e n.machines c r (channel_of e.channels c) ≡ None → can_step e None n m ≡ true
-join_steps e n m c r p h =
+join_steps : (e : Endpoints) (cap : Option ℕ) (n : NetworkState) (m : Machine) (c r : NameId) → JoinPlace (place_of e m) c r → absent_on e n.machines c r (channel_of e.channels c) ≡ None → can_step e cap n m ≡ true
+join_steps e cap n m c r p h =
     let ended : has_ended e m ≡ false = ap ends_there p.is in
-    let free : waits_for e None n m ≡ None = ap (place_waits e None n m.vars) p.is ∙ h in
-    ap (λ (b : Bool). cond b false (cond (is_some (waits_for e None n m)) false true)) ended ∙ ap (λ (w : Option Why). cond (is_some w) false true) free
+    let free : waits_for e cap n m ≡ None = ap (place_waits e cap n m.vars) p.is ∙ h in
+    ap (λ (b : Bool). cond b false (cond (is_some (waits_for e cap n m)) false true)) ended ∙ ap (λ (w : Option Why). cond (is_some w) false true) free
 
-steps_free : (e : Endpoints) (n : NetworkState) (m : Machine) → can_step e None n m ≡ true → waits_for e None n m ≡ None
-steps_free e n m h = go (has_ended e m) (waits_for e None n m) h
+steps_free : (e : Endpoints) (cap : Option ℕ) (n : NetworkState) (m : Machine) → can_step e cap n m ≡ true → waits_for e cap n m ≡ None
+steps_free e cap n m h = go (has_ended e m) (waits_for e cap n m) h
   where
     go : (b : Bool) (o : Option Why) → cond b false (cond (is_some o) false true) ≡ true → o ≡ None
     go true o h = absurd cc
@@ -115,12 +115,12 @@ steps_free e n m h = go (has_ended e m) (waits_for e None n m) h
     go false (Some w) h = absurd cc
 
 -- a process that is listed
-abbrev Listed : Endpoints → NetworkState → Type 0
-Listed e n = (i : ℕ) × (m : Machine) × (slice_get n.machines i ≡ Some m) × (is_listed e None n m ≡ true)
+abbrev Listed : Endpoints → Option ℕ → NetworkState → Type 0
+Listed e cap n = (i : ℕ) × (m : Machine) × (slice_get n.machines i ≡ Some m) × (is_listed e cap n m ≡ true)
 
 -- where a process joins and can step, one that joins in the channel's first role can too
-leader : (e : Endpoints) (n : NetworkState) (i : ℕ) (m : Machine) (c r : NameId) → slice_get n.machines i ≡ Some m → JoinPlace (place_of e m) c r → IsActive e c r → can_step e None n m ≡ true → Listed e n
-leader e n i m c r there p active steps = go active.0.active refl
+leader : (e : Endpoints) (cap : Option ℕ) (n : NetworkState) (i : ℕ) (m : Machine) (c r : NameId) → slice_get n.machines i ≡ Some m → JoinPlace (place_of e m) c r → IsActive e c r → can_step e cap n m ≡ true → Listed e cap n
+leader e cap n i m c r there p active steps = go active.0.active refl
   where
     self_joins : joins_there (place_of e m) c r ≡ true
     self_joins =
@@ -131,12 +131,12 @@ leader e n i m c r there p active steps = go active.0.active refl
     joined = joined_by e n.machines c r i m there self_joins
 
     free : absent_on e n.machines c r (channel_of e.channels c) ≡ None
-    free = sym (ap (place_waits e None n m.vars) p.is) ∙ steps_free e n m steps
+    free = sym (ap (place_waits e cap n m.vars) p.is) ∙ steps_free e cap n m steps
 
     here : absent_among e n.machines c r active.0.active ≡ None
     here = sym (ap (absent_on e n.machines c r) active.1) ∙ free
 
-    go : (roles : List NameId) → active.0.active ≡ roles → Listed e n
+    go : (roles : List NameId) → active.0.active ≡ roles → Listed e cap n
     go [] s = let a : is_among r [] ≡ true = sym (ap (is_among r) s) ∙ active.2 in absurd cc
     go (f ∷ fs) s =
         let all : absent_among e n.machines c r (f ∷ fs) ≡ None = sym (ap (absent_among e n.machines c r) s) ∙ here in
@@ -150,21 +150,21 @@ leader e n i m c r there p active steps = go active.0.active refl
         ∙ ap (λ (rs : List NameId). first_role (Some (record active.0 { active = rs })) f) s
         ∙ (let a : (f.0 == f.0) ≡ true = grind (arith, nat_tests) in a)
         in
-        (first.0, first.1, first.2, ap (λ (b : Bool). b && listed_at e (place_of e first.1)) (join_steps e n first.1 c f place none) ∙ leads)
+        (first.0, first.1, first.2, ap (λ (b : Bool). b && listed_at e (place_of e first.1)) (join_steps e cap n first.1 c f place none) ∙ leads)
 
 -- where a process can step, one is listed
-listed_one : (e : Endpoints) (n : NetworkState) (i : ℕ) (m : Machine) (node : CodeNode) → Stands e n i node → slice_get n.machines i ≡ Some m → can_step e None n m ≡ true → Listed e n
-listed_one e n i m node s there steps = go node s.at_node.found s.at_node.place
+listed_one : (e : Endpoints) (cap : Option ℕ) (n : NetworkState) (i : ℕ) (m : Machine) (node : CodeNode) → Stands e n i node → slice_get n.machines i ≡ Some m → can_step e cap n m ≡ true → Listed e cap n
+listed_one e cap n i m node s there steps = go node s.at_node.found s.at_node.place
   where
     same : s.machine ≡ m
     same = let a : Some s.machine ≡ Some m = sym s.there ∙ there in cc
 
-    itself : listed_at e (place_of e s.machine) ≡ true → Listed e n
+    itself : listed_at e (place_of e s.machine) ≡ true → Listed e cap n
     itself h = (i, m, there, ap (λ (b : Bool). b && listed_at e (place_of e m)) steps ∙ ap (λ (x : Machine). listed_at e (place_of e x)) (sym same) ∙ h)
 
-    go : (x : CodeNode) → node_at e s.at_node.id ≡ Some x → place_of e s.machine ≡ Some (record { node = x; sessions = s.sessions }) → Listed e n
+    go : (x : CodeNode) → node_at e s.at_node.id ≡ Some x → place_of e s.machine ≡ Some (record { node = x; sessions = s.sessions }) → Listed e cap n
     go (Join c r k next) f p =
-        leader e n i m c r there (record { session = k; next = next; sessions = s.sessions; is = ap (place_of e) (sym same) ∙ p }) (scoped_join s.at_node.bound.scoped c r k next f) steps
+        leader e cap n i m c r there (record { session = k; next = next; sessions = s.sessions; is = ap (place_of e) (sym same) ∙ p }) (scoped_join s.at_node.bound.scoped c r k next f) steps
     go (Send k b x next) f p = itself (ap (listed_at e) p)
     go (Recv k b x next) f p = itself (ap (listed_at e) p)
     go (Pick k b l next) f p = itself (ap (listed_at e) p)
@@ -178,47 +178,47 @@ listed_one e n i m node s there steps = go node s.at_node.found s.at_node.place
     go (Call g o ss) f p = itself (ap (listed_at e) p)
     go End f p = itself (ap (listed_at e) p)
 
-unlisted : (e : Endpoints) (n : NetworkState) (i : ℕ) (ms : List Machine) → listed_from e None n i ms ≡ [] → (j : ℕ) (m : Machine) → slice_get ms j ≡ Some m → is_listed e None n m ≡ false
-unlisted e n i [] h j m t = absurd cc
-unlisted e n i (x ∷ ms) h zero m t = go (is_listed e None n x) refl h
+unlisted : (e : Endpoints) (cap : Option ℕ) (n : NetworkState) (i : ℕ) (ms : List Machine) → listed_from e cap n i ms ≡ [] → (j : ℕ) (m : Machine) → slice_get ms j ≡ Some m → is_listed e cap n m ≡ false
+unlisted e cap n i [] h j m t = absurd cc
+unlisted e cap n i (x ∷ ms) h zero m t = go (is_listed e cap n x) refl h
   where
-    go : (b : Bool) → is_listed e None n x ≡ b → cond b (i ∷ listed_from e None n (suc i) ms) (listed_from e None n (suc i) ms) ≡ [] → is_listed e None n m ≡ false
+    go : (b : Bool) → is_listed e cap n x ≡ b → cond b (i ∷ listed_from e cap n (suc i) ms) (listed_from e cap n (suc i) ms) ≡ [] → is_listed e cap n m ≡ false
     go true s k = absurd cc
-    go false s k = let same : x ≡ m = cc in ap (is_listed e None n) (sym same) ∙ s
-unlisted e n i (x ∷ ms) h (suc j) m t = go (is_listed e None n x) h (λ k. unlisted e n (suc i) ms k j m t)
+    go false s k = let same : x ≡ m = cc in ap (is_listed e cap n) (sym same) ∙ s
+unlisted e cap n i (x ∷ ms) h (suc j) m t = go (is_listed e cap n x) h (λ k. unlisted e cap n (suc i) ms k j m t)
   where
-    go : (b : Bool) → cond b (i ∷ listed_from e None n (suc i) ms) (listed_from e None n (suc i) ms) ≡ [] → (listed_from e None n (suc i) ms ≡ [] → is_listed e None n m ≡ false) → is_listed e None n m ≡ false
+    go : (b : Bool) → cond b (i ∷ listed_from e cap n (suc i) ms) (listed_from e cap n (suc i) ms) ≡ [] → (listed_from e cap n (suc i) ms ≡ [] → is_listed e cap n m ≡ false) → is_listed e cap n m ≡ false
     go true k more = absurd cc
     go false k more = more k
 
-none_steps : (e : Endpoints) (n : NetworkState) (ms : List Machine) → ((j : ℕ) (m : Machine) → slice_get ms j ≡ Some m → can_step e None n m ≡ false) → none_can_step e None n ms ≡ true
-none_steps e n [] h = refl
-none_steps e n (m ∷ ms) h = ap (λ (b : Bool). cond b false (none_can_step e None n ms)) (h zero m refl) ∙ none_steps e n ms (λ j x t. h (suc j) x t)
+none_steps : (e : Endpoints) (cap : Option ℕ) (n : NetworkState) (ms : List Machine) → ((j : ℕ) (m : Machine) → slice_get ms j ≡ Some m → can_step e cap n m ≡ false) → none_can_step e cap n ms ≡ true
+none_steps e cap n [] h = refl
+none_steps e cap n (m ∷ ms) h = ap (λ (b : Bool). cond b false (none_can_step e cap n ms)) (h zero m refl) ∙ none_steps e cap n ms (λ j x t. h (suc j) x t)
 
 -- where the pick rule has nothing to take, no process can step
-pub none_listed : (e : Endpoints) (n : NetworkState) → EachStands e n → listed e None n ≡ [] → none_can_step e None n n.machines ≡ true
-none_listed e n stand h = none_steps e n n.machines each
+pub none_listed : (e : Endpoints) (cap : Option ℕ) (n : NetworkState) → EachStands e n → listed e cap n ≡ [] → none_can_step e cap n n.machines ≡ true
+none_listed e cap n stand h = none_steps e cap n n.machines each
   where
-    each : (j : ℕ) (m : Machine) → slice_get n.machines j ≡ Some m → can_step e None n m ≡ false
-    each j m t = go (can_step e None n m) refl
+    each : (j : ℕ) (m : Machine) → slice_get n.machines j ≡ Some m → can_step e cap n m ≡ false
+    each j m t = go (can_step e cap n m) refl
       where
-        go : (b : Bool) → can_step e None n m ≡ b → b ≡ false
+        go : (b : Bool) → can_step e cap n m ≡ b → b ≡ false
         go false s = refl
         go true s =
             let p = stand j (slice_get_within n.machines j m t) in
-            let l = listed_one e n j m p.0 p.1 t s in
-            let no = unlisted e n 0 n.machines h l.0 l.1 l.2 in
+            let l = listed_one e cap n j m p.0 p.1 t s in
+            let no = unlisted e cap n 0 n.machines h l.0 l.1 l.2 in
             let yes = l.3 in
             cc
 
 -- and where no process can step, it has nothing to take
-pub listed_none : (e : Endpoints) (n : NetworkState) (i : ℕ) (ms : List Machine) → none_can_step e None n ms ≡ true → listed_from e None n i ms ≡ []
-listed_none e n i [] h = refl
-listed_none e n i (m ∷ ms) h = go (can_step e None n m) refl h (λ k. listed_none e n (suc i) ms k)
+pub listed_none : (e : Endpoints) (cap : Option ℕ) (n : NetworkState) (i : ℕ) (ms : List Machine) → none_can_step e cap n ms ≡ true → listed_from e cap n i ms ≡ []
+listed_none e cap n i [] h = refl
+listed_none e cap n i (m ∷ ms) h = go (can_step e cap n m) refl h (λ k. listed_none e cap n (suc i) ms k)
   where
-    go : (b : Bool) → can_step e None n m ≡ b → cond b false (none_can_step e None n ms) ≡ true → (none_can_step e None n ms ≡ true → listed_from e None n (suc i) ms ≡ []) → cond (can_step e None n m && listed_at e (place_of e m)) (i ∷ listed_from e None n (suc i) ms) (listed_from e None n (suc i) ms) ≡ []
+    go : (b : Bool) → can_step e cap n m ≡ b → cond b false (none_can_step e cap n ms) ≡ true → (none_can_step e cap n ms ≡ true → listed_from e cap n (suc i) ms ≡ []) → cond (can_step e cap n m && listed_at e (place_of e m)) (i ∷ listed_from e cap n (suc i) ms) (listed_from e cap n (suc i) ms) ≡ []
     go true s k more = absurd cc
-    go false s k more = ap (λ (b : Bool). cond (b && listed_at e (place_of e m)) (i ∷ listed_from e None n (suc i) ms) (listed_from e None n (suc i) ms)) s ∙ more k
+    go false s k more = ap (λ (b : Bool). cond (b && listed_at e (place_of e m)) (i ∷ listed_from e cap n (suc i) ms) (listed_from e cap n (suc i) ms)) s ∙ more k
 
 pub empty_of_length : (xs : List ℕ) → length xs ≡ 0 → xs ≡ []
 empty_of_length [] h = refl

@@ -1,13 +1,13 @@
-pub mod Lanes
+pub mod Answered
 pub mod Turns
 pub mod Counts
 pub mod Scopes
 pub mod Heads
 pub mod Fields
 pub mod Rooms
-pub mod Places
 pub mod Asked
 pub mod Moves
+pub mod Capped
 pub mod Alone
 pub mod Makers
 pub mod Lone

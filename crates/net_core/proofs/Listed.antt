@@ -1,5 +1,5 @@
 -- What bits tell of the processes of a network.
-use Rattle.std.proofs.Common.{◌≡◌, ℕ, suc, ◌<◌, ◌%◌, ◌&&◌, Bool, true, false, cond, List, [], ◌∷◌, length, refl, ap, Some, None, arith, nat_eq}
+use Rattle.std.proofs.Common.{◌≡◌, ℕ, suc, ◌<◌, ◌%◌, ◌&&◌, Bool, true, false, cond, List, [], ◌∷◌, length, refl, ap, Option, Some, None, arith, nat_eq}
 use Rattle.std.specs.Prelude.{slice_get, not}
 use Rattle.std.proofs.lemmas.Bool.Decides.{nat_tests}
 use Rattle.counted_bits.specs.Places.{places}
@@ -10,17 +10,17 @@ use Rattle.endpoint_code.specs.Scheduled.{is_listed, listed_from, picked_of}
 use Rattle.net_core.specs.Heads.{ended_of, listed_of}
 
 -- the set bits stand where the processes are that the pick rule may take
-pub places_listed : (e : Endpoints) (n : NetworkState) (p : ℕ) (bits : List Bool) (ms : List Machine) → length bits ≡ length ms
-    → ((q : ℕ) → q < length ms → slice_get bits q ≡ Some (listed_of e n (slice_get ms q))) → places p bits ≡ listed_from e None n p ms
-places_listed e n p [] [] same h = refl
-places_listed e n p [] (m ∷ ms) same h = absurd (omega arith)
-places_listed e n p (b ∷ bs) [] same h = absurd (omega arith)
-places_listed e n p (b ∷ bs) (m ∷ ms) same h =
-    let first : Some b ≡ Some (is_listed e None n m) = h 0 (omega arith) in
-    let is : b ≡ is_listed e None n m = cc in
-    go b (is_listed e None n m) is (places_listed e n (suc p) bs ms (omega arith) (λ q lt. h (suc q) (omega arith)))
+pub places_listed : (e : Endpoints) (cap : Option ℕ) (n : NetworkState) (p : ℕ) (bits : List Bool) (ms : List Machine) → length bits ≡ length ms
+    → ((q : ℕ) → q < length ms → slice_get bits q ≡ Some (listed_of e cap n (slice_get ms q))) → places p bits ≡ listed_from e cap n p ms
+places_listed e cap n p [] [] same h = refl
+places_listed e cap n p [] (m ∷ ms) same h = absurd (omega arith)
+places_listed e cap n p (b ∷ bs) [] same h = absurd (omega arith)
+places_listed e cap n p (b ∷ bs) (m ∷ ms) same h =
+    let first : Some b ≡ Some (is_listed e cap n m) = h 0 (omega arith) in
+    let is : b ≡ is_listed e cap n m = cc in
+    go b (is_listed e cap n m) is (places_listed e cap n (suc p) bs ms (omega arith) (λ q lt. h (suc q) (omega arith)))
   where
-    go : (a c : Bool) → a ≡ c → places (suc p) bs ≡ listed_from e None n (suc p) ms → places p (a ∷ bs) ≡ cond c (p ∷ listed_from e None n (suc p) ms) (listed_from e None n (suc p) ms)
+    go : (a c : Bool) → a ≡ c → places (suc p) bs ≡ listed_from e cap n (suc p) ms → places p (a ∷ bs) ≡ cond c (p ∷ listed_from e cap n (suc p) ms) (listed_from e cap n (suc p) ms)
     go true true i rest = ap (λ (l : List ℕ). p ∷ l) rest
     go false false i rest = rest
     go true false i rest = absurd cc

@@ -17,41 +17,42 @@ use Rattle.chor_host.specs.Exact.{HaveOneAnswer}
 use Rattle.endpoint_code.specs.declared.code.CodeNode.{CodeNode}
 use Rattle.endpoint_code.specs.declared.code.CodeNode.TheVariants.{Join, Send, Recv, Pick, Branch, Throw, Catch, Set, Show, Host, If, Call, End}
 use Rattle.endpoint_code.specs.declared.endpoints.Endpoints.{Endpoints}
-use Rattle.endpoint_code.specs.Network.{Sessions, Machine, NetworkState, Place, Makes, Taking, Goes, takes, takes_from, went, puts, put_if, queue_of, node_makes, place_makes, machine_makes, makes, place_of, place_at, PlaceAnswers, MachineAnswers, takes_value, takes_label, takes_part}
-use Rattle.endpoint_code.specs.NetworkRuns.{ends_there, node_waits, place_waits, waits_for, waits_to_send, waits_to_receive, waits_for_first}
+use Rattle.endpoint_code.specs.Network.{Sessions, Machine, NetworkState, Place, Makes, Taking, Goes, takes, takes_from, went, puts, put_if, part_load, queue_of, has_room, node_makes, place_makes, machine_makes, makes, place_of, place_at, PlaceAnswers, MachineAnswers, takes_value, takes_label, takes_part}
+use Rattle.endpoint_code.specs.NetworkRuns.{ends_there, node_waits, place_waits, waits_for, waits_to_receive, waits_for_first}
 use Rattle.endpoint_code.specs.Scheduled.{chosen, chosen_at}
 use Rattle.endpoint_machine.specs.Acts.{NodeAnswers}
 use Rattle.endpoint_machine.proofs.Actings.{answers_alike}
 use Rattle.net_core.specs.Follows.{MayMake, maker_of}
 use Rattle.net_core.specs.Heads.{steps_at, steps_of, joins_at_all, is_joining}
 use Rattle.net_core.specs.Machines.{is_join}
+use Rattle.net_core.proofs.Capped.{put_waits_not}
 use Rattle.net_core.proofs.Alone.{alone_chosen}
 
 -- ---- one answer makes one event
 
-node_same : (hosts : Hosts) (n : NetworkState) (p : ℕ) (v w : ℤ) (vars : Variables) (m : Sessions) (node : CodeNode) → HaveOneAnswer hosts → NodeAnswers hosts vars node v → NodeAnswers hosts vars node w → node_makes None n p v vars m node ≡ node_makes None n p w vars m node
-node_same hosts n p v w vars m (Join c r k next) one h i = refl
-node_same hosts n p v w vars m (Send k b x next) one h i = refl
-node_same hosts n p v w vars m (Recv k a x next) one h i = refl
-node_same hosts n p v w vars m (Pick k b l next) one h i = refl
-node_same hosts n p v w vars m (Branch k a arms) one h i = refl
-node_same hosts n p v w vars m (Throw k b g next) one h i = refl
-node_same hosts n p v w vars m (Catch k a g next) one h i = refl
-node_same hosts n p v w vars m (Set x y next) one h i = refl
-node_same hosts n p v w vars m (Show y next) one h i = refl
-node_same hosts n p v w vars m (Host x f a b next) one h i = ap (λ (u : ℤ). node_makes None n p u vars m (Host x f a b next)) (one f (number_of (value_of (term_of a) vars)) (number_of (value_of (term_of b) vars)) v w h i)
-node_same hosts n p v w vars m (If y c d) one h i = refl
-node_same hosts n p v w vars m (Call f o ns) one h i = refl
-node_same hosts n p v w vars m End one h i = refl
+node_same : (hosts : Hosts) (cap : Option ℕ) (n : NetworkState) (p : ℕ) (v w : ℤ) (vars : Variables) (m : Sessions) (node : CodeNode) → HaveOneAnswer hosts → NodeAnswers hosts vars node v → NodeAnswers hosts vars node w → node_makes cap n p v vars m node ≡ node_makes cap n p w vars m node
+node_same hosts cap n p v w vars m (Join c r k next) one h i = refl
+node_same hosts cap n p v w vars m (Send k b x next) one h i = refl
+node_same hosts cap n p v w vars m (Recv k a x next) one h i = refl
+node_same hosts cap n p v w vars m (Pick k b l next) one h i = refl
+node_same hosts cap n p v w vars m (Branch k a arms) one h i = refl
+node_same hosts cap n p v w vars m (Throw k b g next) one h i = refl
+node_same hosts cap n p v w vars m (Catch k a g next) one h i = refl
+node_same hosts cap n p v w vars m (Set x y next) one h i = refl
+node_same hosts cap n p v w vars m (Show y next) one h i = refl
+node_same hosts cap n p v w vars m (Host x f a b next) one h i = ap (λ (u : ℤ). node_makes cap n p u vars m (Host x f a b next)) (one f (number_of (value_of (term_of a) vars)) (number_of (value_of (term_of b) vars)) v w h i)
+node_same hosts cap n p v w vars m (If y c d) one h i = refl
+node_same hosts cap n p v w vars m (Call f o ns) one h i = refl
+node_same hosts cap n p v w vars m End one h i = refl
 
-pub same_made : (e : Endpoints) (hosts : Hosts) (n : NetworkState) (p : ℕ) (v w : ℤ) → HaveOneAnswer hosts → MachineAnswers hosts e (slice_get n.machines p) v → MachineAnswers hosts e (slice_get n.machines p) w → makes e None n p v ≡ makes e None n p w
-same_made e hosts n p v w one h i = at_machine (slice_get n.machines p) h i
+pub same_made : (e : Endpoints) (hosts : Hosts) (cap : Option ℕ) (n : NetworkState) (p : ℕ) (v w : ℤ) → HaveOneAnswer hosts → MachineAnswers hosts e (slice_get n.machines p) v → MachineAnswers hosts e (slice_get n.machines p) w → makes e cap n p v ≡ makes e cap n p w
+same_made e hosts cap n p v w one h i = at_machine (slice_get n.machines p) h i
   where
-    at_place : (vars : Variables) (o : Option Place) → PlaceAnswers hosts vars o v → PlaceAnswers hosts vars o w → place_makes None n p v vars o ≡ place_makes None n p w vars o
+    at_place : (vars : Variables) (o : Option Place) → PlaceAnswers hosts vars o v → PlaceAnswers hosts vars o w → place_makes cap n p v vars o ≡ place_makes cap n p w vars o
     at_place vars None h i = refl
-    at_place vars (Some q) h i = node_same hosts n p v w vars q.sessions q.node one ((answers_alike hosts vars q.sessions q.node v).1 h) ((answers_alike hosts vars q.sessions q.node w).1 i)
+    at_place vars (Some q) h i = node_same hosts cap n p v w vars q.sessions q.node one ((answers_alike hosts vars q.sessions q.node v).1 h) ((answers_alike hosts vars q.sessions q.node w).1 i)
 
-    at_machine : (o : Option Machine) → MachineAnswers hosts e o v → MachineAnswers hosts e o w → machine_makes e None n p v o ≡ machine_makes e None n p w o
+    at_machine : (o : Option Machine) → MachineAnswers hosts e o v → MachineAnswers hosts e o w → machine_makes e cap n p v o ≡ machine_makes e cap n p w o
     at_machine None h i = refl
     at_machine (Some m) h i = at_place m.vars (place_of e m) h i
 
@@ -61,10 +62,10 @@ put_maker : (b : Bool) (n : NetworkState) (p : ℕ) (t : Triple) (l : Load) (x :
 put_maker true n p t l x k h = let i : event.Send p t.0 t.1 t.2 l ≡ x = cc in ap maker_of (sym i)
 put_maker false n p t l x k h = absurd cc
 
-puts_maker : (n : NetworkState) (p : ℕ) (b : NameId) (o : Option (ℕ × NameId)) (l : Option Load) (x : Event) (k : NetworkState) → puts None n p b o l ≡ Some (Makes x k) → maker_of x ≡ Some p
-puts_maker n p b (Some (s, a)) (Some l) x k h = put_maker true n p (s, a, b) l x k h
-puts_maker n p b (Some t) None x k h = absurd cc
-puts_maker n p b None l x k h = absurd cc
+puts_maker : (cap : Option ℕ) (n : NetworkState) (p : ℕ) (b : NameId) (o : Option (ℕ × NameId)) (l : Option Load) (x : Event) (k : NetworkState) → puts cap n p b o l ≡ Some (Makes x k) → maker_of x ≡ Some p
+puts_maker cap n p b (Some (s, a)) (Some l) x k h = put_maker (has_room cap (queue_of n (s, a, b))) n p (s, a, b) l x k h
+puts_maker cap n p b (Some t) None x k h = absurd cc
+puts_maker cap n p b None l x k h = absurd cc
 
 takes_maker : (n : NetworkState) (p : ℕ) (a : NameId) (o : Option (ℕ × NameId)) (f : Load → Option Taking) (x : Event) (k : NetworkState) → takes n p a o f ≡ Some (Makes x k) → maker_of x ≡ Some p
 takes_maker n p a None f x k h = absurd cc
@@ -78,26 +79,22 @@ takes_maker n p a (Some (s, b)) f x k h = go (queue_of n (s, a, b)) h
     go [] i = absurd cc
     go (l ∷ rest) i = taken l rest (f l) i
 
-node_maker : (n : NetworkState) (p : ℕ) (v : ℤ) (vars : Variables) (m : Sessions) (node : CodeNode) (x : Event) (k : NetworkState) → node_makes None n p v vars m node ≡ Some (Makes x k) → maker_of x ≡ Some p
-node_maker n p v vars m (Send j b e next) x k h = puts_maker _ p b _ _ x k h
-node_maker n p v vars m (Pick j b l next) x k h = puts_maker _ p b _ _ x k h
-node_maker n p v vars m (Throw j b g next) x k h = puts_maker _ p b _ _ x k h
-node_maker n p v vars m (Recv j a y next) x k h = takes_maker n p a _ _ x k h
-node_maker n p v vars m (Branch j a arms) x k h = takes_maker n p a _ _ x k h
-node_maker n p v vars m (Catch j a g next) x k h = takes_maker n p a _ _ x k h
-node_maker n p v vars m (Set y e next) x k h = let i : event.Set p y (value_of (term_of e) vars) ≡ x = cc in ap maker_of (sym i)
-node_maker n p v vars m (Show e next) x k h = let i : event.Show p (value_of (term_of e) vars) ≡ x = cc in ap maker_of (sym i)
-node_maker n p v vars m (Host y f a b next) x k h = let i : event.Host p y f (number_of (value_of (term_of a) vars)) (number_of (value_of (term_of b) vars)) v ≡ x = cc in ap maker_of (sym i)
-node_maker n p v vars m (If e c d) x k h = let i : event.Test p (truth_of (value_of (term_of e) vars)) ≡ x = cc in ap maker_of (sym i)
-node_maker n p v vars m (Join c r j next) x k h = absurd cc
-node_maker n p v vars m (Call f q ss) x k h = absurd cc
-node_maker n p v vars m End x k h = absurd cc
+node_maker : (cap : Option ℕ) (n : NetworkState) (p : ℕ) (v : ℤ) (vars : Variables) (m : Sessions) (node : CodeNode) (x : Event) (k : NetworkState) → node_makes cap n p v vars m node ≡ Some (Makes x k) → maker_of x ≡ Some p
+node_maker cap n p v vars m (Send j b e next) x k h = puts_maker cap _ p b _ _ x k h
+node_maker cap n p v vars m (Pick j b l next) x k h = puts_maker cap _ p b _ _ x k h
+node_maker cap n p v vars m (Throw j b g next) x k h = puts_maker cap _ p b _ _ x k h
+node_maker cap n p v vars m (Recv j a y next) x k h = takes_maker n p a _ _ x k h
+node_maker cap n p v vars m (Branch j a arms) x k h = takes_maker n p a _ _ x k h
+node_maker cap n p v vars m (Catch j a g next) x k h = takes_maker n p a _ _ x k h
+node_maker cap n p v vars m (Set y e next) x k h = let i : event.Set p y (value_of (term_of e) vars) ≡ x = cc in ap maker_of (sym i)
+node_maker cap n p v vars m (Show e next) x k h = let i : event.Show p (value_of (term_of e) vars) ≡ x = cc in ap maker_of (sym i)
+node_maker cap n p v vars m (Host y f a b next) x k h = let i : event.Host p y f (number_of (value_of (term_of a) vars)) (number_of (value_of (term_of b) vars)) v ≡ x = cc in ap maker_of (sym i)
+node_maker cap n p v vars m (If e c d) x k h = let i : event.Test p (truth_of (value_of (term_of e) vars)) ≡ x = cc in ap maker_of (sym i)
+node_maker cap n p v vars m (Join c r j next) x k h = absurd cc
+node_maker cap n p v vars m (Call f q ss) x k h = absurd cc
+node_maker cap n p v vars m End x k h = absurd cc
 
 -- ---- a process that makes an event can step
-
-no_wait_out : (n : NetworkState) (b : NameId) (o : Option (ℕ × NameId)) → waits_to_send None n b o ≡ None
-no_wait_out n b None = refl
-no_wait_out n b (Some (s, a)) = refl
 
 no_wait_take : (n : NetworkState) (p : ℕ) (a : NameId) (o : Option (ℕ × NameId)) (f : Load → Option Taking) (x : Event) (k : NetworkState) → takes n p a o f ≡ Some (Makes x k) → waits_to_receive n a o f ≡ None
 no_wait_take n p a None f x k h = absurd cc
@@ -112,66 +109,66 @@ no_wait_take n p a (Some (s, b)) f x k h = go (queue_of n (s, a, b)) h
     go (l ∷ rest) i = taken l rest (f l) refl i
 
 -- a node at which a process makes an event
-pub record Moves (e : Endpoints) (n : NetworkState) (vars : Variables) (m : Sessions) (node : CodeNode) : Type 0 where
+pub record Moves (e : Endpoints) (cap : Option ℕ) (n : NetworkState) (vars : Variables) (m : Sessions) (node : CodeNode) : Type 0 where
   pub goes_on : ends_there (Some (record { node = node; sessions = m })) ≡ false
-  pub waits_not : node_waits e None n vars m node ≡ None
+  pub waits_not : node_waits e cap n vars m node ≡ None
   pub joins_not : is_join node ≡ false
 
-moves_at : (e : Endpoints) (n : NetworkState) (p : ℕ) (v : ℤ) (vars : Variables) (m : Sessions) (node : CodeNode) (x : Event) (k : NetworkState) → node_makes None n p v vars m node ≡ Some (Makes x k) → Moves e n vars m node
-moves_at e n p v vars m (Send j b y next) x k h = record { goes_on = refl; waits_not = no_wait_out n b (fin.get m j.0); joins_not = refl }
-moves_at e n p v vars m (Pick j b l next) x k h = record { goes_on = refl; waits_not = no_wait_out n b (fin.get m j.0); joins_not = refl }
-moves_at e n p v vars m (Throw j b g next) x k h = record { goes_on = refl; waits_not = no_wait_out n b (fin.get m j.0); joins_not = refl }
-moves_at e n p v vars m (Recv j a y next) x k h = record { goes_on = refl; waits_not = no_wait_take n p a (fin.get m j.0) (takes_value next vars m y) x k h; joins_not = refl }
-moves_at e n p v vars m (Branch j a arms) x k h = record { goes_on = refl; waits_not = no_wait_take n p a (fin.get m j.0) (takes_label arms vars m) x k h; joins_not = refl }
-moves_at e n p v vars m (Catch j a g next) x k h = record { goes_on = refl; waits_not = no_wait_take n p a (fin.get m j.0) (takes_part next vars m g) x k h; joins_not = refl }
-moves_at e n p v vars m (Set y w next) x k h = record { goes_on = refl; waits_not = refl; joins_not = refl }
-moves_at e n p v vars m (Show w next) x k h = record { goes_on = refl; waits_not = refl; joins_not = refl }
-moves_at e n p v vars m (Host y f a b next) x k h = record { goes_on = refl; waits_not = refl; joins_not = refl }
-moves_at e n p v vars m (If w c d) x k h = record { goes_on = refl; waits_not = refl; joins_not = refl }
-moves_at e n p v vars m (Join c r j next) x k h = absurd cc
-moves_at e n p v vars m (Call f q ss) x k h = absurd cc
-moves_at e n p v vars m End x k h = absurd cc
+pub moves_at : (e : Endpoints) (cap : Option ℕ) (n : NetworkState) (p : ℕ) (v : ℤ) (vars : Variables) (m : Sessions) (node : CodeNode) (x : Event) (k : NetworkState) → node_makes cap n p v vars m node ≡ Some (Makes x k) → Moves e cap n vars m node
+moves_at e cap n p v vars m (Send j b y next) x k h = record { goes_on = refl; waits_not = put_waits_not cap n k x p next vars m b (fin.get m j.0) (Some _) h; joins_not = refl }
+moves_at e cap n p v vars m (Pick j b l next) x k h = record { goes_on = refl; waits_not = put_waits_not cap n k x p next vars m b (fin.get m j.0) (Some _) h; joins_not = refl }
+moves_at e cap n p v vars m (Throw j b g next) x k h = record { goes_on = refl; waits_not = put_waits_not cap n k x p next vars (fin.remove m g.0) b (fin.get m j.0) (part_load (fin.get m g.0)) h; joins_not = refl }
+moves_at e cap n p v vars m (Recv j a y next) x k h = record { goes_on = refl; waits_not = no_wait_take n p a (fin.get m j.0) (takes_value next vars m y) x k h; joins_not = refl }
+moves_at e cap n p v vars m (Branch j a arms) x k h = record { goes_on = refl; waits_not = no_wait_take n p a (fin.get m j.0) (takes_label arms vars m) x k h; joins_not = refl }
+moves_at e cap n p v vars m (Catch j a g next) x k h = record { goes_on = refl; waits_not = no_wait_take n p a (fin.get m j.0) (takes_part next vars m g) x k h; joins_not = refl }
+moves_at e cap n p v vars m (Set y w next) x k h = record { goes_on = refl; waits_not = refl; joins_not = refl }
+moves_at e cap n p v vars m (Show w next) x k h = record { goes_on = refl; waits_not = refl; joins_not = refl }
+moves_at e cap n p v vars m (Host y f a b next) x k h = record { goes_on = refl; waits_not = refl; joins_not = refl }
+moves_at e cap n p v vars m (If w c d) x k h = record { goes_on = refl; waits_not = refl; joins_not = refl }
+moves_at e cap n p v vars m (Join c r j next) x k h = absurd cc
+moves_at e cap n p v vars m (Call f q ss) x k h = absurd cc
+moves_at e cap n p v vars m End x k h = absurd cc
 
 -- where the process of an event is that it can make, and what it makes there
-pub record Running (e : Endpoints) (hosts : Hosts) (n : NetworkState) (p : ℕ) (x : Event) (answer : ℤ) (after : NetworkState) : Type 0 where
+pub record Running (e : Endpoints) (hosts : Hosts) (cap : Option ℕ) (n : NetworkState) (p : ℕ) (x : Event) (answer : ℤ) (after : NetworkState) : Type 0 where
   pub machine : Machine
   pub place : Place
   pub there : slice_get n.machines p ≡ Some machine
   pub stands : place_of e machine ≡ Some place
-  pub made : node_makes None n p answer machine.vars place.sessions place.node ≡ Some (Makes x after)
+  pub made : node_makes cap n p answer machine.vars place.sessions place.node ≡ Some (Makes x after)
 
-pub running : (e : Endpoints) (hosts : Hosts) (n : NetworkState) (p : ℕ) (x : Event) (v : ℤ) (k : NetworkState) → makes e None n p v ≡ Some (Makes x k) → Running e hosts n p x v k
-running e hosts n p x v k h = at_machine (slice_get n.machines p) refl h
+pub running : (e : Endpoints) (hosts : Hosts) (cap : Option ℕ) (n : NetworkState) (p : ℕ) (x : Event) (v : ℤ) (k : NetworkState) → makes e cap n p v ≡ Some (Makes x k) → Running e hosts cap n p x v k
+running e hosts cap n p x v k h = at_machine (slice_get n.machines p) refl h
   where
-    at_place : (m : Machine) → slice_get n.machines p ≡ Some m → (o : Option Place) → place_of e m ≡ o → place_makes None n p v m.vars o ≡ Some (Makes x k) → Running e hosts n p x v k
+    at_place : (m : Machine) → slice_get n.machines p ≡ Some m → (o : Option Place) → place_of e m ≡ o → place_makes cap n p v m.vars o ≡ Some (Makes x k) → Running e hosts cap n p x v k
     at_place m t None i j = absurd cc
     at_place m t (Some q) i j = record { machine = m; place = q; there = t; stands = i; made = j }
 
-    at_machine : (o : Option Machine) → slice_get n.machines p ≡ o → machine_makes e None n p v o ≡ Some (Makes x k) → Running e hosts n p x v k
+    at_machine : (o : Option Machine) → slice_get n.machines p ≡ o → machine_makes e cap n p v o ≡ Some (Makes x k) → Running e hosts cap n p x v k
     at_machine None t j = absurd cc
     at_machine (Some m) t j = at_place m t (place_of e m) refl j
 
-pub made_maker : (e : Endpoints) (n : NetworkState) (p : ℕ) (x : Event) (v : ℤ) (k : NetworkState) → makes e None n p v ≡ Some (Makes x k) → maker_of x ≡ Some p
-made_maker e n p x v k h = let r = running e [] n p x v k h in node_maker n p v r.machine.vars r.place.sessions r.place.node x k r.made
+pub made_maker : (e : Endpoints) (cap : Option ℕ) (n : NetworkState) (p : ℕ) (x : Event) (v : ℤ) (k : NetworkState) → makes e cap n p v ≡ Some (Makes x k) → maker_of x ≡ Some p
+made_maker e cap n p x v k h = let r = running e [] cap n p x v k h in node_maker cap n p v r.machine.vars r.place.sessions r.place.node x k r.made
 
-module _ (e : Endpoints) (hosts : Hosts) (n : NetworkState) (p : ℕ) (x : Event) (may : MayMake e hosts n p x) where
-  runs : Running e hosts n p x may.answer may.after
-  runs = running e hosts n p x may.answer may.after may.made
+module _ (e : Endpoints) (hosts : Hosts) (cap : Option ℕ) (n : NetworkState) (p : ℕ) (x : Event) (may : MayMake e hosts cap n p x) where
+  runs : Running e hosts cap n p x may.answer may.after
+  runs = running e hosts cap n p x may.answer may.after may.made
 
-  moves : Moves e n runs.machine.vars runs.place.sessions runs.place.node
-  moves = moves_at e n p may.answer runs.machine.vars runs.place.sessions runs.place.node x may.after runs.made
+  moves : Moves e cap n runs.machine.vars runs.place.sessions runs.place.node
+  moves = moves_at e cap n p may.answer runs.machine.vars runs.place.sessions runs.place.node x may.after runs.made
 
   pub may_within : p < length n.machines
   may_within = slice_get_within n.machines p runs.machine runs.there
 
-  pub may_step : steps_at e n p ≡ true
+  pub may_step : steps_at e cap n p ≡ true
   may_step =
-      ap (steps_of e n) runs.there
-      ∙ ap (λ (b : Bool). cond b false (cond (is_some (waits_for e None n runs.machine)) false true)) (ap ends_there runs.stands ∙ moves.goes_on)
-      ∙ ap (λ (o : Option Why). cond (is_some o) false true) (ap (place_waits e None n runs.machine.vars) runs.stands ∙ moves.waits_not)
+      ap (steps_of e cap n) runs.there
+      ∙ ap (λ (b : Bool). cond b false (cond (is_some (waits_for e cap n runs.machine)) false true)) (ap ends_there runs.stands ∙ moves.goes_on)
+      ∙ ap (λ (o : Option Why). cond (is_some o) false true) (ap (place_waits e cap n runs.machine.vars) runs.stands ∙ moves.waits_not)
 
   pub may_alone : joins_at_all e n p ≡ false
   may_alone = ap (λ (o : Option Machine). is_joining (place_at e o)) runs.there ∙ ap is_joining runs.stands ∙ moves.joins_not
 
-  pub may_chosen : (v : ℤ) → chosen e None n p v ≡ makes e None n p v
-  may_chosen v = ap (λ (o : Option Machine). chosen_at e None n p v (place_at e o)) runs.there ∙ ap (chosen_at e None n p v) runs.stands ∙ alone_chosen e n p v runs.place.node runs.place.sessions moves.joins_not
+  pub may_chosen : (v : ℤ) → chosen e cap n p v ≡ makes e cap n p v
+  may_chosen v = ap (λ (o : Option Machine). chosen_at e cap n p v (place_at e o)) runs.there ∙ ap (chosen_at e cap n p v) runs.stands ∙ alone_chosen e cap n p v runs.place.node runs.place.sessions moves.joins_not

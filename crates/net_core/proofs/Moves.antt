@@ -13,7 +13,7 @@ use Rattle.endpoint_machine.specs.Acts.{NodeAnswers}
 use Rattle.endpoint_machine.specs.Heads.{node_head, place_head, head_of}
 use Rattle.endpoint_machine.specs.Views.{MachineView}
 use Rattle.endpoint_machine.proofs.Actings.{answers_alike}
-use Rattle.net_core.specs.Lanes.{QueuesView}
+use Rattle.post_office.specs.Lanes.{QueuesView}
 use Rattle.net_core.specs.Machines.{MovesWith, ActsWith}
 
 free_node : (hosts : Hosts) (vars : Variables) (m : Sessions) (node : CodeNode) (h : Head) (v : ℤ) → node_head m node ≡ Some h → (head.Local ≡ h → ⊥) → NodeAnswers hosts vars node v

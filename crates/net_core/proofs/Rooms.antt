@@ -11,7 +11,7 @@ use Rattle.endpoint_machine.specs.declared.head.Head.{Head}
 use Rattle.endpoint_machine.specs.declared.head.Head.TheVariants as head
 use Rattle.endpoint_machine.specs.Heads.{head_of}
 use Rattle.endpoint_machine.specs.Views.{MachineView}
-use Rattle.net_core.specs.Lanes.{QueuesView, room_on}
+use Rattle.post_office.specs.Lanes.{QueuesView, room_on}
 use Rattle.session_starts.specs.Machines.{is_reserved}
 use Rattle.net_core.specs.Machines.{has_queue_room}
 use Rattle.net_core.specs.Views.{has_room}
@@ -59,12 +59,6 @@ room_stays e k l q r m n more queues kept same h =
     queue_stays (Some head.Local) h = refl
     queue_stays (Some head.Ended) h = refl
     queue_stays None h = refl
-
--- a list stays where an item is put that a function takes alike
-pub mapped_put : {X Y : Type 0} (f : X → Y) (xs : List X) (p : ℕ) (x y : X) → p < length xs → x ≡ get_or xs p x → f y ≡ f x → map f (slice_set xs p y) ≡ map f xs
-mapped_put f [] p x y lt h same = absurd (omega arith)
-mapped_put f (z ∷ xs) zero x y lt h same = ap (λ s. s ∷ map f xs) (same ∙ ap f h)
-mapped_put f (z ∷ xs) (suc p) x y lt h same = ap (λ r. f z ∷ r) (mapped_put f xs p x y (omega arith) h same)
 
 -- a process has room where the history, the process and its queue have
 pub room_made : (e : Endpoints) (k : ℕ) (q : QueuesView) (m : MachineView) (h : Head) → head_of e m.machine ≡ Some h → 0 < k → is_reserved e m ≡ true → has_queue_room q (Some h) ≡ true → has_room e k q m ≡ true

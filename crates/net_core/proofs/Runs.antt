@@ -19,18 +19,18 @@ use Rattle.net_core.specs.declared.answer.Picked.{Picked}
 use Rattle.net_core.specs.declared.answer.Picked.TheVariants.{Ended, Limit, Stuck, Memory}
 use Rattle.net_core.specs.Heads.{steps_at, steps_of, why_at, why_of, ended_at, ended_of}
 use Rattle.net_core.specs.Views.{NetworkView}
-use Rattle.net_core.specs.Steps.{FitsMore, HasGrown, most_served}
+use Rattle.net_core.specs.Steps.{HasStepped, FitsMore, HasGrown, most_served}
 use Rattle.net_core.specs.Picks.{Underway, GoesOn, stays, goes, entries_of, HasRun, HasGone, Runs, HasTurned, HasClosed, Turns, IsStuck}
 use Rattle.net_core.proofs.Leaders.{some_there}
 use Rattle.net_core.proofs.Numbers.{grown_by_none, grown_by_more, grown_by_same, grown_by_both}
 
 -- ---- the first process that hasn't ended
 
-pub some_waiting : (e : Endpoints) (n : NetworkState) (i : ℕ) (ms : List Machine) → all_ended e ms ≡ false → first_waiting_from e None n i ms ≡ None → ⊥
-some_waiting e n i [] a h = cc
-some_waiting e n i (m ∷ ms) a h = go (has_ended e m) a h (some_waiting e n (suc i) ms)
+pub some_waiting : (e : Endpoints) (cap : Option ℕ) (n : NetworkState) (i : ℕ) (ms : List Machine) → all_ended e ms ≡ false → first_waiting_from e cap n i ms ≡ None → ⊥
+some_waiting e cap n i [] a h = cc
+some_waiting e cap n i (m ∷ ms) a h = go (has_ended e m) a h (some_waiting e cap n (suc i) ms)
   where
-    go : (b : Bool) → (b && all_ended e ms) ≡ false → cond b (first_waiting_from e None n (suc i) ms) (Some (i, waits_for e None n m)) ≡ None → (all_ended e ms ≡ false → first_waiting_from e None n (suc i) ms ≡ None → ⊥) → ⊥
+    go : (b : Bool) → (b && all_ended e ms) ≡ false → cond b (first_waiting_from e cap n (suc i) ms) (Some (i, waits_for e cap n m)) ≡ None → (all_ended e ms ≡ false → first_waiting_from e cap n (suc i) ms ≡ None → ⊥) → ⊥
     go true s k more = more s k
     go false s k more = cc
 
@@ -39,48 +39,48 @@ record Item (ms : List Machine) (i : ℕ) : Type 0 where
   machine : Machine
   there : slice_get ms i ≡ Some machine
 
-record FirstWaiting (e : Endpoints) (n : NetworkState) (i : ℕ) (ms : List Machine) (p : ℕ) (w : Option Why) : Type 0 where
+record FirstWaiting (e : Endpoints) (cap : Option ℕ) (n : NetworkState) (i : ℕ) (ms : List Machine) (p : ℕ) (w : Option Why) : Type 0 where
   place : ℕ
   number : p ≡ i + place
   item : Item ms place
   unended : has_ended e item.machine ≡ false
-  why : w ≡ waits_for e None n item.machine
+  why : w ≡ waits_for e cap n item.machine
 
-first_found : (e : Endpoints) (n : NetworkState) (i : ℕ) (ms : List Machine) (p : ℕ) (w : Option Why) → first_waiting_from e None n i ms ≡ Some (p, w) → FirstWaiting e n i ms p w
-first_found e n i [] p w h = absurd cc
-first_found e n i (m ∷ ms) p w h = go (has_ended e m) refl h (first_found e n (suc i) ms p w)
+first_found : (e : Endpoints) (cap : Option ℕ) (n : NetworkState) (i : ℕ) (ms : List Machine) (p : ℕ) (w : Option Why) → first_waiting_from e cap n i ms ≡ Some (p, w) → FirstWaiting e cap n i ms p w
+first_found e cap n i [] p w h = absurd cc
+first_found e cap n i (m ∷ ms) p w h = go (has_ended e m) refl h (first_found e cap n (suc i) ms p w)
   where
-    go : (b : Bool) → has_ended e m ≡ b → cond b (first_waiting_from e None n (suc i) ms) (Some (i, waits_for e None n m)) ≡ Some (p, w) → (first_waiting_from e None n (suc i) ms ≡ Some (p, w) → FirstWaiting e n (suc i) ms p w) → FirstWaiting e n i (m ∷ ms) p w
+    go : (b : Bool) → has_ended e m ≡ b → cond b (first_waiting_from e cap n (suc i) ms) (Some (i, waits_for e cap n m)) ≡ Some (p, w) → (first_waiting_from e cap n (suc i) ms ≡ Some (p, w) → FirstWaiting e cap n (suc i) ms p w) → FirstWaiting e cap n i (m ∷ ms) p w
     go true s k more = let f = more k in let number : p ≡ suc i + f.place = f.number in
         record { place = suc f.place; number = omega arith; item = record { machine = f.item.machine; there = f.item.there }; unended = f.unended; why = f.why }
     go false s k more =
-        let parts = some_pair_parts i p (waits_for e None n m) w k in
+        let parts = some_pair_parts i p (waits_for e cap n m) w k in
         let number : i ≡ p = parts.0 in
         record { place = zero; number = omega arith; item = record { machine = m; there = refl }; unended = s; why = sym parts.1 }
 
-none_at : (e : Endpoints) (n : NetworkState) (ms : List Machine) (j : ℕ) (m : Machine) → none_can_step e None n ms ≡ true → slice_get ms j ≡ Some m → can_step e None n m ≡ false
-none_at e n [] j m h t = absurd cc
-none_at e n (x ∷ ms) j m h t = go (can_step e None n x) refl h j t (λ k i u. none_at e n ms i m k u)
+none_at : (e : Endpoints) (cap : Option ℕ) (n : NetworkState) (ms : List Machine) (j : ℕ) (m : Machine) → none_can_step e cap n ms ≡ true → slice_get ms j ≡ Some m → can_step e cap n m ≡ false
+none_at e cap n [] j m h t = absurd cc
+none_at e cap n (x ∷ ms) j m h t = go (can_step e cap n x) refl h j t (λ k i u. none_at e cap n ms i m k u)
   where
-    go : (b : Bool) → can_step e None n x ≡ b → cond b false (none_can_step e None n ms) ≡ true → (i : ℕ) → slice_get (x ∷ ms) i ≡ Some m → (none_can_step e None n ms ≡ true → (i : ℕ) → slice_get ms i ≡ Some m → can_step e None n m ≡ false) → can_step e None n m ≡ false
+    go : (b : Bool) → can_step e cap n x ≡ b → cond b false (none_can_step e cap n ms) ≡ true → (i : ℕ) → slice_get (x ∷ ms) i ≡ Some m → (none_can_step e cap n ms ≡ true → (i : ℕ) → slice_get ms i ≡ Some m → can_step e cap n m ≡ false) → can_step e cap n m ≡ false
     go true s k i u more = absurd cc
-    go false s k zero u more = let same : x ≡ m = cc in ap (can_step e None n) (sym same) ∙ s
+    go false s k zero u more = let same : x ≡ m = cc in ap (can_step e cap n) (sym same) ∙ s
     go false s k (suc i) u more = more k i u
 
-waits_some : (e : Endpoints) (n : NetworkState) (m : Machine) → has_ended e m ≡ false → can_step e None n m ≡ false → waits_for e None n m ≡ None → ⊥
-waits_some e n m u s h = let a : can_step e None n m ≡ true = ap (λ (b : Bool). cond b false (cond (is_some (waits_for e None n m)) false true)) u ∙ ap (λ (w : Option Why). cond (is_some w) false true) h in cc
+waits_some : (e : Endpoints) (cap : Option ℕ) (n : NetworkState) (m : Machine) → has_ended e m ≡ false → can_step e cap n m ≡ false → waits_for e cap n m ≡ None → ⊥
+waits_some e cap n m u s h = let a : can_step e cap n m ≡ true = ap (λ (b : Bool). cond b false (cond (is_some (waits_for e cap n m)) false true)) u ∙ ap (λ (w : Option Why). cond (is_some w) false true) h in cc
 
-pub first_within : (e : Endpoints) (n : NetworkState) (p : ℕ) (w : Option Why) → first_waiting e None n ≡ Some (p, w) → p < length n.machines
-first_within e n p w h =
-    let f = first_found e n 0 n.machines p w h in
+pub first_within : (e : Endpoints) (cap : Option ℕ) (n : NetworkState) (p : ℕ) (w : Option Why) → first_waiting e cap n ≡ Some (p, w) → p < length n.machines
+first_within e cap n p w h =
+    let f = first_found e cap n 0 n.machines p w h in
     let within = slice_get_within n.machines f.place f.item.machine f.item.there in
     let number : p ≡ 0 + f.place = f.number in
     omega arith
 
-pub first_waits : (e : Endpoints) (n : NetworkState) (p : ℕ) (w : Option Why) → first_waiting e None n ≡ Some (p, w) → none_can_step e None n n.machines ≡ true → w ≡ None → ⊥
-first_waits e n p w h none absent =
-    let f = first_found e n 0 n.machines p w h in
-    waits_some e n f.item.machine f.unended (none_at e n n.machines f.place f.item.machine none f.item.there) (sym f.why ∙ absent)
+pub first_waits : (e : Endpoints) (cap : Option ℕ) (n : NetworkState) (p : ℕ) (w : Option Why) → first_waiting e cap n ≡ Some (p, w) → none_can_step e cap n n.machines ≡ true → w ≡ None → ⊥
+first_waits e cap n p w h none absent =
+    let f = first_found e cap n 0 n.machines p w h in
+    waits_some e cap n f.item.machine f.unended (none_at e cap n n.machines f.place f.item.machine none f.item.there) (sym f.why ∙ absent)
 
 -- ---- the picked process
 
@@ -88,32 +88,32 @@ picked_item : (xs : List ℕ) (k p : ℕ) → picked_of xs k ≡ Some p → (i :
 picked_item [] k p h = absurd cc
 picked_item (x ∷ xs) k p h = (k % length (x ∷ xs), h)
 
-record ListedItem (e : Endpoints) (n : NetworkState) (i : ℕ) (ms : List Machine) (p : ℕ) : Type 0 where
+record ListedItem (e : Endpoints) (cap : Option ℕ) (n : NetworkState) (i : ℕ) (ms : List Machine) (p : ℕ) : Type 0 where
   place : ℕ
   number : p ≡ i + place
   item : Item ms place
-  listed : is_listed e None n item.machine ≡ true
+  listed : is_listed e cap n item.machine ≡ true
 
-listed_item : (e : Endpoints) (n : NetworkState) (i : ℕ) (ms : List Machine) (j p : ℕ) → slice_get (listed_from e None n i ms) j ≡ Some p → ListedItem e n i ms p
-listed_item e n i [] j p h = absurd cc
-listed_item e n i (m ∷ ms) j p h = go (is_listed e None n m) refl j h (λ k u. listed_item e n (suc i) ms k p u)
+listed_item : (e : Endpoints) (cap : Option ℕ) (n : NetworkState) (i : ℕ) (ms : List Machine) (j p : ℕ) → slice_get (listed_from e cap n i ms) j ≡ Some p → ListedItem e cap n i ms p
+listed_item e cap n i [] j p h = absurd cc
+listed_item e cap n i (m ∷ ms) j p h = go (is_listed e cap n m) refl j h (λ k u. listed_item e cap n (suc i) ms k p u)
   where
-    later : ListedItem e n (suc i) ms p → ListedItem e n i (m ∷ ms) p
+    later : ListedItem e cap n (suc i) ms p → ListedItem e cap n i (m ∷ ms) p
     later f = let number : p ≡ suc i + f.place = f.number in record { place = suc f.place; number = omega arith; item = record { machine = f.item.machine; there = f.item.there }; listed = f.listed }
 
-    go : (b : Bool) → is_listed e None n m ≡ b → (j : ℕ) → slice_get (cond b (i ∷ listed_from e None n (suc i) ms) (listed_from e None n (suc i) ms)) j ≡ Some p → ((k : ℕ) → slice_get (listed_from e None n (suc i) ms) k ≡ Some p → ListedItem e n (suc i) ms p) → ListedItem e n i (m ∷ ms) p
+    go : (b : Bool) → is_listed e cap n m ≡ b → (j : ℕ) → slice_get (cond b (i ∷ listed_from e cap n (suc i) ms) (listed_from e cap n (suc i) ms)) j ≡ Some p → ((k : ℕ) → slice_get (listed_from e cap n (suc i) ms) k ≡ Some p → ListedItem e cap n (suc i) ms p) → ListedItem e cap n i (m ∷ ms) p
     go true s zero u more = let same : i ≡ p = cc in record { place = zero; number = omega arith; item = record { machine = m; there = refl }; listed = s }
     go true s (suc j) u more = later (more j u)
     go false s j u more = later (more j u)
 
-pub picked_steps : (e : Endpoints) (n : NetworkState) (seed events p : ℕ) → picked e None seed events n ≡ Some p → (p < length n.machines) × (steps_at e n p ≡ true)
-picked_steps e n seed events p h =
-    let i = picked_item (listed e None n) (seed + events) p h in
-    let f = listed_item e n 0 n.machines i.0 p i.1 in
+pub picked_steps : (e : Endpoints) (cap : Option ℕ) (n : NetworkState) (seed events p : ℕ) → picked e cap seed events n ≡ Some p → (p < length n.machines) × (steps_at e cap n p ≡ true)
+picked_steps e cap n seed events p h =
+    let i = picked_item (listed e cap n) (seed + events) p h in
+    let f = listed_item e cap n 0 n.machines i.0 p i.1 in
     let same : f.place ≡ p = let number : p ≡ 0 + f.place = f.number in omega arith in
-    let steps : can_step e None n f.item.machine ≡ true = (and_parts (can_step e None n f.item.machine) (listed_at e (place_of e f.item.machine)) f.listed).0 in (
+    let steps : can_step e cap n f.item.machine ≡ true = (and_parts (can_step e cap n f.item.machine) (listed_at e (place_of e f.item.machine)) f.listed).0 in (
       subst (λ (k : ℕ). k < length n.machines) same (slice_get_within n.machines f.place f.item.machine f.item.there),
-      subst (λ (k : ℕ). steps_at e n k ≡ true) same (ap (steps_of e n) f.item.there ∙ steps),
+      subst (λ (k : ℕ). steps_at e cap n k ≡ true) same (ap (steps_of e cap n) f.item.there ∙ steps),
     )
 
 -- where no process is picked, none is listed
@@ -125,56 +125,74 @@ none_picked (x ∷ xs) k h = absurd (some_there (x ∷ xs) (k % length (x ∷ xs
     mod_within a b = grind arith
 
 -- a process that can step neither waits nor has ended
-pub steps_no_wait : (e : Endpoints) (n : NetworkState) (p : ℕ) (w : Why) → steps_at e n p ≡ true → why_at e n p ≡ Some w → ⊥
-steps_no_wait e n p w s h = go (slice_get n.machines p) s h
+pub steps_no_wait : (e : Endpoints) (cap : Option ℕ) (n : NetworkState) (p : ℕ) (w : Why) → steps_at e cap n p ≡ true → why_at e cap n p ≡ Some w → ⊥
+steps_no_wait e cap n p w s h = go (slice_get n.machines p) s h
   where
     step : (m : Machine) (a : Bool) (o : Option Why) → cond a false (cond (is_some o) false true) ≡ true → o ≡ Some w → ⊥
     step m true o s h = cc
     step m false None s h = cc
     step m false (Some x) s h = cc
 
-    go : (o : Option Machine) → steps_of e n o ≡ true → why_of e n o ≡ Some w → ⊥
+    go : (o : Option Machine) → steps_of e cap n o ≡ true → why_of e cap n o ≡ Some w → ⊥
     go None s h = cc
-    go (Some m) s h = step m (has_ended e m) (waits_for e None n m) s h
+    go (Some m) s h = step m (has_ended e m) (waits_for e cap n m) s h
 
-pub steps_no_end : (e : Endpoints) (n : NetworkState) (p : ℕ) → steps_at e n p ≡ true → ended_at e n p ≡ true → ⊥
-steps_no_end e n p s h = go (slice_get n.machines p) s h
+pub steps_no_end : (e : Endpoints) (cap : Option ℕ) (n : NetworkState) (p : ℕ) → steps_at e cap n p ≡ true → ended_at e n p ≡ true → ⊥
+steps_no_end e cap n p s h = go (slice_get n.machines p) s h
   where
     step : (a : Bool) (o : Option Why) → cond a false (cond (is_some o) false true) ≡ true → a ≡ true → ⊥
     step true o s h = cc
     step false o s h = cc
 
-    go : (o : Option Machine) → steps_of e n o ≡ true → ended_of e o ≡ true → ⊥
+    go : (o : Option Machine) → steps_of e cap n o ≡ true → ended_of e o ≡ true → ⊥
     go None s h = cc
-    go (Some m) s h = step (has_ended e m) (waits_for e None n m) s h
+    go (Some m) s h = step (has_ended e m) (waits_for e cap n m) s h
 
 -- ---- a closed run
 
-pub stuck_closes : (hosts : Hosts) (seed steps : ℕ) (v : NetworkView) (r : Picked) → IsStuck v.endpoints v.state r → length v.history ≢ steps → none_can_step v.endpoints None v.state v.state.machines ≡ true → Turns hosts seed steps v (Some r) v
+pub stuck_closes : (hosts : Hosts) (seed steps : ℕ) (v : NetworkView) (r : Picked) → IsStuck v.endpoints v.capacity v.state r → length v.history ≢ steps → none_can_step v.endpoints v.capacity v.state v.state.machines ≡ true → Turns hosts seed steps v (Some r) v
 stuck_closes hosts seed steps v Ended s k none = absurd s
 stuck_closes hosts seed steps v Limit s k none = absurd s
-stuck_closes hosts seed steps v (Stuck p why) s k none = record { same = record { endpoints = refl; state = refl; history = refl }; closes = close.stuck k none s }
+stuck_closes hosts seed steps v (Stuck p why) s k none = record { same = record { endpoints = refl; capacity = refl; state = refl; history = refl }; closes = close.stuck k none s }
 stuck_closes hosts seed steps v Memory s k none = absurd s
 
-goes_more : {e : Endpoints} {hosts : Hosts} {seed steps : ℕ} {n m : NetworkState} {k : ℕ} {xs : List Event} → GoesOn e hosts seed steps n k xs m → (last : NetworkState) (j p : ℕ) (x : Event) → j ≡ k + length xs → all_ended e m.machines ≡ false → j ≢ steps → picked e None seed j m ≡ Some p → Chooses e hosts None m p x last → GoesOn e hosts seed steps n k (xs ++ x ∷ []) last
-goes_more {e} {seed} {steps} {n} {m} {k} stays last j p x h a b c d =
+goes_more : {e : Endpoints} {hosts : Hosts} {cap : Option ℕ} {seed steps : ℕ} {n m : NetworkState} {k : ℕ} {xs : List Event} → GoesOn e hosts cap seed steps n k xs m → (last : NetworkState) (j p : ℕ) (x : Event) → j ≡ k + length xs → all_ended e m.machines ≡ false → j ≢ steps → picked e cap seed j m ≡ Some p → Chooses e hosts cap m p x last → GoesOn e hosts cap seed steps n k (xs ++ x ∷ []) last
+goes_more {e} {cap = cap} {seed} {steps} {n} {m} {k} stays last j p x h a b c d =
     let same : j ≡ k = omega arith in
-    goes a (subst (λ (i : ℕ). i ≢ steps) same b) (subst (λ (i : ℕ). picked e None seed i m ≡ Some p) same c) d stays
+    goes a (subst (λ (i : ℕ). i ≢ steps) same b) (subst (λ (i : ℕ). picked e cap seed i m ≡ Some p) same c) d stays
 goes_more {k = k} (goes {events} {x = y} {xs} s t u w rest) last j p x h a b c d = goes s t u w (goes_more rest last j p x (omega arith) a b c d)
 
-pub closed_by : {e : Endpoints} {hosts : Hosts} {seed steps : ℕ} {n m : NetworkState} {k : ℕ} {xs : List Event} → GoesOn e hosts seed steps n k xs m → (j : ℕ) (c : Close) → j ≡ k + length xs → Closes e None steps m j c → IsScheduled e hosts None seed steps n k xs m c
-closed_by {e} {steps = steps} {m = m} {k = k} stays j c h closes =
+pub closed_by : {e : Endpoints} {hosts : Hosts} {cap : Option ℕ} {seed steps : ℕ} {n m : NetworkState} {k : ℕ} {xs : List Event} → GoesOn e hosts cap seed steps n k xs m → (j : ℕ) (c : Close) → j ≡ k + length xs → Closes e cap steps m j c → IsScheduled e hosts cap seed steps n k xs m c
+closed_by {e} {cap = cap} {steps = steps} {m = m} {k = k} stays j c h closes =
     let same : j ≡ k = omega arith in
-    closed (subst (λ (i : ℕ). Closes e None steps m i c) same closes)
+    closed (subst (λ (i : ℕ). Closes e cap steps m i c) same closes)
 closed_by (goes s t u w rest) j c h closes = close.goes s t u w (closed_by rest j c (omega arith) closes)
 
+-- ---- one turn
+
+-- the process that the pick rule takes has made one more event
+pub turned : (hosts : Hosts) (seed steps : ℕ) (old new : NetworkView) (p events : ℕ) → all_ended old.endpoints old.state.machines ≡ false → length old.history ≢ steps → Some p ≡ picked old.endpoints old.capacity seed events old.state → events ≡ length old.history
+    → HasStepped hosts old p new → HasGrown old new → HasTurned hosts seed steps old new
+turned hosts seed steps old new p events unended before pick count step grown = record {
+  process = p;
+  open_still = unended;
+  before = before;
+  pick = sym (pick ∙ ap (λ (k : ℕ). picked old.endpoints old.capacity seed k old.state) count);
+  step = step;
+  grown = grown;
+}
+
 -- ---- a run under way
+
+-- what is so of programs under a capacity is so where they are the same
+with_same : (P : Endpoints → Option ℕ → Type 0) {e f : Endpoints} {j k : Option ℕ} → e ≡ f → j ≡ k → P e j → P f k
+with_same P {e} {f} {j} {k} a b x = subst (λ (l : Option ℕ). P f l) b (subst (λ (d : Endpoints). P d j) a x)
 
 pub length-entries_of : (xs : List Event) → length (entries_of xs) ≡ length xs
 length-entries_of xs = length-map xs _
 
 pub begun_run : (hosts : Hosts) (seed steps : ℕ) (v : NetworkView) → length v.history ≤ steps → FitsMore v (steps - length v.history) → Underway hosts seed steps v v
-begun_run hosts seed steps v le fits = record { gone = record { events = []; endpoints = refl; history = sym (append-nil v.history); run = stays; grown = grown_by_none v }; before = le; fits = fits }
+begun_run hosts seed steps v le fits = record { gone = record { events = []; endpoints = refl; capacity = refl; history = sym (append-nil v.history); run = stays; grown = grown_by_none v }; before = le; fits = fits }
 
 events_so_far : (hosts : Hosts) (seed steps : ℕ) (first now : NetworkView) (g : HasGone hosts seed steps first now) → length now.history ≡ length first.history + length g.events
 events_so_far hosts seed steps first now g = ap length g.history ∙ length-append first.history (entries_of g.events) ∙ ap (λ (k : ℕ). length first.history + k) (length-entries_of g.events)
@@ -215,17 +233,18 @@ underway_more hosts seed steps first old new u t =
       gone = record {
         events = g.events ++ x ∷ [];
         endpoints = t.step.becomes.endpoints ∙ g.endpoints;
+        capacity = t.step.becomes.capacity ∙ g.capacity;
         history =
             t.step.becomes.history ∙ ap (λ (h : List Entry). h ++ record { worker = 0; event = x } ∷ []) g.history
             ∙ append_assoc first.history (entries_of g.events) (record { worker = 0; event = x } ∷ [])
             ∙ ap (λ (r : List Entry). first.history ++ r) (sym (map-append _ g.events (x ∷ [])));
         run =
-            subst (λ (n : NetworkState). GoesOn first.endpoints hosts seed steps first.state (length first.history) (g.events ++ x ∷ []) n) (sym t.step.becomes.state)
+            subst (λ (n : NetworkState). GoesOn first.endpoints hosts first.capacity seed steps first.state (length first.history) (g.events ++ x ∷ []) n) (sym t.step.becomes.state)
             (goes_more g.run t.step.state (length old.history) t.process x (events_so_far hosts seed steps first old g)
             (subst (λ (p : Endpoints). all_ended p old.state.machines ≡ false) e t.open_still)
             other
-            (subst (λ (p : Endpoints). picked p None seed (length old.history) old.state ≡ Some t.process) e t.pick)
-            (subst (λ (p : Endpoints). Chooses p hosts None old.state t.process x t.step.state) e t.step.chooses));
+            (with_same (λ p cap. picked p cap seed (length old.history) old.state ≡ Some t.process) e g.capacity t.pick)
+            (with_same (λ p cap. Chooses p hosts cap old.state t.process x t.step.state) e g.capacity t.step.chooses));
         grown = grown_by_more first old new g.events x g.grown e t.grown;
       };
       before = omega arith;
@@ -238,10 +257,11 @@ closed_run hosts seed steps first old new c u h =
     record {
       events = g.events;
       endpoints = h.same.endpoints ∙ g.endpoints;
+      capacity = h.same.capacity ∙ g.capacity;
       history = h.same.history ∙ g.history;
       run =
-          subst (λ (n : NetworkState). IsScheduled first.endpoints hosts None seed steps first.state (length first.history) g.events n c) (sym h.same.state)
-          (closed_by g.run (length old.history) c (events_so_far hosts seed steps first old g) (subst (λ (e : Endpoints). Closes e None steps old.state (length old.history) c) g.endpoints h.closes));
+          subst (λ (n : NetworkState). IsScheduled first.endpoints hosts first.capacity seed steps first.state (length first.history) g.events n c) (sym h.same.state)
+          (closed_by g.run (length old.history) c (events_so_far hosts seed steps first old g) (with_same (λ e cap. Closes e cap steps old.state (length old.history) c) g.endpoints g.capacity h.closes));
       grown = grown_by_same (length g.events) first old new g.grown h.same.state;
     }
 
@@ -254,24 +274,25 @@ closes_run hosts seed steps first old new Memory u (inl h) =
     record {
       events = g.events;
       endpoints = h.endpoints ∙ g.endpoints;
+      capacity = h.capacity ∙ g.capacity;
       history = h.history ∙ g.history;
-      run = subst (λ (n : NetworkState). GoesOn first.endpoints hosts seed steps first.state (length first.history) g.events n) (sym h.state) g.run;
+      run = subst (λ (n : NetworkState). GoesOn first.endpoints hosts first.capacity seed steps first.state (length first.history) g.events n) (sym h.state) g.run;
       grown = grown_by_same (length g.events) first old new g.grown h.state;
     }
 closes_run hosts seed steps first old new Memory u (inr t) = (underway_more hosts seed steps first old new u t).gone
 
 -- ---- a run in two parts
 
-pub goes_then : {e : Endpoints} {hosts : Hosts} {seed steps : ℕ} {n m : NetworkState} {k : ℕ} {xs : List Event} → GoesOn e hosts seed steps n k xs m → (last : NetworkState) (j : ℕ) (ys : List Event) → j ≡ k + length xs → GoesOn e hosts seed steps m j ys last → GoesOn e hosts seed steps n k (xs ++ ys) last
-goes_then {e} {hosts} {seed} {steps} {n} {k = k} stays last j ys h rest =
+pub goes_then : {e : Endpoints} {hosts : Hosts} {cap : Option ℕ} {seed steps : ℕ} {n m : NetworkState} {k : ℕ} {xs : List Event} → GoesOn e hosts cap seed steps n k xs m → (last : NetworkState) (j : ℕ) (ys : List Event) → j ≡ k + length xs → GoesOn e hosts cap seed steps m j ys last → GoesOn e hosts cap seed steps n k (xs ++ ys) last
+goes_then {e} {hosts} {cap} {seed} {steps} {n} {k = k} stays last j ys h rest =
     let same : j ≡ k = omega arith in
-    subst (λ (i : ℕ). GoesOn e hosts seed steps n i ys last) same rest
+    subst (λ (i : ℕ). GoesOn e hosts cap seed steps n i ys last) same rest
 goes_then (goes s t u w first) last j ys h rest = goes s t u w (goes_then first last j ys (omega arith) rest)
 
-pub scheduled_then : {e : Endpoints} {hosts : Hosts} {seed steps : ℕ} {n m : NetworkState} {k : ℕ} {xs : List Event} → GoesOn e hosts seed steps n k xs m → (last : NetworkState) (j : ℕ) (ys : List Event) (c : Close) → j ≡ k + length xs → IsScheduled e hosts None seed steps m j ys last c → IsScheduled e hosts None seed steps n k (xs ++ ys) last c
-scheduled_then {e} {hosts} {seed} {steps} {n} {k = k} stays last j ys c h rest =
+pub scheduled_then : {e : Endpoints} {hosts : Hosts} {cap : Option ℕ} {seed steps : ℕ} {n m : NetworkState} {k : ℕ} {xs : List Event} → GoesOn e hosts cap seed steps n k xs m → (last : NetworkState) (j : ℕ) (ys : List Event) (c : Close) → j ≡ k + length xs → IsScheduled e hosts cap seed steps m j ys last c → IsScheduled e hosts cap seed steps n k (xs ++ ys) last c
+scheduled_then {e} {hosts} {cap} {seed} {steps} {n} {k = k} stays last j ys c h rest =
     let same : j ≡ k = omega arith in
-    subst (λ (i : ℕ). IsScheduled e hosts None seed steps n i ys last c) same rest
+    subst (λ (i : ℕ). IsScheduled e hosts cap seed steps n i ys last c) same rest
 scheduled_then (goes s t u w first) last j ys c h rest = close.goes s t u w (scheduled_then first last j ys c (omega arith) rest)
 
 history_then : (a b c : List Entry) (xs ys : List Event) → b ≡ a ++ entries_of xs → c ≡ b ++ entries_of ys → c ≡ a ++ entries_of (xs ++ ys)
@@ -282,8 +303,9 @@ closed_then : (hosts : Hosts) (seed steps : ℕ) (first mid new : NetworkView) (
 closed_then hosts seed steps first mid new c g r = record {
   events = g.events ++ r.events;
   endpoints = r.endpoints ∙ g.endpoints;
+  capacity = r.capacity ∙ g.capacity;
   history = history_then first.history mid.history new.history g.events r.events g.history r.history;
-  run = scheduled_then g.run new.state (length mid.history) r.events c (events_so_far hosts seed steps first mid g) (subst (λ (e : Endpoints). IsScheduled e hosts None seed steps mid.state (length mid.history) r.events new.state c) g.endpoints r.run);
+  run = scheduled_then g.run new.state (length mid.history) r.events c (events_so_far hosts seed steps first mid g) (with_same (λ e cap. IsScheduled e hosts cap seed steps mid.state (length mid.history) r.events new.state c) g.endpoints g.capacity r.run);
   grown = grown_by_both g.events r.events first mid new g.grown g.endpoints r.grown;
 }
 
@@ -295,7 +317,8 @@ runs_then hosts seed steps first mid new (Stuck p why) g h = closed_then hosts s
 runs_then hosts seed steps first mid new Memory g h = record {
   events = g.events ++ h.events;
   endpoints = h.endpoints ∙ g.endpoints;
+  capacity = h.capacity ∙ g.capacity;
   history = history_then first.history mid.history new.history g.events h.events g.history h.history;
-  run = goes_then g.run new.state (length mid.history) h.events (events_so_far hosts seed steps first mid g) (subst (λ (e : Endpoints). GoesOn e hosts seed steps mid.state (length mid.history) h.events new.state) g.endpoints h.run);
+  run = goes_then g.run new.state (length mid.history) h.events (events_so_far hosts seed steps first mid g) (with_same (λ e cap. GoesOn e hosts cap seed steps mid.state (length mid.history) h.events new.state) g.endpoints g.capacity h.run);
   grown = grown_by_both g.events h.events first mid new g.grown g.endpoints h.grown;
 }

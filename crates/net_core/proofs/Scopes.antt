@@ -24,7 +24,7 @@ use Rattle.endpoint_machine.specs.Heads.{node_head, place_head, head_of, sends_o
 use Rattle.endpoint_machine.specs.Places.{StandsAt}
 use Rattle.endpoint_machine.specs.Views.{MachineView}
 use Rattle.endpoint_machine.proofs.Scopes.{some_node, stands_plainly, stands_beyond, called, procedure_all}
-use Rattle.net_core.specs.Lanes.{QueuesView}
+use Rattle.post_office.specs.Lanes.{QueuesView}
 use Rattle.session_starts.specs.Machines.{standing_of}
 use Rattle.net_core.specs.Machines.{is_join}
 use Rattle.net_core.specs.Heads.{Stands, Shows, EachStands, ended_of, why_of, is_joining, is_end, is_joining_head, is_taking, joins_as, leads_as, why_by}
@@ -105,24 +105,24 @@ leads_head e m End h i = let same : head.Ended ≡ h = cc in ap (leads_as e) sam
 
 -- ---- waiting
 
-never_to_send : (n : NetworkState) (b : NameId) (k : Option (ℕ × NameId)) → waits_to_send None n b k ≡ None
-never_to_send n b None = refl
-never_to_send n b (Some (s, a)) = refl
+out_waits : (e : Endpoints) (cap : Option ℕ) (n : NetworkState) (b : NameId) (k : Option (ℕ × NameId)) (h : Head) → sends_on k b ≡ Some h → waits_to_send cap n b k ≡ why_by e cap n h
+out_waits e cap n b None h i = absurd cc
+out_waits e cap n b (Some (s, a)) h i = let same : head.Out s a b ≡ h = cc in ap (why_by e cap n) same
 
-why_head : (e : Endpoints) (n : NetworkState) (vars : Variables) (m : Sessions) (node : CodeNode) (h : Head) → node_head m node ≡ Some h → is_taking h ≡ false → node_waits e None n vars m node ≡ why_by e n h
-why_head e n vars m (Join c r k next) h i j = let same : head.Join c r ≡ h = cc in ap (why_by e n) same
-why_head e n vars m (Send k b x next) h i j = never_to_send n b (fin.get m k.0) ∙ out_same (why_by e n) None (λ s a z. refl) (fin.get m k.0) b h i
-why_head e n vars m (Recv k a x next) h i j = let yes : true ≡ is_taking h = take_same is_taking true (λ s z w. refl) (fin.get m k.0) a h i in absurd cc
-why_head e n vars m (Pick k b l next) h i j = never_to_send n b (fin.get m k.0) ∙ out_same (why_by e n) None (λ s a z. refl) (fin.get m k.0) b h i
-why_head e n vars m (Branch k a arms) h i j = let yes : true ≡ is_taking h = take_same is_taking true (λ s z w. refl) (fin.get m k.0) a h i in absurd cc
-why_head e n vars m (Throw k b g next) h i j = never_to_send n b (fin.get m k.0) ∙ out_same (why_by e n) None (λ s a z. refl) (fin.get m k.0) b h i
-why_head e n vars m (Catch k a g next) h i j = let yes : true ≡ is_taking h = take_same is_taking true (λ s z w. refl) (fin.get m k.0) a h i in absurd cc
-why_head e n vars m (Set x w next) h i j = let same : head.Local ≡ h = cc in ap (why_by e n) same
-why_head e n vars m (Show w next) h i j = let same : head.Local ≡ h = cc in ap (why_by e n) same
-why_head e n vars m (Host x f u w next) h i j = let same : head.Local ≡ h = cc in ap (why_by e n) same
-why_head e n vars m (If w c d) h i j = let same : head.Local ≡ h = cc in ap (why_by e n) same
-why_head e n vars m (Call f o ns) h i j = absurd cc
-why_head e n vars m End h i j = let same : head.Ended ≡ h = cc in ap (why_by e n) same
+why_head : (e : Endpoints) (cap : Option ℕ) (n : NetworkState) (vars : Variables) (m : Sessions) (node : CodeNode) (h : Head) → node_head m node ≡ Some h → is_taking h ≡ false → node_waits e cap n vars m node ≡ why_by e cap n h
+why_head e cap n vars m (Join c r k next) h i j = let same : head.Join c r ≡ h = cc in ap (why_by e cap n) same
+why_head e cap n vars m (Send k b x next) h i j = out_waits e cap n b (fin.get m k.0) h i
+why_head e cap n vars m (Recv k a x next) h i j = let yes : true ≡ is_taking h = take_same is_taking true (λ s z w. refl) (fin.get m k.0) a h i in absurd cc
+why_head e cap n vars m (Pick k b l next) h i j = out_waits e cap n b (fin.get m k.0) h i
+why_head e cap n vars m (Branch k a arms) h i j = let yes : true ≡ is_taking h = take_same is_taking true (λ s z w. refl) (fin.get m k.0) a h i in absurd cc
+why_head e cap n vars m (Throw k b g next) h i j = out_waits e cap n b (fin.get m k.0) h i
+why_head e cap n vars m (Catch k a g next) h i j = let yes : true ≡ is_taking h = take_same is_taking true (λ s z w. refl) (fin.get m k.0) a h i in absurd cc
+why_head e cap n vars m (Set x w next) h i j = let same : head.Local ≡ h = cc in ap (why_by e cap n) same
+why_head e cap n vars m (Show w next) h i j = let same : head.Local ≡ h = cc in ap (why_by e cap n) same
+why_head e cap n vars m (Host x f u w next) h i j = let same : head.Local ≡ h = cc in ap (why_by e cap n) same
+why_head e cap n vars m (If w c d) h i j = let same : head.Local ≡ h = cc in ap (why_by e cap n) same
+why_head e cap n vars m (Call f o ns) h i j = absurd cc
+why_head e cap n vars m End h i j = let same : head.Ended ≡ h = cc in ap (why_by e cap n) same
 
 empty_one : (n : NetworkState) (o : Option (ℕ × NameId)) (c : NameId) (f : Load → Option Taking) (s : ℕ) (a b : NameId) → takes_on o c ≡ Some (head.Take s a b) → queue_of n (s, a, b) ≡ [] → waits_to_receive n c o f ≡ Some (Empty s a b)
 empty_one n None c f s a b h q = absurd cc
@@ -139,20 +139,20 @@ no_take : (o : Option (ℕ × NameId)) (c : NameId) (s : ℕ) (a b : NameId) →
 no_take None c s a b h = absurd cc
 no_take (Some (t, d)) c s a b h = absurd cc
 
-node_empty : (e : Endpoints) (n : NetworkState) (vars : Variables) (m : Sessions) (node : CodeNode) (s : ℕ) (y z : NameId) → node_head m node ≡ Some (head.Take s y z) → queue_of n (s, y, z) ≡ [] → node_waits e None n vars m node ≡ Some (Empty s y z)
-node_empty e n vars m (Join c r k next) s y z h q = absurd cc
-node_empty e n vars m (Send k b x next) s y z h q = absurd (no_take (fin.get m k.0) b s y z h)
-node_empty e n vars m (Recv k a x next) s y z h q = empty_one n (fin.get m k.0) a (takes_value next vars m x) s y z h q
-node_empty e n vars m (Pick k b l next) s y z h q = absurd (no_take (fin.get m k.0) b s y z h)
-node_empty e n vars m (Branch k a arms) s y z h q = empty_one n (fin.get m k.0) a (takes_label arms vars m) s y z h q
-node_empty e n vars m (Throw k b g next) s y z h q = absurd (no_take (fin.get m k.0) b s y z h)
-node_empty e n vars m (Catch k a g next) s y z h q = empty_one n (fin.get m k.0) a (takes_part next vars m g) s y z h q
-node_empty e n vars m (Set x w next) s y z h q = absurd cc
-node_empty e n vars m (Show w next) s y z h q = absurd cc
-node_empty e n vars m (Host x f u w next) s y z h q = absurd cc
-node_empty e n vars m (If w c d) s y z h q = absurd cc
-node_empty e n vars m (Call f o ns) s y z h q = absurd cc
-node_empty e n vars m End s y z h q = absurd cc
+node_empty : (e : Endpoints) (cap : Option ℕ) (n : NetworkState) (vars : Variables) (m : Sessions) (node : CodeNode) (s : ℕ) (y z : NameId) → node_head m node ≡ Some (head.Take s y z) → queue_of n (s, y, z) ≡ [] → node_waits e cap n vars m node ≡ Some (Empty s y z)
+node_empty e cap n vars m (Join c r k next) s y z h q = absurd cc
+node_empty e cap n vars m (Send k b x next) s y z h q = absurd (no_take (fin.get m k.0) b s y z h)
+node_empty e cap n vars m (Recv k a x next) s y z h q = empty_one n (fin.get m k.0) a (takes_value next vars m x) s y z h q
+node_empty e cap n vars m (Pick k b l next) s y z h q = absurd (no_take (fin.get m k.0) b s y z h)
+node_empty e cap n vars m (Branch k a arms) s y z h q = empty_one n (fin.get m k.0) a (takes_label arms vars m) s y z h q
+node_empty e cap n vars m (Throw k b g next) s y z h q = absurd (no_take (fin.get m k.0) b s y z h)
+node_empty e cap n vars m (Catch k a g next) s y z h q = empty_one n (fin.get m k.0) a (takes_part next vars m g) s y z h q
+node_empty e cap n vars m (Set x w next) s y z h q = absurd cc
+node_empty e cap n vars m (Show w next) s y z h q = absurd cc
+node_empty e cap n vars m (Host x f u w next) s y z h q = absurd cc
+node_empty e cap n vars m (If w c d) s y z h q = absurd cc
+node_empty e cap n vars m (Call f o ns) s y z h q = absurd cc
+node_empty e cap n vars m End s y z h q = absurd cc
 
 -- ---- where a process stands
 
@@ -214,7 +214,7 @@ shows_from e n p node s h here = record {
   joins = λ c r. ap (λ (o : Option Machine). joins_there (place_at e o) c r) s.there ∙ ap (λ (o : Option Place). joins_there o c r) s.at_node.place ∙ joins_head s.sessions node h c r here;
   leads = ap (λ (o : Option Machine). listed_at e (place_at e o)) s.there ∙ ap (listed_at e) s.at_node.place ∙ leads_head e s.sessions node h here;
   joining = ap (λ (o : Option Machine). is_joining (place_at e o)) s.there ∙ ap is_joining s.at_node.place ∙ joining_head s.sessions node h here;
-  waits = λ j. ap (why_of e n) s.there ∙ ap (place_waits e None n s.machine.vars) s.at_node.place ∙ why_head e n s.machine.vars s.sessions node h here j;
+  waits = λ cap j. ap (why_of e cap n) s.there ∙ ap (place_waits e cap n s.machine.vars) s.at_node.place ∙ why_head e cap n s.machine.vars s.sessions node h here j;
 }
 
 -- so it is where the process stands at a machine with this head
@@ -230,10 +230,10 @@ shows e ms q sid p r h sound lt is shown =
     shows_standing e (state_of ms q sid) p found.0 found.1 r.machine h (runner_at ms p r lt is) shown
 
 -- a process that takes on an empty queue waits by it
-pub waits_empty : (e : Endpoints) (n : NetworkState) (p s : ℕ) (a b : NameId) → Shows e n p (head.Take s a b) → queue_of n (s, a, b) ≡ [] → why_of e n (slice_get n.machines p) ≡ Some (Empty s a b)
-waits_empty e n p s a b t q =
-    ap (why_of e n) t.stands.there ∙ ap (place_waits e None n t.stands.machine.vars) t.stands.at_node.place
-    ∙ node_empty e n t.stands.machine.vars t.stands.sessions t.node s a b t.head q
+pub waits_empty : (e : Endpoints) (cap : Option ℕ) (n : NetworkState) (p s : ℕ) (a b : NameId) → Shows e n p (head.Take s a b) → queue_of n (s, a, b) ≡ [] → why_of e cap n (slice_get n.machines p) ≡ Some (Empty s a b)
+waits_empty e cap n p s a b t q =
+    ap (why_of e cap n) t.stands.there ∙ ap (place_waits e cap n t.stands.machine.vars) t.stands.at_node.place
+    ∙ node_empty e cap n t.stands.machine.vars t.stands.sessions t.node s a b t.head q
 
 pub each_stands : (e : Endpoints) (ms : List MachineView) (q : QueuesView) (sid : ℕ) → IsSound e ms → EachStands e (state_of ms q sid)
 each_stands e ms q sid sound p lt =

@@ -57,9 +57,9 @@ taken_none h old new ps is none same = record {
 }
 
 -- memory was given back
-pub given_back : (e : Endpoints) (n : NetworkState) (listed unended : List Bool) (old new : WaitingLists) → new.lists ≡ old.lists
-    → IsUpToDate e n (record { listed = listed; unended = unended; waiting = old }) → IsUpToDate e n (record { listed = listed; unended = unended; waiting = new })
-given_back e n listed unended old new same up = record {
+pub given_back : (e : Endpoints) (cap : Option ℕ) (n : NetworkState) (listed unended : List Bool) (old new : WaitingLists) → new.lists ≡ old.lists
+    → IsUpToDate e cap n (record { listed = listed; unended = unended; waiting = old }) → IsUpToDate e cap n (record { listed = listed; unended = unended; waiting = new })
+given_back e cap n listed unended old new same up = record {
   places = record {
     listed = up.places.listed;
     unended = up.places.unended;
@@ -73,12 +73,12 @@ given_back e n listed unended old new same up = record {
   judged = up.judged;
 }
 
-module _ (past : Past) (old new : WaitingLists) (ps : List ℕ) (t : TakesWaiting past.head old ps new) where
+module _ (cap : Option ℕ) (past : Past) (old new : WaitingLists) (ps : List ℕ) (t : TakesWaiting past.head old ps new) where
   waiting : (w : Awaited) (q : ℕ) → touched_by past.head ≡ Some w → IsIn (waiting_for old w) q → IsIn ps q
   waiting w q i j = subst (λ (l : List ℕ). IsIn l q) (sym (t.waiting w i)) j
 
   -- with the process itself
-  pub touched_own : (qs : List ℕ) → qs ≡ ps ++ past.pid ∷ [] → HasTouched past past.count old qs
+  pub touched_own : (qs : List ℕ) → qs ≡ ps ++ past.pid ∷ [] → HasTouched cap past past.count old qs
   touched_own qs is = record {
     waiting = λ w q i j. subst (λ (l : List ℕ). IsIn l q) (sym is) (in_front ps past.pid q (waiting w q i j));
     own = λ i. subst (λ (l : List ℕ). IsIn l past.pid) (sym is) (in_last ps past.pid);
@@ -86,7 +86,7 @@ module _ (past : Past) (old new : WaitingLists) (ps : List ℕ) (t : TakesWaitin
   }
 
   -- where it may wait itself
-  pub touched_waiting : (awaited_by past.head ≡ None → ⊥) → HasTouched past past.count old ps
+  pub touched_waiting : (awaited_by cap past.head ≡ None → ⊥) → HasTouched cap past past.count old ps
   touched_waiting some = record {
     waiting = waiting;
     own = λ i. absurd (some i);
@@ -101,8 +101,8 @@ module _ (past : Past) (old new : WaitingLists) (ps : List ℕ) (t : TakesWaitin
       go (Some w) j = below w q (subst (λ (l : List ℕ). IsIn l q) (t.waiting w j) i)
 
 -- one process more
-pub touched_more : (past : Past) (count : ℕ) (old : WaitingLists) (ps qs : List ℕ) → HasTouched past count old ps → qs ≡ ps ++ count ∷ [] → HasTouched past (count + 1) old qs
-touched_more past count old ps qs t is = record {
+pub touched_more : (cap : Option ℕ) (past : Past) (count : ℕ) (old : WaitingLists) (ps qs : List ℕ) → HasTouched cap past count old ps → qs ≡ ps ++ count ∷ [] → HasTouched cap past (count + 1) old qs
+touched_more cap past count old ps qs t is = record {
   waiting = λ w q i j. more q (t.waiting w q i j);
   own = λ i. more past.pid (t.own i);
   new_ones = λ q out less. go q out less (count == q) refl;
@@ -122,9 +122,9 @@ below_more count ps qs p below lt is q i = go (in_either ps p q (subst (λ (l : 
     go (inl j) = below q j
     go (inr j) = subst (λ k. k < count) j lt
 
-pub takes_touched : (past : Past) (count : ℕ) (old new : Candidates) (first ps : List ℕ) → HasPlaces count old → new.listed ≡ old.listed → new.unended ≡ old.unended
-    → TakesWaiting past.head old.waiting first new.waiting → HasTouched past count old.waiting ps → AreBelow count ps → TakesTouched past count old ps new
-takes_touched past count old new first ps places listed unended takes touched below = record {
+pub takes_touched : (cap : Option ℕ) (past : Past) (count : ℕ) (old new : Candidates) (first ps : List ℕ) → HasPlaces count old → new.listed ≡ old.listed → new.unended ≡ old.unended
+    → TakesWaiting past.head old.waiting first new.waiting → HasTouched cap past count old.waiting ps → AreBelow count ps → TakesTouched cap past count old ps new
+takes_touched cap past count old new first ps places listed unended takes touched below = record {
   places = record {
     listed = ap length listed ∙ places.listed;
     unended = ap length unended ∙ places.unended;

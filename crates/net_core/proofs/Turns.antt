@@ -1,5 +1,5 @@
 -- Loops over the processes of a network.
-use Rattle.std.proofs.Common.{◌≡◌, ℕ, suc, ◌+◌, ◌<◌, ◌&&◌, Bool, true, false, cond, List, [], ◌∷◌, ◌++◌, length, drop, get_or, refl, sym, ap, ◌∙◌, Option, Some, None, arith, add-one}
+use Rattle.std.proofs.Common.{◌≡◌, ℕ, suc, ◌+◌, ◌<◌, ◌&&◌, Bool, true, false, cond, List, [], ◌∷◌, ◌++◌, length, drop, get_or, refl, sym, ap, ◌∙◌, Option, Some, arith, add-one}
 use Rattle.std.specs.Prelude.{slice_get, if◌then◌else◌}
 use Rattle.std.proofs.lemmas.Option.{slice_get-get_or}
 use Rattle.std.proofs.lemmas.List.{drop_more}
@@ -40,22 +40,22 @@ pub standing_push : (ps : List Process) (p : Process) → standing_all (ps ++ p 
 standing_push [] p = refl
 standing_push (q ∷ ps) p = ap (λ r. standing q.body ∷ r) (standing_push ps p)
 
-pub listed_turn : (e : Endpoints) (n : NetworkState) (i : ℕ) (b : Bool) → i < length n.machines → b ≡ is_listed_at e n i
-    → listed_from e None n i (drop i n.machines) ≡ cond b (i ∷ listed_from e None n (i + 1) (drop (i + 1) n.machines)) (listed_from e None n (i + 1) (drop (i + 1) n.machines))
-listed_turn e n i b lt h =
+pub listed_turn : (e : Endpoints) (cap : Option ℕ) (n : NetworkState) (i : ℕ) (b : Bool) → i < length n.machines → b ≡ is_listed_at e cap n i
+    → listed_from e cap n i (drop i n.machines) ≡ cond b (i ∷ listed_from e cap n (i + 1) (drop (i + 1) n.machines)) (listed_from e cap n (i + 1) (drop (i + 1) n.machines))
+listed_turn e cap n i b lt h =
     let t = turn n.machines i lt in
-    ap (listed_from e None n i) t.rest
-    ∙ ap (λ (a : Bool). cond a (i ∷ listed_from e None n (suc i) (drop (i + 1) n.machines)) (listed_from e None n (suc i) (drop (i + 1) n.machines))) (sym (h ∙ ap (listed_of e n) t.there))
-    ∙ ap (λ (j : ℕ). cond b (i ∷ listed_from e None n j (drop (i + 1) n.machines)) (listed_from e None n j (drop (i + 1) n.machines))) (sym (add-one i))
+    ap (listed_from e cap n i) t.rest
+    ∙ ap (λ (a : Bool). cond a (i ∷ listed_from e cap n (suc i) (drop (i + 1) n.machines)) (listed_from e cap n (suc i) (drop (i + 1) n.machines))) (sym (h ∙ ap (listed_of e cap n) t.there))
+    ∙ ap (λ (j : ℕ). cond b (i ∷ listed_from e cap n j (drop (i + 1) n.machines)) (listed_from e cap n j (drop (i + 1) n.machines))) (sym (add-one i))
 
-pub waiting_turn : (e : Endpoints) (n : NetworkState) (i : ℕ) (b : Bool) → i < length n.machines → b ≡ ended_at e n i
-    → first_waiting_from e None n i (drop i n.machines) ≡ cond b (first_waiting_from e None n (i + 1) (drop (i + 1) n.machines)) (Some (i, why_at e n i))
-waiting_turn e n i b lt h =
+pub waiting_turn : (e : Endpoints) (cap : Option ℕ) (n : NetworkState) (i : ℕ) (b : Bool) → i < length n.machines → b ≡ ended_at e n i
+    → first_waiting_from e cap n i (drop i n.machines) ≡ cond b (first_waiting_from e cap n (i + 1) (drop (i + 1) n.machines)) (Some (i, why_at e cap n i))
+waiting_turn e cap n i b lt h =
     let t = turn n.machines i lt in
-    ap (first_waiting_from e None n i) t.rest
-    ∙ ap (λ (a : Bool). cond a (first_waiting_from e None n (suc i) (drop (i + 1) n.machines)) (Some (i, waits_for e None n t.item))) (sym (h ∙ ap (ended_of e) t.there))
-    ∙ ap (λ (j : ℕ). cond b (first_waiting_from e None n j (drop (i + 1) n.machines)) (Some (i, waits_for e None n t.item))) (sym (add-one i))
-    ∙ ap (λ (w : Option Why). cond b (first_waiting_from e None n (i + 1) (drop (i + 1) n.machines)) (Some (i, w))) (sym (ap (why_of e n) t.there))
+    ap (first_waiting_from e cap n i) t.rest
+    ∙ ap (λ (a : Bool). cond a (first_waiting_from e cap n (suc i) (drop (i + 1) n.machines)) (Some (i, waits_for e cap n t.item))) (sym (h ∙ ap (ended_of e) t.there))
+    ∙ ap (λ (j : ℕ). cond b (first_waiting_from e cap n j (drop (i + 1) n.machines)) (Some (i, waits_for e cap n t.item))) (sym (add-one i))
+    ∙ ap (λ (w : Option Why). cond b (first_waiting_from e cap n (i + 1) (drop (i + 1) n.machines)) (Some (i, w))) (sym (ap (why_of e cap n) t.there))
 
 pub get_next : (x : ℕ) (xs : List ℕ) (i j : ℕ) → i ≡ suc j → slice_get (x ∷ xs) i ≡ slice_get xs j
 get_next x xs i j h = ap (slice_get (x ∷ xs)) h

@@ -34,27 +34,27 @@ pub record HasPlaces (count : ℕ) (c : Candidates) : Type 0 where
 -- ---- what is kept of a process
 
 -- a process that may wait is in the list of what it waits for
-abbrev pub IsKept : Endpoints → NetworkState → WaitingLists → ℕ → Type 0
-IsKept e n lists q = (w : Awaited) → awaited_at e n q ≡ Some w → IsIn (waiting_for lists w) q
+abbrev pub IsKept : Endpoints → Option ℕ → NetworkState → WaitingLists → ℕ → Type 0
+IsKept e cap n lists q = (w : Awaited) → awaited_at e cap n q ≡ Some w → IsIn (waiting_for lists w) q
 
 -- and whether it has ended is known
-pub record IsNoted (e : Endpoints) (n : NetworkState) (c : Candidates) (q : ℕ) : Type 0 where
+pub record IsNoted (e : Endpoints) (cap : Option ℕ) (n : NetworkState) (c : Candidates) (q : ℕ) : Type 0 where
   pub unended : slice_get c.unended q ≡ Some (not (ended_at e n q))
-  pub kept : IsKept e n c.waiting q
+  pub kept : IsKept e cap n c.waiting q
 
 -- whether the pick rule may take it is known
-abbrev pub IsJudged : Endpoints → NetworkState → List Bool → ℕ → Type 0
-IsJudged e n listed q = slice_get listed q ≡ Some (is_listed_at e n q)
+abbrev pub IsJudged : Endpoints → Option ℕ → NetworkState → List Bool → ℕ → Type 0
+IsJudged e cap n listed q = slice_get listed q ≡ Some (is_listed_at e cap n q)
 
 -- What is kept is true of each process
-pub record IsUpToDate (e : Endpoints) (n : NetworkState) (c : Candidates) : Type 0 where
+pub record IsUpToDate (e : Endpoints) (cap : Option ℕ) (n : NetworkState) (c : Candidates) : Type 0 where
   pub places : HasPlaces (length n.machines) c
-  pub noted : (q : ℕ) → q < length n.machines → IsNoted e n c q
-  pub judged : (q : ℕ) → q < length n.machines → IsJudged e n c.listed q
+  pub noted : (q : ℕ) → q < length n.machines → IsNoted e cap n c q
+  pub judged : (q : ℕ) → q < length n.machines → IsJudged e cap n c.listed q
 
 -- each process that may wait is in its list, and no others than processes are in the lists
-pub record ListsAll (e : Endpoints) (n : NetworkState) (lists : WaitingLists) : Type 0 where
-  pub kept : (q : ℕ) → q < length n.machines → IsKept e n lists q
+pub record ListsAll (e : Endpoints) (cap : Option ℕ) (n : NetworkState) (lists : WaitingLists) : Type 0 where
+  pub kept : (q : ℕ) → q < length n.machines → IsKept e cap n lists q
   pub within : AreWithin (length n.machines) lists
 
 -- there are places for so many processes, and what was kept of processes still is
@@ -65,27 +65,27 @@ pub record HasGrownTo (count : ℕ) (old new : Candidates) : Type 0 where
   pub waiting : new.waiting ≡ old.waiting
 
 -- the process joins no channel, and is judged
-pub record IsSettled (e : Endpoints) (n : NetworkState) (listed : List Bool) (q : ℕ) : Type 0 where
-  pub joins_none : (c : NameId) → awaited_at e n q ≡ Some (Channel c) → ⊥
-  pub judged : IsJudged e n listed q
+pub record IsSettled (e : Endpoints) (cap : Option ℕ) (n : NetworkState) (listed : List Bool) (q : ℕ) : Type 0 where
+  pub joins_none : (c : NameId) → awaited_at e cap n q ≡ Some (Channel c) → ⊥
+  pub judged : IsJudged e cap n listed q
 
 -- these processes are noted anew, and judged if none of them joins
-pub record Enters (e : Endpoints) (n : NetworkState) (old : Candidates) (ps : List ℕ) (joins : Bool) (new : Candidates) : Type 0 where
+pub record Enters (e : Endpoints) (cap : Option ℕ) (n : NetworkState) (old : Candidates) (ps : List ℕ) (joins : Bool) (new : Candidates) : Type 0 where
   pub places : HasPlaces (length n.machines) new
-  pub stays : (q : ℕ) → IsNoted e n old q → IsNoted e n new q
-  pub entered : (q : ℕ) → IsIn ps q → IsNoted e n new q
-  pub still : (q : ℕ) → IsJudged e n old.listed q → IsJudged e n new.listed q
-  pub settled : joins ≡ false → (q : ℕ) → IsIn ps q → IsSettled e n new.listed q
+  pub stays : (q : ℕ) → IsNoted e cap n old q → IsNoted e cap n new q
+  pub entered : (q : ℕ) → IsIn ps q → IsNoted e cap n new q
+  pub still : (q : ℕ) → IsJudged e cap n old.listed q → IsJudged e cap n new.listed q
+  pub settled : joins ≡ false → (q : ℕ) → IsIn ps q → IsSettled e cap n new.listed q
 
 -- these processes are judged anew
-pub record Judges (e : Endpoints) (n : NetworkState) (old : List Bool) (ps : List ℕ) (new : List Bool) : Type 0 where
+pub record Judges (e : Endpoints) (cap : Option ℕ) (n : NetworkState) (old : List Bool) (ps : List ℕ) (new : List Bool) : Type 0 where
   pub count : length new ≡ length old
-  pub stays : (q : ℕ) → IsJudged e n old q → IsJudged e n new q
-  pub judged : (q : ℕ) → IsIn ps q → IsJudged e n new q
+  pub stays : (q : ℕ) → IsJudged e cap n old q → IsJudged e cap n new q
+  pub judged : (q : ℕ) → IsIn ps q → IsJudged e cap n new q
 
 -- all who join a channel are among these
-abbrev pub AreJoiners : Endpoints → NetworkState → NameId → List ℕ → Type 0
-AreJoiners e n c ps = (q : ℕ) → q < length n.machines → awaited_at e n q ≡ Some (Channel c) → IsIn ps q
+abbrev pub AreJoiners : Endpoints → Option ℕ → NetworkState → NameId → List ℕ → Type 0
+AreJoiners e cap n c ps = (q : ℕ) → q < length n.machines → awaited_at e cap n q ≡ Some (Channel c) → IsIn ps q
 
 -- the channel that a process joins at a head
 abbrev pub joined_by : Head → Option NameId
@@ -96,9 +96,9 @@ joined_by head.Local = None
 joined_by head.Ended = None
 
 -- so are all who join a channel that one of these processes joins, other than this one
-pub record Renews (e : Endpoints) (n : NetworkState) (done : Option NameId) (old : List Bool) (ps : List ℕ) (new : List Bool) : Type 0 where
-  pub judges : Judges e n old ps new
-  pub came : (p : ℕ) (c : NameId) → IsIn ps p → awaited_at e n p ≡ Some (Channel c) → (done ≡ Some c → ⊥) → (q : ℕ) → q < length n.machines → awaited_at e n q ≡ Some (Channel c) → IsJudged e n new q
+pub record Renews (e : Endpoints) (cap : Option ℕ) (n : NetworkState) (done : Option NameId) (old : List Bool) (ps : List ℕ) (new : List Bool) : Type 0 where
+  pub judges : Judges e cap n old ps new
+  pub came : (p : ℕ) (c : NameId) → IsIn ps p → awaited_at e cap n p ≡ Some (Channel c) → (done ≡ Some c → ⊥) → (q : ℕ) → q < length n.machines → awaited_at e cap n q ≡ Some (Channel c) → IsJudged e cap n new q
 
 -- ---- after an event
 
@@ -110,26 +110,26 @@ pub record TakesWaiting (h : Head) (old : WaitingLists) (ps : List ℕ) (new : W
   pub others : (w : Awaited) → (touched_by h ≡ Some w → ⊥) → waiting_for new w ≡ waiting_for old w
 
 -- among these are the processes that an event may have moved, of new ones those below a number, and all that may wait for what it has changed
-pub record HasTouched (past : Past) (count : ℕ) (old : WaitingLists) (ps : List ℕ) : Type 0 where
+pub record HasTouched (cap : Option ℕ) (past : Past) (count : ℕ) (old : WaitingLists) (ps : List ℕ) : Type 0 where
   pub waiting : (w : Awaited) (q : ℕ) → touched_by past.head ≡ Some w → IsIn (waiting_for old w) q → IsIn ps q
-  pub own : awaited_by past.head ≡ None → IsIn ps past.pid
+  pub own : awaited_by cap past.head ≡ None → IsIn ps past.pid
   pub new_ones : (q : ℕ) → (q < past.count → ⊥) → q < count → IsIn ps q
 
 -- such processes are taken out of the lists
-pub record TakesTouched (past : Past) (count : ℕ) (old : Candidates) (ps : List ℕ) (new : Candidates) : Type 0 where
+pub record TakesTouched (cap : Option ℕ) (past : Past) (count : ℕ) (old : Candidates) (ps : List ℕ) (new : Candidates) : Type 0 where
   pub places : HasPlaces count new
   pub listed : new.listed ≡ old.listed
   pub unended : new.unended ≡ old.unended
   pub below : AreBelow count ps
-  pub touched : HasTouched past count old.waiting ps
+  pub touched : HasTouched cap past count old.waiting ps
   pub others : (w : Awaited) → (touched_by past.head ≡ Some w → ⊥) → waiting_for new.waiting w ≡ waiting_for old.waiting w
 
 -- the event of a process has led here from a state of which what is kept was true
-pub record HasMoved (e : Endpoints) (m : NetworkState) (past : Past) (c : Candidates) : Type 0 where
+pub record HasMoved (e : Endpoints) (cap : Option ℕ) (m : NetworkState) (past : Past) (c : Candidates) : Type 0 where
   pub before : NetworkState
   pub count : length before.machines ≡ past.count
   pub more : past.count ≤ length m.machines
   pub there : past.pid < past.count
   pub at : IsAt e before past.pid past.head
-  pub left : LeavesOthers e before past.pid past.head m
-  pub right : IsUpToDate e before c
+  pub left : LeavesOthers e cap before past.pid past.head m
+  pub right : IsUpToDate e cap before c

@@ -13,22 +13,22 @@ use Rattle.net_core.specs.declared.answer.Followed.TheVariants.{Did, Unmatched, 
 use Rattle.net_core.specs.Steps.{HasGrown}
 use Rattle.net_core.specs.Views.{NetworkView, Becomes, IsSame}
 
--- the event is a step of the network from here
-abbrev pub IsStep : Endpoints → Hosts → NetworkState → Event → Type 0
-IsStep e hosts n x = (m : NetworkState) × NetworkSteps e hosts None n x m
+-- the event is a step of the network from here, where queues have a capacity
+abbrev pub IsStep : Endpoints → Hosts → Option ℕ → NetworkState → Event → Type 0
+IsStep e hosts cap n x = (m : NetworkState) × NetworkSteps e hosts cap n x m
 
 -- the event has been made, and is now the last
 pub record HasFollowed (hosts : Hosts) (old : NetworkView) (x : Event) (new : NetworkView) : Type 0 where
   pub state : NetworkState
   pub becomes : Becomes old new x state
-  pub steps : NetworkSteps old.endpoints hosts None old.state x state
+  pub steps : NetworkSteps old.endpoints hosts old.capacity old.state x state
 
 -- What following an event answers: it has been made; or it is no step from here; or it is one, and there was no memory.
 -- Other answers than Did change no more than room
 abbrev pub Follows : Hosts → NetworkView → Event → Followed → NetworkView → Type 0
 Follows hosts old x Did new = HasFollowed hosts old x new × HasGrown old new
-Follows hosts old x Unmatched new = (IsStep old.endpoints hosts old.state x → ⊥) × IsSame old new
-Follows hosts old x Memory new = IsStep old.endpoints hosts old.state x × IsSame old new
+Follows hosts old x Unmatched new = (IsStep old.endpoints hosts old.capacity old.state x → ⊥) × IsSame old new
+Follows hosts old x Memory new = IsStep old.endpoints hosts old.capacity old.state x × IsSame old new
 
 -- ---- the event of one process
 
@@ -42,12 +42,12 @@ maker_of (event.Set p x v) = Some p
 maker_of (event.Show p v) = Some p
 maker_of (event.Host p x f a b v) = Some p
 
--- process p can make the event by itself
-pub record MayMake (e : Endpoints) (hosts : Hosts) (n : NetworkState) (p : ℕ) (x : Event) : Type 0 where
+-- process p can make the event by itself, where queues have a capacity
+pub record MayMake (e : Endpoints) (hosts : Hosts) (cap : Option ℕ) (n : NetworkState) (p : ℕ) (x : Event) : Type 0 where
   pub answer : ℤ
   pub after : NetworkState
   pub allowed : MachineAnswers hosts e (slice_get n.machines p) answer
-  pub made : makes e None n p answer ≡ Some (Makes x after)
+  pub made : makes e cap n p answer ≡ Some (Makes x after)
 
 -- ---- a start
 

@@ -1,10 +1,11 @@
 -- Where the processes of a network stand.
-use Rattle.std.specs.Prelude.{ℕ, ◌≡◌, ◌<◌, ◌==◌, ◌&&◌, length, Bool, true, false, Option, Some, None, slice_get}
+use Rattle.std.specs.Prelude.{ℕ, ◌≡◌, ◌<◌, ◌==◌, ◌&&◌, length, Bool, true, false, Option, Some, None, slice_get, if◌then◌else◌}
 use Rattle.chor_base.specs.declared.names.NameId.{NameId}
 use Rattle.chor_base.specs.declared.event.Why.{Why}
+use Rattle.chor_base.specs.declared.event.Why.TheVariants.{Full}
 use Rattle.endpoint_code.specs.declared.code.CodeNode.{CodeNode}
 use Rattle.endpoint_code.specs.declared.endpoints.Endpoints.{Endpoints}
-use Rattle.endpoint_code.specs.Network.{Machine, NetworkState, Sessions, Place, place_at, channel_of}
+use Rattle.endpoint_code.specs.Network.{Machine, NetworkState, Sessions, Place, place_at, channel_of, queue_of, has_room}
 use Rattle.endpoint_code.specs.NetworkRuns.{has_ended, waits_for, can_step, joins_there, absent_on}
 use Rattle.endpoint_code.specs.Scheduled.{is_listed, listed_at, first_role}
 use Rattle.endpoint_machine.specs.declared.head.Head.{Head}
@@ -34,29 +35,29 @@ ended_of e (Some m) = has_ended e m
 abbrev pub ended_at : Endpoints → NetworkState → ℕ → Bool
 ended_at e n p = ended_of e (slice_get n.machines p)
 
-abbrev pub why_of : Endpoints → NetworkState → Option Machine → Option Why
-why_of e n None = None
-why_of e n (Some m) = waits_for e None n m
+abbrev pub why_of : Endpoints → Option ℕ → NetworkState → Option Machine → Option Why
+why_of e cap n None = None
+why_of e cap n (Some m) = waits_for e cap n m
 
--- why a process waits
-abbrev pub why_at : Endpoints → NetworkState → ℕ → Option Why
-why_at e n p = why_of e n (slice_get n.machines p)
+-- why a process waits, where queues have a capacity
+abbrev pub why_at : Endpoints → Option ℕ → NetworkState → ℕ → Option Why
+why_at e cap n p = why_of e cap n (slice_get n.machines p)
 
-abbrev pub steps_of : Endpoints → NetworkState → Option Machine → Bool
-steps_of e n None = false
-steps_of e n (Some m) = can_step e None n m
+abbrev pub steps_of : Endpoints → Option ℕ → NetworkState → Option Machine → Bool
+steps_of e cap n None = false
+steps_of e cap n (Some m) = can_step e cap n m
 
--- a process can step
-abbrev pub steps_at : Endpoints → NetworkState → ℕ → Bool
-steps_at e n p = steps_of e n (slice_get n.machines p)
+-- a process can step, where queues have a capacity
+abbrev pub steps_at : Endpoints → Option ℕ → NetworkState → ℕ → Bool
+steps_at e cap n p = steps_of e cap n (slice_get n.machines p)
 
-abbrev pub listed_of : Endpoints → NetworkState → Option Machine → Bool
-listed_of e n None = false
-listed_of e n (Some m) = is_listed e None n m
+abbrev pub listed_of : Endpoints → Option ℕ → NetworkState → Option Machine → Bool
+listed_of e cap n None = false
+listed_of e cap n (Some m) = is_listed e cap n m
 
--- a process is one of those from which the pick rule takes
-abbrev pub is_listed_at : Endpoints → NetworkState → ℕ → Bool
-is_listed_at e n p = listed_of e n (slice_get n.machines p)
+-- a process is one of those from which the pick rule takes, where queues have a capacity
+abbrev pub is_listed_at : Endpoints → Option ℕ → NetworkState → ℕ → Bool
+is_listed_at e cap n p = listed_of e cap n (slice_get n.machines p)
 
 -- a process stands where it joins channel c in role r
 abbrev pub joins_in : Endpoints → NetworkState → ℕ → NameId → NameId → Bool
@@ -96,10 +97,11 @@ abbrev pub leads_as : Endpoints → Head → Bool
 leads_as e (head.Join c r) = first_role (channel_of e.channels c) r
 leads_as e _ = true
 
--- why a process waits that doesn't take
-abbrev pub why_by : Endpoints → NetworkState → Head → Option Why
-why_by e n (head.Join c r) = absent_on e n.machines c r (channel_of e.channels c)
-why_by e n _ = None
+-- why a process waits that doesn't take, where queues have a capacity
+abbrev pub why_by : Endpoints → Option ℕ → NetworkState → Head → Option Why
+why_by e cap n (head.Join c r) = absent_on e n.machines c r (channel_of e.channels c)
+why_by e cap n (head.Out s a b) = if has_room cap (queue_of n (s, a, b)) then None else Some (Full s a b)
+why_by e cap n _ = None
 
 -- this is the next action of the process, with what it tells
 pub record Shows (e : Endpoints) (n : NetworkState) (p : ℕ) (h : Head) : Type 0 where
@@ -110,4 +112,4 @@ pub record Shows (e : Endpoints) (n : NetworkState) (p : ℕ) (h : Head) : Type 
   pub joins : (c r : NameId) → joins_in e n p c r ≡ joins_as h c r
   pub leads : leads_at e n p ≡ leads_as e h
   pub joining : joins_at_all e n p ≡ is_joining_head h
-  pub waits : is_taking h ≡ false → why_at e n p ≡ why_by e n h
+  pub waits : (cap : Option ℕ) → is_taking h ≡ false → why_at e cap n p ≡ why_by e cap n h

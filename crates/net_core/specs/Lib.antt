@@ -1,5 +1,3 @@
-pub mod Lanes
-pub mod Indexed
 pub mod Machines
 pub mod Views
 pub mod Heads

@@ -11,7 +11,7 @@ use Rattle.endpoint_machine.specs.declared.head.Head.{Head}
 use Rattle.endpoint_machine.specs.declared.head.Head.TheVariants as head
 use Rattle.endpoint_machine.specs.Acts.{taking_of}
 use Rattle.endpoint_machine.specs.Views.{MachineView}
-use Rattle.net_core.specs.Lanes.{QueuesView, loads_in, room_on}
+use Rattle.post_office.specs.Lanes.{QueuesView, loads_in, room_on}
 
 -- ---- room
 
@@ -30,11 +30,11 @@ is_join _ = false
 abbrev pub with_process : NetworkState → ℕ → MachineView → QueuesView → NetworkState
 with_process n p m q = record n { machines = slice_set n.machines p m.machine; queues = loads_in q.lanes }
 
--- a process makes this event where a host function answers v, in each network with these queues
+-- a process makes this event where a host function answers v, in each network with these queues, where they have no capacity
 abbrev pub MovesWith : Endpoints → ℤ → QueuesView → MachineView → Event → QueuesView → MachineView → Type 0
 MovesWith e v q m x r k = (n : NetworkState) → n.queues ≡ loads_in q.lanes → machine_makes e None n m.number v (Some m.machine) ≡ Some (Makes x (with_process n m.number k r))
 
--- a process makes this event by an answer that it may get, in each network with these queues
+-- a process makes this event by an answer that it may get, in each network with these queues, where they have no capacity
 pub record ActsWith (e : Endpoints) (hosts : Hosts) (q : QueuesView) (m : MachineView) (x : Event) (r : QueuesView) (k : MachineView) : Type 0 where
   pub answer : ℤ
   pub allowed : MachineAnswers hosts e (Some m.machine) answer

@@ -16,39 +16,41 @@ use Rattle.net_core.specs.Views.{NetworkView, IsSame}
 use Rattle.net_core.specs.Steps.{HasStepped, HasGrown, HasGrownBy, FitsMore}
 
 -- a process with the cause by which it waits
-abbrev pub waiting_at : Endpoints → NetworkState → Option ℕ → Option (ℕ × Option Why)
-waiting_at e n None = None
-waiting_at e n (Some p) = Some (p, why_at e n p)
+abbrev pub waiting_at : Endpoints → Option ℕ → NetworkState → Option ℕ → Option (ℕ × Option Why)
+waiting_at e cap n None = None
+waiting_at e cap n (Some p) = Some (p, why_at e cap n p)
 
 -- events as entries of a history without workers
 abbrev pub entries_of : List Event → List Entry
 entries_of xs = map (λ x. record { worker = 0; event = x }) xs
 
 -- From a state after so many events, these events follow by the pick rule and lead to a state, whether or not the run is closed there
-pub data GoesOn (e : Endpoints) (hosts : Hosts) (seed steps : ℕ) : NetworkState → ℕ → List Event → NetworkState → Type 0 where
-  stays : {n : NetworkState} {events : ℕ} → GoesOn e hosts seed steps n events [] n
+pub data GoesOn (e : Endpoints) (hosts : Hosts) (cap : Option ℕ) (seed steps : ℕ) : NetworkState → ℕ → List Event → NetworkState → Type 0 where
+  stays : {n : NetworkState} {events : ℕ} → GoesOn e hosts cap seed steps n events [] n
   goes : {n m last : NetworkState} {events p : ℕ} {x : Event} {xs : List Event}
       → all_ended e n.machines ≡ false
       → events ≢ steps
-      → picked e None seed events n ≡ Some p
-      → Chooses e hosts None n p x m
-      → GoesOn e hosts seed steps m (suc events) xs last
-      → GoesOn e hosts seed steps n events (x ∷ xs) last
+      → picked e cap seed events n ≡ Some p
+      → Chooses e hosts cap n p x m
+      → GoesOn e hosts cap seed steps m (suc events) xs last
+      → GoesOn e hosts cap seed steps n events (x ∷ xs) last
 
 -- the history has grown by the scheduled run that is closed like this
 pub record HasRun (hosts : Hosts) (seed steps : ℕ) (old new : NetworkView) (c : Close) : Type 0 where
   pub events : List Event
   pub endpoints : new.endpoints ≡ old.endpoints
+  pub capacity : new.capacity ≡ old.capacity
   pub history : new.history ≡ old.history ++ entries_of events
-  pub run : IsScheduled old.endpoints hosts None seed steps old.state (length old.history) events new.state c
+  pub run : IsScheduled old.endpoints hosts old.capacity seed steps old.state (length old.history) events new.state c
   pub grown : HasGrownBy (length events) old new
 
 -- the history has grown by events of the scheduled run
 pub record HasGone (hosts : Hosts) (seed steps : ℕ) (old new : NetworkView) : Type 0 where
   pub events : List Event
   pub endpoints : new.endpoints ≡ old.endpoints
+  pub capacity : new.capacity ≡ old.capacity
   pub history : new.history ≡ old.history ++ entries_of events
-  pub run : GoesOn old.endpoints hosts seed steps old.state (length old.history) events new.state
+  pub run : GoesOn old.endpoints hosts old.capacity seed steps old.state (length old.history) events new.state
   pub grown : HasGrownBy (length events) old new
 
 -- What a scheduled run answers. Where there was no memory the events made so far stand
@@ -76,14 +78,14 @@ pub record HasTurned (hosts : Hosts) (seed steps : ℕ) (old new : NetworkView) 
   pub process : ℕ
   pub open_still : all_ended old.endpoints old.state.machines ≡ false
   pub before : length old.history ≢ steps
-  pub pick : picked old.endpoints None seed (length old.history) old.state ≡ Some process
+  pub pick : picked old.endpoints old.capacity seed (length old.history) old.state ≡ Some process
   pub step : HasStepped hosts old process new
   pub grown : HasGrown old new
 
 -- the run is closed, and nothing has changed but room
 pub record HasClosed (steps : ℕ) (old new : NetworkView) (c : Close) : Type 0 where
   pub same : IsSame old new
-  pub closes : Closes old.endpoints None steps old.state (length old.history) c
+  pub closes : Closes old.endpoints old.capacity steps old.state (length old.history) c
 
 -- What one turn of a scheduled run answers. Where there was no memory, there may be one event more
 abbrev pub Turns : Hosts → ℕ → ℕ → NetworkView → Option Picked → NetworkView → Type 0
@@ -94,6 +96,6 @@ Turns hosts seed steps old (Some (Stuck p why)) new = HasClosed steps old new (c
 Turns hosts seed steps old (Some Memory) new = IsSame old new ⊎ HasTurned hosts seed steps old new
 
 -- the first process that hasn't ended waits for this cause
-abbrev pub IsStuck : Endpoints → NetworkState → Picked → Type 0
-IsStuck e n (Stuck p why) = first_waiting e None n ≡ Some (p, Some why)
-IsStuck e n _ = ⊥
+abbrev pub IsStuck : Endpoints → Option ℕ → NetworkState → Picked → Type 0
+IsStuck e cap n (Stuck p why) = first_waiting e cap n ≡ Some (p, Some why)
+IsStuck e cap n _ = ⊥

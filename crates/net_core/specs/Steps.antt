@@ -1,5 +1,5 @@
 -- What a step of a network answers.
-use Rattle.std.specs.Prelude.{ℕ, suc, ◌≡◌, ◌+◌, ◌*◌, ◌^◌, ◌<◌, ◌≤◌, ◌++◌, max, true, List, [], ◌∷◌, length, Some, None}
+use Rattle.std.specs.Prelude.{ℕ, suc, ◌≡◌, ◌+◌, ◌*◌, ◌^◌, ◌<◌, ◌≤◌, ◌++◌, max, true, List, [], ◌∷◌, length, Some}
 use Rattle.chor_base.specs.declared.names.NameId.{NameId}
 use Rattle.chor_base.specs.declared.event.Event.{Event}
 use Rattle.chor_base.specs.declared.event.Event.TheVariants as event
@@ -18,7 +18,7 @@ pub record HasStepped (hosts : Hosts) (old : NetworkView) (p : ℕ) (new : Netwo
   pub event : Event
   pub state : NetworkState
   pub becomes : Becomes old new event state
-  pub chooses : Chooses old.endpoints hosts None old.state p event state
+  pub chooses : Chooses old.endpoints hosts old.capacity old.state p event state
 
 -- a session has started on a channel with these parts, and with new processes for the service roles
 pub record HasBegun (old : NetworkView) (k : Channel) (parts : List (NameId × ℕ)) (new : NetworkView) : Type 0 where
@@ -53,7 +53,7 @@ pub record FitsMore (v : NetworkView) (events : ℕ) : Type 0 where
 -- What a step of a process answers: it did one event; or it waits for this cause; or it has ended; or there was no memory,
 -- which never comes where there is room for its event and it doesn't join. Other answers than Did change no more than room
 abbrev pub Answers : Hosts → NetworkView → ℕ → Step → NetworkView → Type 0
-Answers hosts old p Did new = (steps_at old.endpoints old.state p ≡ true) × HasStepped hosts old p new × HasGrown old new
-Answers hosts old p (Waits why) new = (why_at old.endpoints old.state p ≡ Some why) × IsSame old new
+Answers hosts old p Did new = (steps_at old.endpoints old.capacity old.state p ≡ true) × HasStepped hosts old p new × HasGrown old new
+Answers hosts old p (Waits why) new = (why_at old.endpoints old.capacity old.state p ≡ Some why) × IsSame old new
 Answers hosts old p Ended new = (ended_at old.endpoints old.state p ≡ true) × IsSame old new
-Answers hosts old p Memory new = (steps_at old.endpoints old.state p ≡ true) × (IsReserved old p → joins_at_all old.endpoints old.state p ≡ true) × IsSame old new
+Answers hosts old p Memory new = (steps_at old.endpoints old.capacity old.state p ≡ true) × (IsReserved old p → joins_at_all old.endpoints old.state p ≡ true) × IsSame old new

@@ -1,5 +1,6 @@
 -- What contracts see of a network.
-use Rattle.std.specs.Prelude.{ℕ, ◌≡◌, ◌<◌, ◌^◌, Bool, true, ◌&&◌, List, [], ◌∷◌, ◌++◌, length, map, Some, slice_get, nat_lt, All}
+use Rattle.std.specs.Prelude.{ℕ, ◌≡◌, ◌<◌, ◌^◌, Bool, true, ◌&&◌, List, [], ◌∷◌, ◌++◌, length, map, Option, Some, slice_get, nat_lt, All, ◌-◌, vec_capacity, vec_len, Vec}
+use Rattle.std.specs.declared.alloc.Global.{Global}
 use Rattle.chor_base.specs.declared.event.Event.{Event}
 use Rattle.chor_base.specs.declared.event.Entry.{Entry}
 use Rattle.endpoint_code.specs.declared.endpoints.Endpoints.{Endpoints}
@@ -8,13 +9,15 @@ use Rattle.endpoint_code.specs.Faults.{IsFaultless}
 use Rattle.endpoint_machine.specs.Bound.{IsBound}
 use Rattle.endpoint_machine.specs.Heads.{head_of}
 use Rattle.endpoint_machine.specs.Views.{MachineView}
-use Rattle.net_core.specs.Lanes.{QueuesView, loads_in}
+use Rattle.post_office.specs.Lanes.{QueuesView, loads_in}
 use Rattle.session_starts.specs.Machines.{standing_of, is_reserved, AreCounted}
 use Rattle.net_core.specs.Machines.{has_queue_room}
 
--- the programs, the state, the events so far, and for each process whether there is room for its next event
+-- the programs, the capacity of each queue, the state, the events so far, and for each process whether there is room for its
+-- next event
 pub record NetworkView : Type 0 where
   pub endpoints : Endpoints
+  pub capacity : Option ℕ
   pub state : NetworkState
   pub history : List Entry
   pub reserved : List Bool
@@ -26,12 +29,14 @@ IsReserved v p = slice_get v.reserved p ≡ Some true
 -- nothing has changed but the reserved room
 pub record IsSame (old new : NetworkView) : Type 0 where
   pub endpoints : new.endpoints ≡ old.endpoints
+  pub capacity : new.capacity ≡ old.capacity
   pub state : new.state ≡ old.state
   pub history : new.history ≡ old.history
 
 -- the network has come to a state by one event, which is now the last
 pub record Becomes (old new : NetworkView) (x : Event) (n : NetworkState) : Type 0 where
   pub endpoints : new.endpoints ≡ old.endpoints
+  pub capacity : new.capacity ≡ old.capacity
   pub state : new.state ≡ n
   pub history : new.history ≡ old.history ++ record { worker = 0; event = x } ∷ []
 
@@ -43,6 +48,11 @@ state_of ms q sid = record { machines = map standing_of ms; queues = loads_in q.
 -- a process has room for its next event, where so many entries more fit the history
 abbrev pub has_room : Endpoints → ℕ → QueuesView → MachineView → Bool
 has_room e entries q m = nat_lt 0 entries && (is_reserved e m && has_queue_room q (head_of e m.machine))
+
+-- what contracts see of a network with these fields
+abbrev pub network_of : Endpoints → Option ℕ → List MachineView → QueuesView → ℕ → Vec Entry Global → NetworkView
+network_of e cap ms q sid history =
+    record { endpoints = e; capacity = cap; state = state_of ms q sid; history = history.items; reserved = map (has_room e (vec_capacity history - vec_len history) q) ms }
 
 -- the programs are without fault, there are fewer than 2^32 processes, each knows its sessions and its number
 pub record IsSound (e : Endpoints) (machines : List MachineView) : Type 0 where

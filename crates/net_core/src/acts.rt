@@ -9,15 +9,15 @@ ghost use Rattle.endpoint_code.specs.Network.{loads_for};
 ghost use Rattle.endpoint_machine.specs.declared.head.Head.TheVariants as head;
 ghost use Rattle.endpoint_machine.specs.Bound.{IsBound};
 ghost use Rattle.endpoint_machine.specs.Heads.{head_of};
-ghost use Rattle.net_core.specs.Lanes.{loads_in, room_on};
+ghost use Rattle.post_office.specs.Lanes.{loads_in, room_on};
 ghost use Rattle.session_starts.specs.Machines.{is_reserved};
 ghost use Rattle.net_core.specs.Machines.{has_queue_room, fits_first, can_act, ActsWith, MovesWith};
 
-use crate::queues::Queues;
 use chor_base::{Event, Memory, NameId};
 use chor_host::HostTable;
 use endpoint_code::Endpoints;
 use endpoint_machine::{Head, Machine};
+use post_office::Queues;
 
 /// Takes memory for what a process with this head does, if it doesn't join.
 pub fn reserve(

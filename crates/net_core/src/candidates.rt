@@ -1,6 +1,6 @@
 //! Which processes the pick rule may take, kept from event to event.
 
-ghost use Rattle.std.specs.Prelude.{◌≡◌, ℕ, ◌<◌, ◌≤◌, ◌^◌, length, None, false, IfOk, OnOk, ◌∷◌, []};
+ghost use Rattle.std.specs.Prelude.{◌≡◌, ℕ, ◌<◌, ◌≤◌, ◌^◌, length, Option, false, IfOk, OnOk, ◌∷◌, []};
 ghost use Rattle.endpoint_code.specs.declared.endpoints.Endpoints.{Endpoints as AnyEndpoints};
 ghost use Rattle.endpoint_code.specs.Network.{NetworkState};
 ghost use Rattle.endpoint_code.specs.NetworkRuns.{all_ended};
@@ -49,7 +49,7 @@ pub struct Candidates {
 impl Candidates {
     /// The candidates of a network.
     pub fn new(alloc: Global, network: &Network<'_>) -> Result<Self, Memory>
-        ensures { IfOk result (IsUpToDate network.now.endpoints network.now.state) }
+        ensures { IfOk result (IsUpToDate network.now.endpoints network.now.capacity network.now.state) }
     {
         let mut candidates = Candidates {
             listed: CountedBits::new(alloc),
@@ -64,7 +64,7 @@ impl Candidates {
 
     /// Whether every process has ended.
     pub fn have_ended(&self) -> bool
-        ensures { (e : AnyEndpoints) (n : NetworkState) → IsUpToDate e n self.now → result ≡ all_ended e n.machines }
+        ensures { (e : AnyEndpoints) (cap : Option ℕ) (n : NetworkState) → IsUpToDate e cap n self.now → result ≡ all_ended e n.machines }
     {
         self.unended.count() == 0
     }
@@ -74,7 +74,7 @@ impl Candidates {
         requires small { seed < 2 ^ 33 }
         requires few { events < 2 ^ 63 }
         ensures stays { self.new ≡ self.old }
-        ensures picks { (e : AnyEndpoints) (n : NetworkState) → IsUpToDate e n self.old → result ≡ picked e None seed events n }
+        ensures picks { (e : AnyEndpoints) (cap : Option ℕ) (n : NetworkState) → IsUpToDate e cap n self.old → result ≡ picked e cap seed events n }
     {
         let count = u64::from(self.listed.count());
         if count == 0 {
@@ -85,11 +85,11 @@ impl Candidates {
 
     /// What has become of the processes by an event of one of them.
     pub fn follow(&mut self, network: &Network<'_>, past: Past) -> Result<(), Memory>
-        requires { HasMoved network.now.endpoints network.now.state past self.old }
-        ensures { OnOk result (IsUpToDate network.now.endpoints network.now.state self.new) }
+        requires { HasMoved network.now.endpoints network.now.capacity network.now.state past self.old }
+        ensures { OnOk result (IsUpToDate network.now.endpoints network.now.capacity network.now.state self.new) }
     {
         self.grow(network.count())?;
-        let pids = self.take_touched(network.count(), past)?;
+        let pids = self.take_touched(network.capacity(), network.count(), past)?;
         let joins = self.enter_all(network, pids.as_slice())?;
         let done = joined_by(past.head);
         self.renew_entered(network, pids.as_slice(), done, joins);
@@ -99,14 +99,19 @@ impl Candidates {
 
     // Takes out of the lists the processes that an event may have moved, and those that may wait
     // for what it has changed.
-    fn take_touched(&mut self, count: u32, past: Past) -> Result<Vec<u32>, Memory>
+    fn take_touched(
+        &mut self,
+        capacity: Option<u32>,
+        count: u32,
+        past: Past,
+    ) -> Result<Vec<u32>, Memory>
         requires places { HasPlaces count self.old }
         requires there { past.pid < past.count }
         requires kept { past.count ≤ count }
-        ensures { IfOk result (λ pids. TakesTouched past count self.old pids.items self.new) }
+        ensures { IfOk result (λ pids. TakesTouched capacity past count self.old pids.items self.new) }
     {
         let mut pids = self.take_waiting(past.head);
-        if awaited_by(past.head).is_none() {
+        if awaited_by(capacity, past.head).is_none() {
             pids.push(past.pid)?;
         }
         for pid in past.count..count {
@@ -145,12 +150,12 @@ impl Candidates {
     fn enter(&mut self, network: &Network<'_>, pid: u32) -> Result<bool, Memory>
         requires there { pid < length network.now.state.machines }
         requires places { HasPlaces (length network.now.state.machines) self.old }
-        ensures { IfOk result (λ joins. Enters network.now.endpoints network.now.state self.old (pid ∷ []) joins self.new) }
+        ensures { IfOk result (λ joins. Enters network.now.endpoints network.now.capacity network.now.state self.old (pid ∷ []) joins self.new) }
     {
         let head = network.head(pid);
         self.unended.set(pid, !has_ended(head));
         let joins = settle(&mut self.listed, network, pid, head);
-        match awaited_by(head) {
+        match awaited_by(network.capacity(), head) {
             Some(awaited) => {
                 self.waiting.add(awaited, pid)?;
                 Ok(joins)
@@ -163,7 +168,7 @@ impl Candidates {
     fn enter_all(&mut self, network: &Network<'_>, pids: &[u32]) -> Result<bool, Memory>
         requires there { AreBelow (length network.now.state.machines) pids.now }
         requires places { HasPlaces (length network.now.state.machines) self.old }
-        ensures { IfOk result (λ joins. Enters network.now.endpoints network.now.state self.old pids.now joins self.new) }
+        ensures { IfOk result (λ joins. Enters network.now.endpoints network.now.capacity network.now.state self.old pids.now joins self.new) }
     {
         let mut joins = false;
         for pid in pids {
@@ -184,11 +189,11 @@ impl Candidates {
     )
         requires there { AreBelow (length network.now.state.machines) pids.now }
         requires places { length self.old.listed ≡ length network.now.state.machines }
-        requires lists { ListsAll network.now.endpoints network.now.state self.old.waiting }
-        requires settled { joins ≡ false → (q : ℕ) → IsIn pids.now q → IsSettled network.now.endpoints network.now.state self.old.listed q }
+        requires lists { ListsAll network.now.endpoints network.now.capacity network.now.state self.old.waiting }
+        requires settled { joins ≡ false → (q : ℕ) → IsIn pids.now q → IsSettled network.now.endpoints network.now.capacity network.now.state self.old.listed q }
         ensures unended { self.new.unended ≡ self.old.unended }
         ensures waiting { self.new.waiting ≡ self.old.waiting }
-        ensures renews { Renews network.now.endpoints network.now.state done self.old.listed pids.now self.new.listed }
+        ensures renews { Renews network.now.endpoints network.now.capacity network.now.state done self.old.listed pids.now self.new.listed }
     {
         if !joins {
             return;
@@ -200,7 +205,7 @@ impl Candidates {
     fn enter_each(&mut self, network: &Network<'_>) -> Result<(), Memory>
         requires { HasPlaces (length network.now.state.machines) self.old }
         ensures places { OnOk result (HasPlaces (length network.now.state.machines) self.new) }
-        ensures noted { OnOk result ((q : ℕ) → q < length network.now.state.machines → IsNoted network.now.endpoints network.now.state self.new q) }
+        ensures noted { OnOk result ((q : ℕ) → q < length network.now.state.machines → IsNoted network.now.endpoints network.now.capacity network.now.state self.new q) }
     {
         for pid in 0..network.count() {
             self.enter(network, pid)?;
@@ -211,11 +216,11 @@ impl Candidates {
     // Judges anew whether the pick rule may take each process.
     fn judge_each(&mut self, network: &Network<'_>)
         requires places { HasPlaces (length network.now.state.machines) self.old }
-        requires lists { ListsAll network.now.endpoints network.now.state self.old.waiting }
+        requires lists { ListsAll network.now.endpoints network.now.capacity network.now.state self.old.waiting }
         ensures unended { self.new.unended ≡ self.old.unended }
         ensures waiting { self.new.waiting ≡ self.old.waiting }
         ensures count { length self.new.listed ≡ length self.old.listed }
-        ensures judged { (q : ℕ) → q < length network.now.state.machines → IsJudged network.now.endpoints network.now.state self.new.listed q }
+        ensures judged { (q : ℕ) → q < length network.now.state.machines → IsJudged network.now.endpoints network.now.capacity network.now.state self.new.listed q }
     {
         for pid in 0..network.count() {
             let head = network.head(pid);
@@ -259,9 +264,9 @@ impl Kept for Candidates {
 // join its channel alone.
 fn is_listed(waiting: &WaitingLists, network: &Network<'_>, pid: u32, head: Head) -> bool
     requires there { pid < length network.now.state.machines }
-    requires lists { ListsAll network.now.endpoints network.now.state waiting.now }
+    requires lists { ListsAll network.now.endpoints network.now.capacity network.now.state waiting.now }
     requires shows { Shows network.now.endpoints network.now.state pid head }
-    ensures { result ≡ is_listed_at network.now.endpoints network.now.state pid }
+    ensures { result ≡ is_listed_at network.now.endpoints network.now.capacity network.now.state pid }
 {
     match head {
         Head::Join(channel, role) => {
@@ -277,8 +282,8 @@ fn settle(listed: &mut CountedBits, network: &Network<'_>, pid: u32, head: Head)
     requires there { pid < length network.now.state.machines }
     requires places { length listed.old ≡ length network.now.state.machines }
     requires shows { Shows network.now.endpoints network.now.state pid head }
-    ensures kept { Judges network.now.endpoints network.now.state listed.old [] listed.new }
-    ensures settled { result ≡ false → IsSettled network.now.endpoints network.now.state listed.new pid }
+    ensures kept { Judges network.now.endpoints network.now.capacity network.now.state listed.old [] listed.new }
+    ensures settled { result ≡ false → IsSettled network.now.endpoints network.now.capacity network.now.state listed.new pid }
 {
     if is_joining(head) {
         return true;
@@ -297,9 +302,9 @@ fn judge(
 )
     requires there { pid < length network.now.state.machines }
     requires places { length listed.old ≡ length network.now.state.machines }
-    requires lists { ListsAll network.now.endpoints network.now.state waiting.now }
+    requires lists { ListsAll network.now.endpoints network.now.capacity network.now.state waiting.now }
     requires shows { Shows network.now.endpoints network.now.state pid head }
-    ensures { Judges network.now.endpoints network.now.state listed.old (pid ∷ []) listed.new }
+    ensures { Judges network.now.endpoints network.now.capacity network.now.state listed.old (pid ∷ []) listed.new }
 {
     listed.set(pid, is_listed(waiting, network, pid, head));
 }
@@ -308,8 +313,8 @@ fn judge(
 fn judge_all(listed: &mut CountedBits, waiting: &WaitingLists, network: &Network<'_>, pids: &[u32])
     requires there { AreBelow (length network.now.state.machines) pids.now }
     requires places { length listed.old ≡ length network.now.state.machines }
-    requires lists { ListsAll network.now.endpoints network.now.state waiting.now }
-    ensures { Judges network.now.endpoints network.now.state listed.old pids.now listed.new }
+    requires lists { ListsAll network.now.endpoints network.now.capacity network.now.state waiting.now }
+    ensures { Judges network.now.endpoints network.now.capacity network.now.state listed.old pids.now listed.new }
 {
     for pid in pids {
         judge(listed, waiting, network, *pid, network.head(*pid));
@@ -326,12 +331,12 @@ fn renew(
 )
     requires there { pid < length network.now.state.machines }
     requires places { length listed.old ≡ length network.now.state.machines }
-    requires lists { ListsAll network.now.endpoints network.now.state waiting.now }
-    ensures { Renews network.now.endpoints network.now.state done listed.old (pid ∷ []) listed.new }
+    requires lists { ListsAll network.now.endpoints network.now.capacity network.now.state waiting.now }
+    ensures { Renews network.now.endpoints network.now.capacity network.now.state done listed.old (pid ∷ []) listed.new }
 {
     let head = network.head(pid);
     judge(listed, waiting, network, pid, head);
-    match awaited_by(head) {
+    match awaited_by(network.capacity(), head) {
         Some(Awaited::Channel(channel)) if done != Some(channel) => {
             let joiners = waiting.get(Awaited::Channel(channel));
             judge_all(listed, waiting, network, joiners);
@@ -350,8 +355,8 @@ fn renew_all(
 )
     requires there { AreBelow (length network.now.state.machines) pids.now }
     requires places { length listed.old ≡ length network.now.state.machines }
-    requires lists { ListsAll network.now.endpoints network.now.state waiting.now }
-    ensures { Renews network.now.endpoints network.now.state done listed.old pids.now listed.new }
+    requires lists { ListsAll network.now.endpoints network.now.capacity network.now.state waiting.now }
+    ensures { Renews network.now.endpoints network.now.capacity network.now.state done listed.old pids.now listed.new }
 {
     for pid in pids {
         renew(listed, waiting, network, *pid, done);

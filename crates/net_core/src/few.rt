@@ -1,6 +1,6 @@
 //! What each of few processes does next, kept from event to event.
 
-ghost use Rattle.std.specs.Prelude.{◌≡◌, ◌<◌, ◌+◌, ◌^◌, ◌++◌, ◌∷◌, [], if◌then◌else◌, length, IfOk, OnOk, Some, None, false, slice_get};
+ghost use Rattle.std.specs.Prelude.{◌≡◌, ◌<◌, ◌+◌, ◌^◌, ◌++◌, ◌∷◌, [], if◌then◌else◌, length, IfOk, OnOk, Some, false, slice_get};
 ghost use Rattle.endpoint_code.specs.NetworkRuns.{all_ended};
 ghost use Rattle.endpoint_code.specs.Scheduled.{listed, picked_of};
 ghost use Rattle.net_core.specs.Heads.{EachStands, is_joining_head};
@@ -74,7 +74,7 @@ impl Few {
     pub fn survey(&mut self, network: &Network<'_>) -> Result<bool, Memory>
         requires { ShowsAll network.now.endpoints network.now.state self.old.heads.items }
         ensures ended { IfOk result (λ ended. ended ≡ all_ended network.now.endpoints network.now.state.machines) }
-        ensures listed { OnOk result (self.new.pids.items ≡ listed network.now.endpoints None network.now.state) }
+        ensures listed { OnOk result (self.new.pids.items ≡ listed network.now.endpoints network.now.capacity network.now.state) }
         ensures stand { EachStands network.now.endpoints network.now.state }
         ensures kept { self.new.heads.items ≡ self.old.heads.items }
     {
@@ -112,7 +112,7 @@ impl Few {
 }
 
 impl Kept for Few {
-    ghost is_true = { λ e n few. ShowsAll e n few.heads.items };
+    ghost is_true = { λ e cap n few. ShowsAll e n few.heads.items };
 
     fn turn(
         &mut self,

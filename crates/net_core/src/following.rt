@@ -54,8 +54,11 @@ impl Network<'_> {
     fn may_send(&self, pid: u32, lane: (u32, NameId, NameId), event: &Event) -> bool
         requires there { pid < length self.now.state.machines }
         requires sends { Shows self.now.endpoints self.now.state pid (head.Out lane.0 lane.1 lane.2) }
-        ensures { (hosts : Hosts) → IsTrue result ↔ MayMake self.now.endpoints hosts self.now.state pid event.now }
+        ensures { (hosts : Hosts) → IsTrue result ↔ MayMake self.now.endpoints hosts self.now.capacity self.now.state pid event.now }
     {
+        if !self.queues.has_room(self.capacity, lane.0, lane.1, lane.2) {
+            return false;
+        }
         let machine = &self.machines[pid as usize];
         is_sending(event, pid, lane, machine.outgoing(self.endpoints))
     }
@@ -64,7 +67,7 @@ impl Network<'_> {
     fn may_receive(&self, pid: u32, lane: (u32, NameId, NameId), event: &Event) -> bool
         requires there { pid < length self.now.state.machines }
         requires takes { Shows self.now.endpoints self.now.state pid (head.Take lane.0 lane.1 lane.2) }
-        ensures { (hosts : Hosts) → IsTrue result ↔ MayMake self.now.endpoints hosts self.now.state pid event.now }
+        ensures { (hosts : Hosts) → IsTrue result ↔ MayMake self.now.endpoints hosts self.now.capacity self.now.state pid event.now }
     {
         let Some(load) = self.queues.first(lane.0, lane.1, lane.2) else {
             return false;
@@ -77,7 +80,7 @@ impl Network<'_> {
     fn may_make(&self, pid: u32, hosts: &HostTable, event: &Event) -> bool
         requires there { pid < length self.now.state.machines }
         requires hosts { AsksKnown (is_listed (names_of (functions_of hosts.now)) self.now.endpoints) self.now.endpoints }
-        ensures { IsTrue result ↔ MayMake self.now.endpoints (hosts_in self.now.endpoints.names (functions_of hosts.now)) self.now.state pid event.now }
+        ensures { IsTrue result ↔ MayMake self.now.endpoints (hosts_in self.now.endpoints.names (functions_of hosts.now)) self.now.capacity self.now.state pid event.now }
     {
         match self.head(pid) {
             Head::Out(sid, from, to) => self.may_send(pid, (sid, from, to), event),
@@ -94,7 +97,7 @@ impl Network<'_> {
     // Whether there is such a process, and it can make an event by itself.
     fn can_make(&self, pid: u32, hosts: &HostTable, event: &Event) -> bool
         requires { AsksKnown (is_listed (names_of (functions_of hosts.now)) self.now.endpoints) self.now.endpoints }
-        ensures { IsTrue result ↔ MayMake self.now.endpoints (hosts_in self.now.endpoints.names (functions_of hosts.now)) self.now.state pid event.now }
+        ensures { IsTrue result ↔ MayMake self.now.endpoints (hosts_in self.now.endpoints.names (functions_of hosts.now)) self.now.capacity self.now.state pid event.now }
     {
         pid < self.count() && self.may_make(pid, hosts, event)
     }

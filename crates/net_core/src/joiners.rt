@@ -13,7 +13,7 @@ impl Network<'_> {
     // Whether one of these processes, who are all that join a channel, joins it in a role.
     fn is_joined_among(&self, channel: NameId, role: NameId, joiners: &[u32]) -> bool
         requires there { AreBelow (length self.now.state.machines) joiners.now }
-        requires all { AreJoiners self.now.endpoints self.now.state channel joiners.now }
+        requires all { AreJoiners self.now.endpoints self.now.capacity self.now.state channel joiners.now }
         ensures { result ≡ is_joined self.now.endpoints self.now.state.machines channel role }
     {
         for pid in joiners {
@@ -27,7 +27,7 @@ impl Network<'_> {
     // Whether none of them joins in a role other than a process's own.
     fn is_missing_among(&self, channel: NameId, own: NameId, role: NameId, joiners: &[u32]) -> bool
         requires there { AreBelow (length self.now.state.machines) joiners.now }
-        requires all { AreJoiners self.now.endpoints self.now.state channel joiners.now }
+        requires all { AreJoiners self.now.endpoints self.now.capacity self.now.state channel joiners.now }
         ensures { result ≡ not ((role.0 == own.0) || is_joined self.now.endpoints self.now.state.machines channel role) }
     {
         role != own && !self.is_joined_among(channel, role, joiners)
@@ -37,7 +37,7 @@ impl Network<'_> {
     // processes, who are all that join the channel.
     pub(crate) fn are_joined_among(&self, channel: NameId, own: NameId, joiners: &[u32]) -> bool
         requires there { AreBelow (length self.now.state.machines) joiners.now }
-        requires all { AreJoiners self.now.endpoints self.now.state channel joiners.now }
+        requires all { AreJoiners self.now.endpoints self.now.capacity self.now.state channel joiners.now }
         ensures { result ≡ not (is_some (absent_on self.now.endpoints self.now.state.machines channel own (channel_of self.now.endpoints.channels channel))) }
     {
         let Some(found) = channel_named(self.endpoints.channels.as_slice(), channel) else {

@@ -10,7 +10,6 @@ mod following;
 mod joiners;
 mod network;
 mod parts;
-mod queues;
 mod schedule;
 mod scheduler;
 mod standing;

@@ -19,12 +19,12 @@ ghost use Rattle.net_core.specs.Heads.{Shows, EachStands, ended_at, why_at, step
 use crate::acts::{act, reserve};
 use crate::answer::Step;
 use crate::parts::{append, channel_named, standing_all};
-use crate::queues::Queues;
 use crate::standing::{has_ended, is_joining};
 use chor_base::{Entry, Event, List, Memory, NameId, Why};
 use chor_host::HostTable;
 use endpoint_code::{Channel, Endpoints};
 use endpoint_machine::{Head, Machine};
+use post_office::Queues;
 use session_starts::start_session;
 use std::alloc::Global;
 use std::marker::Model;
@@ -35,6 +35,7 @@ use std::mem::replace;
 pub struct Network<'a> {
     pub(crate) alloc: Global,
     pub(crate) endpoints: &'a Endpoints,
+    pub(crate) capacity: Option<u32>,
     pub(crate) machines: Vec<Machine>,
     pub(crate) queues: Queues,
     pub(crate) sid: u32,
@@ -42,9 +43,7 @@ pub struct Network<'a> {
 }
 
 impl<'a> Model for Network<'a> {
-    ghost use Rattle.std.specs.Prelude.{map, vec_capacity, vec_len, ◌-◌};
-    ghost use Rattle.session_starts.specs.Machines.{standing_of};
-    ghost use Rattle.net_core.specs.Views.{NetworkView, IsSound, state_of, has_room};
+    ghost use Rattle.net_core.specs.Views.{NetworkView, IsSound, network_of};
 
     ghost Value = { NetworkView };
 
@@ -54,16 +53,22 @@ impl<'a> Model for Network<'a> {
 
     ghost coded = { Prim.hlevel (codes, whole.the_row.coded, fin.code) };
 
-    ghost view = { λ a. record { endpoints = a.endpoints.now; state = state_of a.machines.items a.queues a.sid; history = a.history.items; reserved = map (has_room a.endpoints.now (vec_capacity a.history - vec_len a.history) a.queues) a.machines.items } };
+    ghost view = { λ a. network_of a.endpoints.now a.capacity a.machines.items a.queues a.sid a.history };
 
     ghost invariant = { λ a. IsSound a.endpoints.now a.machines.items };
 }
 
 impl<'a> Network<'a> {
-    /// The first state: each process at its body, and no event yet.
-    pub fn new(alloc: Global, endpoints: &'a Endpoints) -> Result<Network<'a>, Memory>
+    /// The first state: each process at its body, and no event yet. Each queue takes at most as many
+    /// loads as the capacity says, if there is one.
+    pub fn new(
+        alloc: Global,
+        endpoints: &'a Endpoints,
+        capacity: Option<u32>,
+    ) -> Result<Network<'a>, Memory>
         requires { IsFaultless endpoints.now }
         ensures endpoints { IfOk result (λ network. network.endpoints ≡ endpoints.now) }
+        ensures capacity { IfOk result (λ network. network.capacity ≡ capacity) }
         ensures state { IfOk result (λ network. network.state ≡ first_state endpoints.now) }
         ensures history { IfOk result (λ network. network.history ≡ []) }
     {
@@ -71,6 +76,7 @@ impl<'a> Network<'a> {
         Ok(Network {
             alloc,
             endpoints,
+            capacity,
             machines,
             queues: Queues::new(alloc),
             sid: 0,
@@ -89,6 +95,7 @@ impl<'a> Network<'a> {
     /// of those that are forgotten.
     pub fn forget(&mut self)
         ensures endpoints { self.new.endpoints ≡ self.old.endpoints }
+        ensures capacity { self.new.capacity ≡ self.old.capacity }
         ensures state { self.new.state ≡ self.old.state }
         ensures history { self.new.history ≡ [] }
     {
@@ -102,6 +109,13 @@ impl<'a> Network<'a> {
         self.history
     }
 
+    // How many loads each queue takes at most, if that is declared.
+    pub(crate) fn capacity(&self) -> Option<u32>
+        ensures { result ≡ self.now.capacity }
+    {
+        self.capacity
+    }
+
     // This network. One without processes comes in its place.
     pub(crate) fn take(&mut self) -> Network<'a>
         ensures { result ≡ self.old }
@@ -109,6 +123,7 @@ impl<'a> Network<'a> {
         let nobody = Network {
             alloc: self.alloc,
             endpoints: self.endpoints,
+            capacity: self.capacity,
             machines: Vec::new(self.alloc),
             queues: Queues::new(self.alloc),
             sid: 0,
@@ -232,7 +247,7 @@ impl<'a> Network<'a> {
         requires there { pid < length self.old.state.machines }
         requires shows { Shows self.old.endpoints self.old.state pid head }
         requires hosts { AsksKnown (is_listed (names_of (functions_of hosts.now)) self.old.endpoints) self.old.endpoints }
-        requires steps { steps_at self.old.endpoints self.old.state pid ≡ true }
+        requires steps { steps_at self.old.endpoints self.old.capacity self.old.state pid ≡ true }
         requires alone { joins_at_all self.old.endpoints self.old.state pid ≡ false }
         requires room { IsReserved self.old pid }
         ensures stepped { HasStepped (hosts_in self.old.endpoints.names (functions_of hosts.now)) self.old pid self.new }
@@ -271,7 +286,7 @@ impl<'a> Network<'a> {
         requires shows { Shows self.old.endpoints self.old.state pid head }
         requires hosts { AsksKnown (is_listed (names_of (functions_of hosts.now)) self.old.endpoints) self.old.endpoints }
         requires fits { FitsMore self.old 1 }
-        requires steps { steps_at self.old.endpoints self.old.state pid ≡ true }
+        requires steps { steps_at self.old.endpoints self.old.capacity self.old.state pid ≡ true }
         ensures ok { OnOk result (HasStepped (hosts_in self.old.endpoints.names (functions_of hosts.now)) self.old pid self.new) }
         ensures grown { OnOk result (HasGrown self.old self.new) }
         ensures alone { OnOk result (joins_at_all self.old.endpoints self.old.state pid ≡ false → MovesAlone self.old.state pid self.new.state) }
@@ -322,7 +337,7 @@ impl<'a> Network<'a> {
     fn start(&mut self, pid: u32, head: Head) -> Result<(), Memory>
         requires there { pid < length self.old.state.machines }
         requires shows { Shows self.old.endpoints self.old.state pid head }
-        requires steps { steps_at self.old.endpoints self.old.state pid ≡ true }
+        requires steps { steps_at self.old.endpoints self.old.capacity self.old.state pid ≡ true }
         requires joins { joins_at_all self.old.endpoints self.old.state pid ≡ true }
         requires fits { FitsMore self.old 1 }
         ensures ok { OnOk result ((hosts : Hosts) → HasStepped hosts self.old pid self.new) }

@@ -31,8 +31,8 @@ impl<'a> Network<'a> {
 
     // How many processes the pick rule may take.
     fn listed_count(&self) -> u64
-        ensures count { result ≡ length (listed self.now.endpoints None self.now.state) }
-        ensures none { result ≡ 0 → none_can_step self.now.endpoints None self.now.state self.now.state.machines ≡ true }
+        ensures count { result ≡ length (listed self.now.endpoints self.now.capacity self.now.state) }
+        ensures none { result ≡ 0 → none_can_step self.now.endpoints self.now.capacity self.now.state self.now.state.machines ≡ true }
     {
         let mut count = 0;
         for pid in 0..self.count() {
@@ -45,7 +45,7 @@ impl<'a> Network<'a> {
 
     // The process at a place among those that the pick rule may take.
     fn listed_at(&self, place: u64) -> Option<u32>
-        ensures { result ≡ slice_get (listed self.now.endpoints None self.now.state) place }
+        ensures { result ≡ slice_get (listed self.now.endpoints self.now.capacity self.now.state) place }
     {
         let mut left = place;
         for pid in 0..self.count() {
@@ -64,8 +64,8 @@ impl<'a> Network<'a> {
     /// active role is counted.
     pub fn pick(&self, seed: u64) -> Option<u32>
         requires { seed < 2 ^ 33 }
-        ensures pick { result ≡ picked self.now.endpoints None seed (length self.now.history) self.now.state }
-        ensures none { (result ≡ None) ↔ (none_can_step self.now.endpoints None self.now.state self.now.state.machines ≡ true) }
+        ensures pick { result ≡ picked self.now.endpoints self.now.capacity seed (length self.now.history) self.now.state }
+        ensures none { (result ≡ None) ↔ (none_can_step self.now.endpoints self.now.capacity self.now.state self.now.state.machines ≡ true) }
     {
         let count = self.listed_count();
         if count == 0 {
@@ -76,7 +76,7 @@ impl<'a> Network<'a> {
 
     // The first process that hasn't ended.
     fn first_unended(&self) -> Option<u32>
-        ensures { first_waiting self.now.endpoints None self.now.state ≡ waiting_at self.now.endpoints self.now.state result }
+        ensures { first_waiting self.now.endpoints self.now.capacity self.now.state ≡ waiting_at self.now.endpoints self.now.capacity self.now.state result }
     {
         for pid in 0..self.count() {
             if !self.ended(pid) {
@@ -89,8 +89,8 @@ impl<'a> Network<'a> {
     // How a run is closed where no process can step.
     pub(crate) fn stuck(&self) -> Picked
         requires unended { all_ended self.now.endpoints self.now.state.machines ≡ false }
-        requires none { none_can_step self.now.endpoints None self.now.state self.now.state.machines ≡ true }
-        ensures { IsStuck self.now.endpoints self.now.state result }
+        requires none { none_can_step self.now.endpoints self.now.capacity self.now.state self.now.state.machines ≡ true }
+        ensures { IsStuck self.now.endpoints self.now.capacity self.now.state result }
     {
         let Some(pid) = self.first_unended() else {
             unreachable!()

@@ -1,6 +1,6 @@
 //! Scheduled runs over what is kept of the processes from event to event.
 
-ghost use Rattle.std.specs.Prelude.{◌≡◌, ◌≢◌, ◌<◌, ◌≤◌, ◌-◌, ◌^◌, length, None};
+ghost use Rattle.std.specs.Prelude.{◌≡◌, ◌≢◌, ◌<◌, ◌≤◌, ◌-◌, ◌^◌, length, Option, ℕ, None};
 ghost use Rattle.chor_host.specs.Functions.{hosts_in, names_of};
 ghost use Rattle.chor_host.specs.Tables.{functions_of};
 ghost use Rattle.endpoint_code.specs.declared.endpoints.Endpoints.{Endpoints as AnyEndpoints};
@@ -16,7 +16,7 @@ use std::marker::Model;
 
 /// What is kept of the processes of a network from event to event.
 pub trait Kept {
-    ghost is_true: { AnyEndpoints → NetworkState → Self → Type 0 };
+    ghost is_true: { AnyEndpoints → Option ℕ → NetworkState → Self → Type 0 };
 
     /// Makes one event of a scheduled run, unless it is closed.
     fn turn(
@@ -29,9 +29,9 @@ pub trait Kept {
         requires hosts { AsksKnown (is_listed (names_of (functions_of hosts.now)) network.old.endpoints) network.old.endpoints }
         requires seed { seed < 2 ^ 33 }
         requires fits { length network.old.history ≢ steps → FitsMore network.old 1 }
-        requires kept { is_true network.old.endpoints network.old.state self.old }
+        requires kept { is_true network.old.endpoints network.old.capacity network.old.state self.old }
         ensures turns { Turns (hosts_in network.old.endpoints.names (functions_of hosts.now)) seed steps network.old result network.new }
-        ensures kept { result ≡ None → is_true network.new.endpoints network.new.state self.new };
+        ensures kept { result ≡ None → is_true network.new.endpoints network.new.capacity network.new.state self.new };
 }
 
 /// A network, and what is kept of its processes, which is true of them.
@@ -56,13 +56,13 @@ impl<'a, K: Kept> Model for Scheduler<'a, K> {
 
     ghost view = { λ a. a.network };
 
-    ghost invariant = { λ a. IfSome a.kept (K.is_true a.network.endpoints a.network.state) };
+    ghost invariant = { λ a. IfSome a.kept (K.is_true a.network.endpoints a.network.capacity a.network.state) };
 }
 
 impl<'a, K: Kept + Drop> Scheduler<'a, K> {
     /// A network, with what is true of its processes.
     pub fn new(network: Network<'a>, kept: K) -> Self
-        requires { K.is_true network.endpoints network.state kept }
+        requires { K.is_true network.endpoints network.capacity network.state kept }
         ensures { result ≡ network.entry }
     {
         Scheduler {

@@ -2,7 +2,7 @@
 
 ghost use Rattle.std.specs.Prelude.{◌≡◌, ◌<◌, length};
 ghost use Rattle.endpoint_machine.specs.declared.head.Head.TheVariants as head;
-ghost use Rattle.net_core.specs.Heads.{Shows, is_end, is_joining_head, why_at, steps_at, is_listed_at, leads_at};
+ghost use Rattle.net_core.specs.Heads.{Shows, is_end, is_joining_head, why_at, why_by, steps_at, is_listed_at, leads_at};
 
 use crate::network::Network;
 use crate::parts::channel_named;
@@ -34,12 +34,12 @@ impl Network<'_> {
     pub(crate) fn waiting(&self, pid: u32, head: Head) -> Option<Why>
         requires there { pid < length self.now.state.machines }
         requires shows { Shows self.now.endpoints self.now.state pid head }
-        ensures { result ≡ why_at self.now.endpoints self.now.state pid }
+        ensures { result ≡ why_at self.now.endpoints self.now.capacity self.now.state pid }
     {
         match head {
             Head::Join(channel, role) => self.absent(channel, role),
             Head::Take(sid, from, to) => self.awaits(pid, sid, from, to),
-            Head::Out(_, _, _) => None,
+            Head::Out(sid, from, to) => self.crowded(sid, from, to),
             Head::Local => None,
             Head::Ended => None,
         }
@@ -49,7 +49,7 @@ impl Network<'_> {
     fn awaits(&self, pid: u32, sid: u32, from: NameId, to: NameId) -> Option<Why>
         requires there { pid < length self.now.state.machines }
         requires takes { Shows self.now.endpoints self.now.state pid (head.Take sid from to) }
-        ensures { result ≡ why_at self.now.endpoints self.now.state pid }
+        ensures { result ≡ why_at self.now.endpoints self.now.capacity self.now.state pid }
     {
         let Some(load) = self.queues.first(sid, from, to) else {
             return Some(Why::Empty(sid, from, to));
@@ -62,11 +62,22 @@ impl Network<'_> {
         }
     }
 
+    // Why a process waits that sends on a queue, if it does.
+    fn crowded(&self, sid: u32, from: NameId, to: NameId) -> Option<Why>
+        ensures { result ≡ why_by self.now.endpoints self.now.capacity self.now.state (head.Out sid from to) }
+    {
+        if self.queues.has_room(self.capacity, sid, from, to) {
+            None
+        } else {
+            Some(Why::Full(sid, from, to))
+        }
+    }
+
     // Whether a process with this head can step.
     fn can_step(&self, pid: u32, head: Head) -> bool
         requires there { pid < length self.now.state.machines }
         requires shows { Shows self.now.endpoints self.now.state pid head }
-        ensures { result ≡ steps_at self.now.endpoints self.now.state pid }
+        ensures { result ≡ steps_at self.now.endpoints self.now.capacity self.now.state pid }
     {
         !has_ended(head) && self.waiting(pid, head).is_none()
     }
@@ -92,7 +103,7 @@ impl Network<'_> {
     pub(crate) fn is_listed(&self, pid: u32, head: Head) -> bool
         requires there { pid < length self.now.state.machines }
         requires shows { Shows self.now.endpoints self.now.state pid head }
-        ensures { result ≡ is_listed_at self.now.endpoints self.now.state pid }
+        ensures { result ≡ is_listed_at self.now.endpoints self.now.capacity self.now.state pid }
     {
         self.can_step(pid, head) && self.leads(pid, head)
     }

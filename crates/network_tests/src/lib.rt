@@ -7,6 +7,8 @@ mod actor;
 #[cfg(test)]
 mod actors;
 #[cfg(test)]
+mod capacities;
+#[cfg(test)]
 mod channels;
 #[cfg(test)]
 mod deeds;

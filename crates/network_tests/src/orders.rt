@@ -55,7 +55,7 @@ fn counts_after(
 ) -> Result<bool, Fail>
     requires { IsFaultlessWith (names_of known) endpoints.now }
 {
-    let mut network = Steps::new(rt, alloc, endpoints)?;
+    let mut network = Steps::new(rt, alloc, endpoints, None)?;
     let counts = network.counts_after(rt, way, pid);
     drop(network);
     counts
@@ -105,7 +105,7 @@ fn run_after(
 ) -> Result<(Closed, Vec<Entry>), Fail>
     requires { IsFaultlessWith (names_of known) endpoints.now }
 {
-    let mut network = Steps::new(rt, alloc, endpoints)?;
+    let mut network = Steps::new(rt, alloc, endpoints, None)?;
     match network.follow(rt, turn.way) {
         Ok(()) => network.finish(rt, turn.seed, MORE),
         Err(fail) => {
@@ -138,7 +138,7 @@ fn are_steps(
 ) -> Result<bool, Fail>
     requires { IsFaultlessWith (names_of known) endpoints.now }
 {
-    let mut steps = Steps::new(rt, alloc, endpoints)?;
+    let mut steps = Steps::new(rt, alloc, endpoints, None)?;
     let is_so = steps_go(rt, &mut steps, turn, ran);
     drop(steps);
     is_so

@@ -47,7 +47,7 @@ fn steps_go(
 ) -> Result<bool, Fail>
     requires { IsFaultlessWith (names_of known) endpoints.now }
 {
-    let mut steps = Steps::new(rt, alloc, endpoints)?;
+    let mut steps = Steps::new(rt, alloc, endpoints, None)?;
     let is_stepped = is_stepped(rt, &mut steps, asked, ran);
     drop(steps);
     is_stepped

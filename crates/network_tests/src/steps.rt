@@ -72,8 +72,13 @@ fn closed_by(rt: &impl Abort, picked: Picked) -> Closed {
 }
 
 impl<'a> Steps<'a> {
-    /// The network in its first state, for at most a million steps.
-    pub fn new(rt: &impl Abort, alloc: Global, endpoints: &'a Endpoints) -> Result<Steps<'a>, Fail>
+    /// The network in its first state, with queues of this capacity, for at most a million steps.
+    pub fn new(
+        rt: &impl Abort,
+        alloc: Global,
+        endpoints: &'a Endpoints,
+        capacity: Option<u32>,
+    ) -> Result<Steps<'a>, Fail>
         requires { IsFaultlessWith (names_of known) endpoints.now }
     {
         if !serve_few(endpoints.channels.as_slice()) {
@@ -82,7 +87,7 @@ impl<'a> Steps<'a> {
         if endpoints.processes.len() > 1_000_000 {
             panic!(rt; "too many processes");
         }
-        let network = Network::new(alloc, endpoints)?;
+        let network = Network::new(alloc, endpoints, capacity)?;
         Ok(Steps {
             alloc,
             endpoints,

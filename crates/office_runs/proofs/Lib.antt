@@ -3,6 +3,8 @@ pub mod Board
 pub mod Parts
 pub mod Partners
 pub mod Starts
+pub mod Freely
+pub mod Ahead
 pub mod Alike
 pub mod Refused
 pub mod Received

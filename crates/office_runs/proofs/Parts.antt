@@ -53,7 +53,7 @@ module _ (w : OfficeView) (count : ℕ) (c : NameId) where
 
 pub may_post : (w : OfficeView) (count : ℕ) (c : NameId) (s : ℕ) (parts : List (NameId × ℕ)) → MayCome w count (event.Start c s parts) → MayPost w count c parts
 may_post w count c s parts m =
-    let k = step_casting w.endpoints w.hosts m.state c s parts (m.next, m.steps) in
+    let k = step_casting w.endpoints w.hosts w.capacity m.state c s parts (m.next, m.steps) in
     let casting = k.3 in
     let served = served_parts k.0.serve (length m.state.machines) in
     let join = all_join w.endpoints m.state.machines k.0.name k.0.active casting.joining casting.joins in

@@ -1,6 +1,6 @@
 -- A receipt that an office is told.
-use Rattle.std.proofs.Common.{◌≡◌, ℕ, List, [], ◌∷◌, ◌++◌, sym, ap, ◌∙◌, subst, Option, Some, None, arith}
-use Rattle.std.specs.Prelude.{slice_get}
+use Rattle.std.proofs.Common.{◌≡◌, ℕ, false, List, [], ◌∷◌, ◌++◌, sym, ap, ◌∙◌, subst, Option, Some, None, arith}
+use Rattle.std.specs.Prelude.{not, slice_get}
 use Rattle.chor_base.specs.declared.names.NameId.{NameId}
 use Rattle.chor_base.specs.declared.value.Load.{Load}
 use Rattle.chor_base.specs.declared.event.Entry.{Entry}
@@ -9,11 +9,11 @@ use Rattle.chor_base.specs.declared.event.Event.TheVariants as event
 use Rattle.chor_base.specs.Meaning.{Hosts}
 use Rattle.chor_base.specs.Events.{Triple, actors_of}
 use Rattle.endpoint_code.specs.declared.endpoints.Endpoints.{Endpoints}
-use Rattle.endpoint_code.specs.Network.{NetworkState, NetworkSteps, loads_for}
+use Rattle.endpoint_code.specs.Network.{NetworkState, NetworkSteps, has_room, loads_for}
 use Rattle.endpoint_code.specs.NetworkRuns.{IsNetworkRun}
 use Rattle.post_office.specs.declared.desk.Desk.{Desk}
 use Rattle.post_office.specs.declared.post.Received.TheVariants.{Got, Empty}
-use Rattle.post_office.specs.Views.{OfficeView, loads_at, CanMake, CanReceive, events_of, post_at}
+use Rattle.post_office.specs.Views.{OfficeView, loads_at, is_full, CanMake, CanReceive, events_of, post_at}
 use Rattle.post_office.specs.Kept.{IsKept}
 use Rattle.post_office.specs.Answers.{IsSame, HasNoted, HasActed, AnswersReceipt}
 use Rattle.office_runs.specs.Told.{AllBusy}
@@ -29,6 +29,13 @@ same_can v w x same can =
     subst (λ (e : Endpoints). CanFrom e w.hosts w.capacity w.history x) (sym same.endpoints)
     (subst (λ (h : Hosts). CanFrom v.endpoints h w.capacity w.history x) (sym same.hosts)
     (subst (λ (c : Option ℕ). CanFrom v.endpoints v.hosts c w.history x) (sym same.capacity) (subst (λ (h : List Entry). CanFrom v.endpoints v.hosts v.capacity h x) (sym same.history) can)))
+
+-- nor for whether a queue takes one load more
+pub still_room : (v w : OfficeView) (t : Triple) → IsSame v w → is_full v t ≡ false → is_full w t ≡ false
+still_room v w t same room =
+    ap (λ (c : Option ℕ). not (has_room c (loads_at w.queues t))) same.capacity
+    ∙ ap (λ (qs : List (Triple × List Load)). not (has_room v.capacity (loads_for qs t))) same.queues
+    ∙ room
 
 noted_same : (v w u : OfficeView) (k : ℕ) (x : Event) → IsSame v w → HasNoted w k x u → HasNoted v k x u
 noted_same v w u k x same noted = record {

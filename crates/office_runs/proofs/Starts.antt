@@ -58,7 +58,7 @@ pub record Cast (w : OfficeView) (count : ℕ) (c : NameId) (s : ℕ) (parts : L
 
 pub cast_of : (w : OfficeView) (count : ℕ) (c : NameId) (s : ℕ) (parts : List (NameId × ℕ)) → MayCome w count (event.Start c s parts) → IsKept w → Cast w count c s parts
 cast_of w count c s parts m kept =
-    let casting = step_casting w.endpoints w.hosts m.state c s parts (m.next, m.steps) in
+    let casting = step_casting w.endpoints w.hosts w.capacity m.state c s parts (m.next, m.steps) in
     let k : Channel = casting.0 in
     let cast = casting.3 in
     let ms = m.state.machines in

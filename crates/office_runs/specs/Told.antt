@@ -1,8 +1,7 @@
 -- Offices that are told the events of a run (this project's own).
-use Rattle.std.specs.Prelude.{ℕ, ◌≡◌, ◌<◌, ◌≤◌, false, List, [], ◌∷◌, length, Option, None, All, nat_lt, slice_set, if◌then◌else◌}
+use Rattle.std.specs.Prelude.{ℕ, ◌≡◌, ◌<◌, ◌≤◌, List, [], ◌∷◌, length, Option, None, All, nat_lt, slice_set, if◌then◌else◌}
 use Rattle.chor_base.specs.declared.names.NameId.{NameId}
 use Rattle.chor_base.specs.declared.event.Event.{Event}
-use Rattle.chor_base.specs.declared.event.Event.TheVariants as event
 use Rattle.chor_base.specs.Meaning.{Hosts}
 use Rattle.endpoint_code.specs.declared.endpoints.Endpoints.{Endpoints}
 use Rattle.endpoint_code.specs.Network.{NetworkState, NetworkSteps}
@@ -10,14 +9,15 @@ use Rattle.endpoint_code.specs.NetworkRuns.{IsNetworkRun}
 use Rattle.net_core.specs.Views.{NetworkView}
 use Rattle.post_office.specs.declared.desk.Desk.{Desk}
 use Rattle.post_office.specs.declared.post.Post.TheVariants.{Busy, Joining}
-use Rattle.post_office.specs.Views.{OfficeView, IsAfter, is_full, post_at}
+use Rattle.post_office.specs.Views.{OfficeView, IsAfter, post_at}
 use Rattle.post_office.specs.Kept.{CanPost}
 use Rattle.post_office.specs.Starts.{FitsStart}
 
--- an office has the programs and host functions of a network, and its events lead to the network's state
+-- an office has the programs, the host functions and the capacity of a network, and its events lead to the network's state
 pub record AreAlike (table : Hosts) (v : NetworkView) (w : OfficeView) : Type 0 where
   pub endpoints : w.endpoints ≡ v.endpoints
   pub hosts : w.hosts ≡ table
+  pub capacity : w.capacity ≡ v.capacity
   pub after : IsAfter w v.state
 
 -- after the events of an office there are so many processes, this event can be the next, and one start more is numbered
@@ -26,13 +26,8 @@ pub record MayCome (w : OfficeView) (count : ℕ) (x : Event) : Type 0 where
   pub after : IsAfter w state
   pub processes : count ≡ length state.machines
   pub next : NetworkState
-  pub steps : NetworkSteps w.endpoints w.hosts None state x next
+  pub steps : NetworkSteps w.endpoints w.hosts w.capacity state x next
   pub fits : FitsStart w
-
--- where an event sends, its queue hasn't reached a declared capacity
-abbrev pub HasRoomFor : OfficeView → Event → Type 0
-HasRoomFor w (event.Send p s a b l) = is_full w (s, a, b) ≡ false
-HasRoomFor w _ = Unit {0}
 
 -- each of these parts whose process is there may be posted as joining the channel in its role
 abbrev pub MayPost : OfficeView → ℕ → NameId → List (NameId × ℕ) → Type 0

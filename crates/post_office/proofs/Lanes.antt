@@ -1,11 +1,17 @@
 -- Where a triple's queue is.
 use Rattle.std.proofs.Common.{◌≡◌, ℕ, zero, suc, ◌+◌, ◌≤◌, ◌<◌, Bool, true, false, cond, List, [], ◌∷◌, ◌++◌, length, get_or, refl, sym, ap, ◌∙◌, subst, Some, None, arith, OnOk, Result, Ok, Err}
-use Rattle.std.specs.Prelude.{slice_set, slice_get}
+use Rattle.std.specs.Prelude.{map, slice_set, slice_get}
 use Rattle.chor_base.specs.declared.value.Load.{Load}
 use Rattle.chor_base.specs.Events.{Triple, triple_eq}
 use Rattle.endpoint_code.specs.Network.{loads_for, with_loads}
 use Rattle.endpoint_code.proofs.Fifo.{same_triple}
 use Rattle.post_office.specs.Lanes.{LaneView, loads_in, room_among, lane_from}
+
+-- a list stays where an item is put that a function takes alike
+pub mapped_put : {X Y : Type 0} (f : X → Y) (xs : List X) (p : ℕ) (x y : X) → p < length xs → x ≡ get_or xs p x → f y ≡ f x → map f (slice_set xs p y) ≡ map f xs
+mapped_put f [] p x y lt h same = absurd (omega arith)
+mapped_put f (z ∷ xs) zero x y lt h same = ap (λ s. s ∷ map f xs) (same ∙ ap f h)
+mapped_put f (z ∷ xs) (suc p) x y lt h same = ap (λ r. f z ∷ r) (mapped_put f xs p x y (omega arith) h same)
 
 -- the first lane of the triple is at this place
 pub data At (t : Triple) : List LaneView → ℕ → Type 0 where

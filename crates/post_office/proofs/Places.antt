@@ -12,6 +12,7 @@ use Rattle.post_office.proofs.Casts.{name_same}
 use Rattle.post_office.specs.declared.queues.Direction.{Direction}
 use Rattle.post_office.specs.Indexed.{triple_of}
 use Rattle.post_office.specs.Lanes.{LaneView, lane_from}
+use Rattle.post_office.proofs.Lanes.{mapped_put}
 
 flipped : (a b : ℕ) → (a == b) ≡ (b == a)
 flipped a b = grind (arith, nat_tests)
@@ -57,12 +58,6 @@ indexed_more p t ds new ls all d m is same none n a triple =
     ∙ ap (λ (s : Triple). map (λ (l : LaneView). l.triple) ls ++ s ∷ []) triple
     ∙ sym (map-append (λ (l : LaneView). l.triple) ls (m ∷ []))
     ∙ sym (ap (map (λ (l : LaneView). l.triple)) a)
-
--- a list stays where an item is put that a function takes alike
-mapped_put : {X Y : Type 0} (f : X → Y) (xs : List X) (p : ℕ) (x y : X) → p < length xs → x ≡ get_or xs p x → f y ≡ f x → map f (slice_set xs p y) ≡ map f xs
-mapped_put f [] p x y lt h same = absurd (omega arith)
-mapped_put f (z ∷ xs) zero x y lt h same = ap (λ s. s ∷ map f xs) (same ∙ ap f h)
-mapped_put f (z ∷ xs) (suc p) x y lt h same = ap (λ r. f z ∷ r) (mapped_put f xs p x y (omega arith) h same)
 
 -- the queue that is put stands for the same triple
 pub indexed_put : (ds : List Direction) (ls : List LaneView) (i : ℕ) (l m : LaneView) → map triple_of ds ≡ map (λ l. l.triple) ls → i < length ls → l ≡ get_or ls i l → m.triple ≡ l.triple → map triple_of ds ≡ map (λ l. l.triple) (slice_set ls i m)

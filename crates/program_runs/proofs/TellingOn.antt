@@ -1,13 +1,10 @@
 -- A run that is told part by part.
-use Rattle.std.proofs.Common.{◌≡◌, ◌-◌, ◌+◌, ◌^◌, ◌<◌, ◌≤◌, ℕ, suc, List, [], ◌∷◌, ◌++◌, length, map, refl, sym, ap, ◌∙◌, subst, Some, None, Option, arith, append_assoc}
+use Rattle.std.proofs.Common.{◌≡◌, ◌+◌, ◌^◌, ◌<◌, ◌≤◌, ℕ, suc, List, [], ◌∷◌, ◌++◌, length, refl, sym, ap, ◌∙◌, subst, Some, None, Option, arith, append_assoc}
 use Rattle.std.proofs.lemmas.List.{length-append}
 use Rattle.chor_base.specs.declared.event.Event.{Event}
-use Rattle.chor_base.specs.declared.event.Entry.{Entry}
 use Rattle.chor_base.specs.Meaning.{Hosts}
 use Rattle.endpoint_code.specs.declared.endpoints.Endpoints.{Endpoints}
-use Rattle.endpoint_code.specs.Network.{NetworkState}
-use Rattle.endpoint_code.specs.Scheduled.{IsScheduled}
-use Rattle.net_core.specs.Picks.{GoesOn, stays, entries_of}
+use Rattle.net_core.specs.Picks.{GoesOn, stays}
 use Rattle.net_core.proofs.Runs.{goes_then, scheduled_then, length-entries_of}
 use Rattle.endpoint_runs.specs.declared.parts.Run.{Run}
 use Rattle.endpoint_runs.specs.declared.parts.Schedule.{Schedule}
@@ -15,7 +12,7 @@ use Rattle.endpoint_runs.specs.declared.run.Closed.{Closed}
 use Rattle.endpoint_runs.specs.InParts.{Continues, Leads}
 use Rattle.endpoint_runs.specs.Runs.{close_of}
 use Rattle.transcript.specs.declared.lines.Lines.{Lines}
-use Rattle.transcript.specs.Text.{Words, event_text, lines_from, transcript}
+use Rattle.transcript.specs.Text.{Words, event_text, lines_from}
 use Rattle.transcript.specs.Written.{AreReady}
 use Rattle.program_runs.specs.Told.{HasBegun, IsTold}
 use Rattle.program_runs.specs.Transcripts.{closing_text, events_of}
@@ -35,7 +32,7 @@ pub record Telling (w : Words) (hosts : Hosts) (first now : Run) (lines : Lines)
   pub endpoints : now.network.endpoints ≡ first.network.endpoints
   pub schedule : now.schedule ≡ first.schedule
   pub count : now.before + length now.network.history ≡ length events
-  pub run : GoesOn first.network.endpoints hosts first.schedule.seed first.schedule.steps first.network.state 0 events now.network.state
+  pub run : GoesOn first.network.endpoints hosts None first.schedule.seed first.schedule.steps first.network.state 0 events now.network.state
   pub text : lines.text.items ≡ lines_from w 1 events
   pub number : lines.count ≡ length events
   pub ready : AreReady w lines

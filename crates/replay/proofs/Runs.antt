@@ -1,5 +1,5 @@
 -- A run, event by event.
-use Rattle.std.proofs.Common.{◌≡◌, ℕ, suc, ◌+◌, ◌-◌, ◌*◌, ◌<◌, ◌^◌, List, [], ◌∷◌, ◌++◌, length, take, get_or, refl, sym, ap, ◌∙◌, subst, None, arith}
+use Rattle.std.proofs.Common.{◌≡◌, ℕ, suc, ◌+◌, ◌-◌, ◌*◌, ◌<◌, ◌^◌, List, [], ◌∷◌, ◌++◌, length, take, get_or, refl, sym, ap, ◌∙◌, subst, Option, None, arith}
 use Rattle.std.proofs.lemmas.List.{take_more}
 use Rattle.chor_base.specs.declared.event.Event.{Event}
 use Rattle.chor_base.specs.Meaning.{Hosts}
@@ -32,11 +32,12 @@ leads_one e hosts (x ∷ xs) n m k (mid, first, rest) (other, second, left) =
 -- what holds after so many events
 pub record Underway (e : Endpoints) (hosts : Hosts) (xs : List Event) (i : ℕ) (v : NetworkView) : Type 0 where
   pub endpoints : v.endpoints ≡ e
+  pub capacity : v.capacity ≡ None
   pub run : IsNetworkRun e hosts None (take i xs) v.state
   pub fits : FitsMore v (length xs - i)
 
-pub begun : (e : Endpoints) (hosts : Hosts) (xs : List Event) (v : NetworkView) → v.endpoints ≡ e → v.state ≡ first_state e → length xs < 2 ^ 28 → length e.processes + length xs * most_served e.channels < 2 ^ 32 → Underway e hosts xs 0 v
-begun e hosts xs v same at few numbers =
+pub begun : (e : Endpoints) (hosts : Hosts) (xs : List Event) (v : NetworkView) → v.endpoints ≡ e → v.capacity ≡ None → v.state ≡ first_state e → length xs < 2 ^ 28 → length e.processes + length xs * most_served e.channels < 2 ^ 32 → Underway e hosts xs 0 v
+begun e hosts xs v same none at few numbers =
     let s : v.state.sid ≡ 0 = ap (λ (n : NetworkState). n.sid) at in
     let m : length v.state.machines ≡ length (standing_all e.processes) = ap (λ (n : NetworkState). length n.machines) at in
     let count = length-standing_all e.processes in
@@ -45,6 +46,7 @@ begun e hosts xs v same at few numbers =
     let fits : length v.state.machines + (length xs - 0) * most_served e.channels < 2 ^ 32 = subst (λ (k : ℕ). length v.state.machines + k * most_served e.channels < 2 ^ 32) whole all in
     record {
       endpoints = same;
+      capacity = none;
       run = sym at;
       fits = record { sid = omega arith; machines = subst (λ (a : Endpoints). length v.state.machines + (length xs - 0) * most_served a.channels < 2 ^ 32) (sym same) fits };
     }
@@ -55,21 +57,23 @@ fits_one e hosts xs i v lt u = fits_fewer v (length xs - i) (omega arith) u.fits
 pub underway_more : (e : Endpoints) (hosts : Hosts) (xs : List Event) (i : ℕ) (d : Event) (old new : NetworkView) → i < length xs → Underway e hosts xs i old → HasFollowed hosts old (get_or xs i d) new → HasGrown old new → Underway e hosts xs (i + 1) new
 underway_more e hosts xs i d old new lt u f g =
     let left : length xs - i ≡ suc (length xs - (i + 1)) = omega arith in
-    let step = subst (λ (a : Endpoints). NetworkSteps a hosts None old.state (get_or xs i d) f.state) u.endpoints f.steps in
+    let step = subst (λ (k : Option ℕ). NetworkSteps e hosts k old.state (get_or xs i d) f.state) u.capacity (subst (λ (a : Endpoints). NetworkSteps a hosts old.capacity old.state (get_or xs i d) f.state) u.endpoints f.steps) in
     let run = leads_more e hosts (take i xs) (get_or xs i d) (first_state e) old.state f.state u.run step in
     record {
       endpoints = f.becomes.endpoints ∙ u.endpoints;
+      capacity = f.becomes.capacity ∙ u.capacity;
       run = subst (λ (l : List Event). IsNetworkRun e hosts None l new.state) (sym (take_more xs i d lt)) (subst (λ (n : NetworkState). IsNetworkRun e hosts None (take i xs ++ get_or xs i d ∷ []) n) (sym f.becomes.state) run);
       fits = fits_after old new (length xs - (i + 1)) f.becomes.endpoints g (subst (FitsMore old) left u.fits);
     }
 
 -- what was made may be forgotten
-pub forgotten : (e : Endpoints) (hosts : Hosts) (xs : List Event) (i : ℕ) (v w : NetworkView) → Underway e hosts xs i v → w.endpoints ≡ v.endpoints → w.state ≡ v.state → Underway e hosts xs i w
-forgotten e hosts xs i v w u same at =
+pub forgotten : (e : Endpoints) (hosts : Hosts) (xs : List Event) (i : ℕ) (v w : NetworkView) → Underway e hosts xs i v → w.endpoints ≡ v.endpoints → w.capacity ≡ v.capacity → w.state ≡ v.state → Underway e hosts xs i w
+forgotten e hosts xs i v w u same alike at =
     let left = length xs - i in
     let here : length w.state.machines + left * most_served v.endpoints.channels < 2 ^ 32 = subst (λ (n : NetworkState). length n.machines + left * most_served v.endpoints.channels < 2 ^ 32) (sym at) u.fits.machines in
     record {
       endpoints = same ∙ u.endpoints;
+      capacity = alike ∙ u.capacity;
       run = subst (λ (n : NetworkState). IsNetworkRun e hosts None (take i xs) n) (sym at) u.run;
       fits = record {
         sid = subst (λ (n : NetworkState). n.sid + left < 2 ^ 32) (sym at) u.fits.sid;
@@ -77,7 +81,7 @@ forgotten e hosts xs i v w u same at =
       };
     }
 
-pub unmatched : (e : Endpoints) (hosts : Hosts) (xs : List Event) (i : ℕ) (d : Event) (v : NetworkView) → i < length xs → Underway e hosts xs i v → (IsStep v.endpoints hosts v.state (get_or xs i d) → ⊥) → IsUnmatched e hosts xs (i + 1)
+pub unmatched : (e : Endpoints) (hosts : Hosts) (xs : List Event) (i : ℕ) (d : Event) (v : NetworkView) → i < length xs → Underway e hosts xs i v → (IsStep v.endpoints hosts v.capacity v.state (get_or xs i d) → ⊥) → IsUnmatched e hosts xs (i + 1)
 unmatched e hosts xs i d v lt u cannot = record {
   before = i;
   number = omega arith;
@@ -88,5 +92,6 @@ unmatched e hosts xs i d v lt u cannot = record {
       let f = leads_fewer e hosts (take i xs) (get_or xs i d) (first_state e) last (subst (λ (l : List Event). IsNetworkRun e hosts None l last) longer run) in
       let same : f.0 ≡ v.state = leads_one e hosts (take i xs) (first_state e) f.0 v.state f.1 u.run in
       let step = subst (λ (n : NetworkState). NetworkSteps e hosts None n (get_or xs i d) last) same f.2 in
-      cannot (last, subst (λ (a : Endpoints). NetworkSteps a hosts None v.state (get_or xs i d) last) (sym u.endpoints) step);
+      let here = subst (λ (a : Endpoints). NetworkSteps a hosts None v.state (get_or xs i d) last) (sym u.endpoints) step in
+      cannot (last, subst (λ (k : Option ℕ). NetworkSteps v.endpoints hosts k v.state (get_or xs i d) last) (sym u.capacity) here);
 }

@@ -26,7 +26,7 @@ pub fn replay(
     requires numbers { length endpoints.now.processes + length events.now * most_served endpoints.now.channels < 2 ^ 32 }
     ensures { Replays endpoints.now (hosts_in endpoints.now.names (functions_of hosts.now)) events.now result }
 {
-    let mut network = Network::new(alloc, endpoints)?;
+    let mut network = Network::new(alloc, endpoints, None)?;
     for (place, event) in events.iter().enumerate() {
         match network.follow(hosts, event) {
             Followed::Did => network.forget(),

@@ -127,18 +127,18 @@ module _ (n : NetworkState) (p : ℕ) (h : Head) (x : Event) (m : NetworkState) 
 -- ---- a start
 
 -- a machine that joins a channel
-joining_waits : (e : Endpoints) (o : Option Machine) (c r : NameId) (s : ℕ) (w : Machine) → joins e o c r s ≡ Some w → awaited_in e o ≡ Some (Channel c)
-joining_waits e None c r s w h = absurd cc
-joining_waits e (Some m) c r s w h = at_place (place_of e m) h
+joining_waits : (e : Endpoints) (cap : Option ℕ) (o : Option Machine) (c r : NameId) (s : ℕ) (w : Machine) → joins e o c r s ≡ Some w → awaited_in e cap o ≡ Some (Channel c)
+joining_waits e cap None c r s w h = absurd cc
+joining_waits e cap (Some m) c r s w h = at_place (place_of e m) h
   where
-    at_join : (d q : NameId) (b : Bool) (ss : Sessions) (k : NameId) (next : CodeId) → ((d.0 == c.0) && b) ≡ true → awaited_of (Some (head.Join d q)) ≡ Some (Channel c)
+    at_join : (d q : NameId) (b : Bool) (ss : Sessions) (k : NameId) (next : CodeId) → ((d.0 == c.0) && b) ≡ true → awaited_of cap (Some (head.Join d q)) ≡ Some (Channel c)
     at_join d q b ss k next i = let same : d.0 ≡ c.0 = eqb-true d.0 c.0 (and_parts (d.0 == c.0) b i).0 in ap (λ (j : ℕ). Some (Channel (let name : NameId = record { 0 = j } in name))) same
 
     tested : (b : Bool) (o : Machine) → cond b (Some o) None ≡ Some w → b ≡ true
     tested true o i = refl
     tested false o i = absurd cc
 
-    at_node : (node : CodeNode) (ss : Sessions) → node_joins node m.vars ss c r s ≡ Some w → awaited_of (node_head ss node) ≡ Some (Channel c)
+    at_node : (node : CodeNode) (ss : Sessions) → node_joins node m.vars ss c r s ≡ Some w → awaited_of cap (node_head ss node) ≡ Some (Channel c)
     at_node (Join d q k next) ss i = at_join d q (q.0 == r.0) ss k next (tested ((d.0 == c.0) && (q.0 == r.0)) _ i)
     at_node (Send k b y next) ss i = absurd cc
     at_node (Recv k b y next) ss i = absurd cc
@@ -153,7 +153,7 @@ joining_waits e (Some m) c r s w h = at_place (place_of e m) h
     at_node (Call f o ks) ss i = absurd cc
     at_node End ss i = absurd cc
 
-    at_place : (o : Option Place) → place_joins o m.vars c r s ≡ Some w → awaited_of (place_head o) ≡ Some (Channel c)
+    at_place : (o : Option Place) → place_joins o m.vars c r s ≡ Some w → awaited_of cap (place_head o) ≡ Some (Channel c)
     at_place None i = absurd cc
     at_place (Some q) i = at_node q.node q.sessions i
 
@@ -162,9 +162,9 @@ abbrev AreOff : ℕ → List (ℕ × Machine) → Type 0
 AreOff q [] = Unit {0}
 AreOff q (j ∷ js) = (q ≢ j.0) × AreOff q js
 
-joiners_off : (e : Endpoints) (n : NetworkState) (c : NameId) (s q : ℕ) → (awaited_at e n q ≡ Some (Channel c) → ⊥) → (ps : List (NameId × ℕ)) (js : List (ℕ × Machine)) → joiners e n c s ps ≡ Some js → AreOff q js
-joiners_off e n c s q apart [] js h = let is : [] ≡ js = cc in subst (AreOff q) is tt
-joiners_off e n c s q apart (r ∷ ps) js h = go (joins e (slice_get n.machines r.1) c r.0 s) refl (joiners e n c s ps) refl h (λ ks i. joiners_off e n c s q apart ps ks i)
+joiners_off : (e : Endpoints) (cap : Option ℕ) (n : NetworkState) (c : NameId) (s q : ℕ) → (awaited_at e cap n q ≡ Some (Channel c) → ⊥) → (ps : List (NameId × ℕ)) (js : List (ℕ × Machine)) → joiners e n c s ps ≡ Some js → AreOff q js
+joiners_off e cap n c s q apart [] js h = let is : [] ≡ js = cc in subst (AreOff q) is tt
+joiners_off e cap n c s q apart (r ∷ ps) js h = go (joins e (slice_get n.machines r.1) c r.0 s) refl (joiners e n c s ps) refl h (λ ks i. joiners_off e cap n c s q apart ps ks i)
   where
     go : (o : Option Machine) → joins e (slice_get n.machines r.1) c r.0 s ≡ o → (ms : Option (List (ℕ × Machine))) → joiners e n c s ps ≡ ms → one_joiner r.1 o ms ≡ Some js
         → ((ks : List (ℕ × Machine)) → joiners e n c s ps ≡ Some ks → AreOff q ks) → AreOff q js
@@ -172,7 +172,7 @@ joiners_off e n c s q apart (r ∷ ps) js h = go (joins e (slice_get n.machines 
     go (Some w) i None j k more = absurd cc
     go (Some w) i (Some ks) j k more =
         let is : (r.1, w) ∷ ks ≡ js = cc in
-        subst (AreOff q) is (λ same. apart (ap (awaited_at e n) same ∙ joining_waits e (slice_get n.machines r.1) c r.0 s w i), more ks j)
+        subst (AreOff q) is (λ same. apart (ap (awaited_at e cap n) same ∙ joining_waits e cap (slice_get n.machines r.1) c r.0 s w i), more ks j)
 
 joined_length : (ms : List Machine) (js : List (ℕ × Machine)) → length (with_machines ms js) ≡ length ms
 joined_length ms [] = refl
@@ -183,20 +183,20 @@ joined_other ms [] q off = refl
 joined_other ms (j ∷ js) q off = joined_other (slice_set ms j.0 j.1) js q off.1 ∙ get_other ms j.0 q j.1 off.0
 
 -- who doesn't join the channel hasn't moved, and no queue has changed
-record MovesJoiners (e : Endpoints) (n : NetworkState) (c : NameId) (m : NetworkState) : Type 0 where
-  machines : (q : ℕ) → q < length n.machines → (awaited_at e n q ≡ Some (Channel c) → ⊥) → IsUnmoved n m q
+record MovesJoiners (e : Endpoints) (cap : Option ℕ) (n : NetworkState) (c : NameId) (m : NetworkState) : Type 0 where
+  machines : (q : ℕ) → q < length n.machines → (awaited_at e cap n q ≡ Some (Channel c) → ⊥) → IsUnmoved n m q
   queues : (t : Triple) → queue_of m t ≡ queue_of n t
 
-module _ (e : Endpoints) (n : NetworkState) (c : NameId) (x : Event) (m : NetworkState) where
+module _ (e : Endpoints) (cap : Option ℕ) (n : NetworkState) (c : NameId) (x : Event) (m : NetworkState) where
   abbrev Started : Type 0
-  Started = MovesJoiners e n c m
+  Started = MovesJoiners e cap n c m
 
   at_joiners : (k : ChannelCode) (ps : List (NameId × ℕ)) (o : Option (List (ℕ × Machine))) → joiners e n c n.sid ps ≡ o → begun e n c k ps o ≡ Some (Makes x m) → Started
   at_joiners k ps None i h = absurd cc
-  at_joiners k ps (Some js) i h = subst (λ (w : NetworkState). MovesJoiners e n c w) (made_state h) (record {
+  at_joiners k ps (Some js) i h = subst (λ (w : NetworkState). MovesJoiners e cap n c w) (made_state h) (record {
     machines = λ q lt apart.
         let within : q < length (with_machines n.machines js) = subst (λ l. q < l) (sym (joined_length n.machines js)) lt in
-        get_before (with_machines n.machines js) (served e c n.sid k.serve) q within ∙ joined_other n.machines js q (joiners_off e n c n.sid q apart ps js i);
+        get_before (with_machines n.machines js) (served e c n.sid k.serve) q within ∙ joined_other n.machines js q (joiners_off e cap n c n.sid q apart ps js i);
     queues = λ t. refl;
   })
 
@@ -220,25 +220,25 @@ module _ (e : Endpoints) (n : NetworkState) (c : NameId) (x : Event) (m : Networ
 -- ---- either
 
 module _ (e : Endpoints) (hosts : Hosts) (cap : Option ℕ) (n m : NetworkState) (p : ℕ) (x : Event) (h : Head) where
-  from_alone : MovesAlone n p h m → LeavesOthers e n p h m
+  from_alone : MovesAlone n p h m → LeavesOthers e cap n p h m
   from_alone a = record { machines = λ q lt other. a.machines q other.another; queues = a.queues }
 
-  from_start : (c r : NameId) → head.Join c r ≡ h → MovesJoiners e n c m → LeavesOthers e n p h m
+  from_start : (c r : NameId) → head.Join c r ≡ h → MovesJoiners e cap n c m → LeavesOthers e cap n p h m
   from_start c r is s = record { machines = λ q lt other. s.machines q lt (other.apart (Channel c) (ap touched_by (sym is))); queues = λ t apart. s.queues t }
 
   -- where the process stands at this place, it makes what is made there
-  at_place : (v : ℤ) (w : Machine) → slice_get n.machines p ≡ Some w → (o : Option Place) → place_of e w ≡ o → place_head o ≡ Some h → chosen_at e cap n p v o ≡ Some (Makes x m) → LeavesOthers e n p h m
+  at_place : (v : ℤ) (w : Machine) → slice_get n.machines p ≡ Some w → (o : Option Place) → place_of e w ≡ o → place_head o ≡ Some h → chosen_at e cap n p v o ≡ Some (Makes x m) → LeavesOthers e cap n p h m
   at_place v w there None i g made = absurd cc
   at_place v w there (Some q) i g made = at_node q.node q.sessions i g made
     where
-      acts : (node : CodeNode) (ss : Sessions) → place_of e w ≡ Some (record { node = node; sessions = ss }) → node_head ss node ≡ Some h → makes e cap n p v ≡ Some (Makes x m) → LeavesOthers e n p h m
+      acts : (node : CodeNode) (ss : Sessions) → place_of e w ≡ Some (record { node = node; sessions = ss }) → node_head ss node ≡ Some h → makes e cap n p v ≡ Some (Makes x m) → LeavesOthers e cap n p h m
       acts node ss i g made =
           let here : node_makes cap n p v w.vars ss node ≡ Some (Makes x m) = sym (ap (machine_makes e cap n p v) there ∙ ap (place_makes cap n p v w.vars) i) ∙ made in
           from_alone (node_alone n p h x m cap v w.vars ss node g here)
 
       at_node : (node : CodeNode) (ss : Sessions) → place_of e w ≡ Some (record { node = node; sessions = ss }) → node_head ss node ≡ Some h
-          → chosen_at e cap n p v (Some (record { node = node; sessions = ss })) ≡ Some (Makes x m) → LeavesOthers e n p h m
-      at_node (Join c r k next) ss i g made = let is : head.Join c r ≡ h = cc in from_start c r is (starts_on e n c x m p r (channel_of e.channels c) made)
+          → chosen_at e cap n p v (Some (record { node = node; sessions = ss })) ≡ Some (Makes x m) → LeavesOthers e cap n p h m
+      at_node (Join c r k next) ss i g made = let is : head.Join c r ≡ h = cc in from_start c r is (starts_on e cap n c x m p r (channel_of e.channels c) made)
       at_node (Send k b y next) ss i g made = acts (Send k b y next) ss i g made
       at_node (Recv k b y next) ss i g made = acts (Recv k b y next) ss i g made
       at_node (Pick k b l next) ss i g made = acts (Pick k b l next) ss i g made
@@ -253,7 +253,7 @@ module _ (e : Endpoints) (hosts : Hosts) (cap : Option ℕ) (n m : NetworkState)
       at_node End ss i g made = acts End ss i g made
 
   -- By an event of a process no other has moved, and no other queue has changed
-  pub others_left : IsAt e n p h → Chooses e hosts cap n p x m → LeavesOthers e n p h m
+  pub others_left : IsAt e n p h → Chooses e hosts cap n p x m → LeavesOthers e cap n p h m
   others_left at chooses =
       at_place chooses.answer at.machine at.there (place_of e at.machine) refl at.head
       (subst (λ (o : Option Machine). chosen_at e cap n p chooses.answer (place_at e o) ≡ Some (Makes x m)) at.there chooses.made)

@@ -7,21 +7,21 @@ use Rattle.std.specs.FinMap as fin
 use Rattle.chor_base.specs.declared.names.NameId.{NameId}
 use Rattle.chor_base.specs.declared.value.Load.{Load}
 use Rattle.chor_base.specs.declared.event.Why.{Why}
-use Rattle.chor_base.specs.declared.event.Why.TheVariants.{Absent}
+use Rattle.chor_base.specs.declared.event.Why.TheVariants.{Absent, Full}
 use Rattle.chor_base.specs.NameMap.{Variables}
 use Rattle.endpoint_code.specs.declared.code.CodeNode.{CodeNode}
 use Rattle.endpoint_code.specs.declared.code.CodeNode.TheVariants.{Join, Send, Recv, Pick, Branch, Throw, Catch, Set, Show, Host, If, Call, End}
 use Rattle.endpoint_code.specs.declared.endpoints.Channel.{Channel as ChannelCode}
 use Rattle.endpoint_code.specs.declared.endpoints.Endpoints.{Endpoints}
-use Rattle.endpoint_code.specs.Network.{Sessions, Machine, NetworkState, Place, Taking, queue_of, place_of, channel_of}
+use Rattle.endpoint_code.specs.Network.{Sessions, Machine, NetworkState, Place, Taking, queue_of, has_room, place_of, channel_of}
 use Rattle.endpoint_code.specs.NetworkRuns.{has_ended, joins_there, is_joined, absent_among, absent_on, waits_to_send, waits_for_first, waits_to_receive, node_waits, place_waits}
 use Rattle.endpoint_code.specs.Scheduled.{is_listed, listed_at}
 use Rattle.endpoint_machine.specs.declared.head.Head.{Head}
 use Rattle.endpoint_machine.specs.declared.head.Head.TheVariants as head
-use Rattle.endpoint_machine.specs.Heads.{head_of, place_head, node_head, takes_on}
+use Rattle.endpoint_machine.specs.Heads.{head_of, place_head, node_head, sends_on, takes_on}
 use Rattle.waiting_processes.specs.declared.waits.Awaited.{Awaited}
 use Rattle.waiting_processes.specs.declared.waits.Awaited.TheVariants.{Queue, Channel}
-use Rattle.waiting_processes.specs.Waits.{awaited_by, touched_by, awaited_of, awaited_in, awaited_at}
+use Rattle.waiting_processes.specs.Waits.{awaits_room, awaited_by, touched_by, awaited_of, awaited_in, awaited_at}
 use Rattle.waiting_processes.specs.Untouched.{IsAt, IsOther, IsUnmoved, LeavesOthers, NobodyCame, listed_in}
 
 -- what a process may wait for is the same in both states
@@ -30,7 +30,7 @@ IsAlike e n m None = Unit {0}
 IsAlike e n m (Some (Queue s a b)) = queue_of m (s, a, b) ≡ queue_of n (s, a, b)
 IsAlike e n m (Some (Channel c)) = (r : NameId) → is_joined e m.machines c r ≡ is_joined e n.machines c r
 
-module _ (e : Endpoints) (n m : NetworkState) where
+module _ (e : Endpoints) (cap : Option ℕ) (n m : NetworkState) where
   absent_alike : (c own : NameId) → ((r : NameId) → is_joined e m.machines c r ≡ is_joined e n.machines c r) → (rs : List NameId) → absent_among e m.machines c own rs ≡ absent_among e n.machines c own rs
   absent_alike c own same [] = refl
   absent_alike c own same (r ∷ rs) =
@@ -41,19 +41,23 @@ module _ (e : Endpoints) (n m : NetworkState) where
   absent_on_alike c own same None = refl
   absent_on_alike c own same (Some k) = absent_alike c own same k.active
 
-  sends_alike : (b : NameId) (o : Option (ℕ × NameId)) → waits_to_send None m b o ≡ waits_to_send None n b o
-  sends_alike b None = refl
-  sends_alike b (Some (s, a)) = refl
+  sends_alike : (b : NameId) (o : Option (ℕ × NameId)) → IsAlike e n m (awaited_of cap (sends_on o b)) → waits_to_send cap m b o ≡ waits_to_send cap n b o
+  sends_alike b None same = refl
+  sends_alike b (Some (s, a)) same = go cap same
+    where
+      go : (c : Option ℕ) → IsAlike e n m (awaits_room c (Queue s a b)) → waits_to_send c m b (Some (s, a)) ≡ waits_to_send c n b (Some (s, a))
+      go None h = refl
+      go (Some c) h = ap (λ (q : List Load). cond (has_room (Some c) q) None (Some (Full s a b))) h
 
-  receives_alike : (a : NameId) (o : Option (ℕ × NameId)) (f : Load → Option Taking) → IsAlike e n m (awaited_of (takes_on o a)) → waits_to_receive m a o f ≡ waits_to_receive n a o f
+  receives_alike : (a : NameId) (o : Option (ℕ × NameId)) (f : Load → Option Taking) → IsAlike e n m (awaited_of cap (takes_on o a)) → waits_to_receive m a o f ≡ waits_to_receive n a o f
   receives_alike a None f same = refl
   receives_alike a (Some (s, b)) f same = ap (waits_for_first s a b f) same
 
-  node_alike : (vars : Variables) (ss : Sessions) (node : CodeNode) → IsAlike e n m (awaited_of (node_head ss node)) → node_waits e None m vars ss node ≡ node_waits e None n vars ss node
+  node_alike : (vars : Variables) (ss : Sessions) (node : CodeNode) → IsAlike e n m (awaited_of cap (node_head ss node)) → node_waits e cap m vars ss node ≡ node_waits e cap n vars ss node
   node_alike vars ss (Join c r k next) same = absent_on_alike c r same (channel_of e.channels c)
-  node_alike vars ss (Send k b x next) same = sends_alike b (fin.get ss k.0)
-  node_alike vars ss (Pick k b l next) same = sends_alike b (fin.get ss k.0)
-  node_alike vars ss (Throw k b h next) same = sends_alike b (fin.get ss k.0)
+  node_alike vars ss (Send k b x next) same = sends_alike b (fin.get ss k.0) same
+  node_alike vars ss (Pick k b l next) same = sends_alike b (fin.get ss k.0) same
+  node_alike vars ss (Throw k b h next) same = sends_alike b (fin.get ss k.0) same
   node_alike vars ss (Recv k a x next) same = receives_alike a (fin.get ss k.0) _ same
   node_alike vars ss (Branch k a arms) same = receives_alike a (fin.get ss k.0) _ same
   node_alike vars ss (Catch k a h next) same = receives_alike a (fin.get ss k.0) _ same
@@ -64,28 +68,28 @@ module _ (e : Endpoints) (n m : NetworkState) where
   node_alike vars ss (Call f p ks) same = refl
   node_alike vars ss End same = refl
 
-  place_alike : (vars : Variables) (o : Option Place) → IsAlike e n m (awaited_of (place_head o)) → place_waits e None m vars o ≡ place_waits e None n vars o
+  place_alike : (vars : Variables) (o : Option Place) → IsAlike e n m (awaited_of cap (place_head o)) → place_waits e cap m vars o ≡ place_waits e cap n vars o
   place_alike vars None same = refl
   place_alike vars (Some q) same = node_alike vars q.sessions q.node same
 
-  listed_alike : (w : Machine) → IsAlike e n m (awaited_of (head_of e w)) → is_listed e None m w ≡ is_listed e None n w
+  listed_alike : (w : Machine) → IsAlike e n m (awaited_of cap (head_of e w)) → is_listed e cap m w ≡ is_listed e cap n w
   listed_alike w same = ap (λ (o : Option Why). cond (has_ended e w) false (cond (is_some o) false true) && listed_at e (place_of e w)) (place_alike w.vars (place_of e w) same)
 
   -- the same machine
-  pub stays_listed : (p : ℕ) → IsUnmoved n m p → IsAlike e n m (awaited_at e n p) → listed_in e m (slice_get m.machines p) ≡ listed_in e n (slice_get n.machines p)
-  stays_listed p same alike = ap (listed_in e m) same ∙ go (slice_get n.machines p) alike
+  pub stays_listed : (p : ℕ) → IsUnmoved n m p → IsAlike e n m (awaited_at e cap n p) → listed_in e cap m (slice_get m.machines p) ≡ listed_in e cap n (slice_get n.machines p)
+  stays_listed p same alike = ap (listed_in e cap m) same ∙ go (slice_get n.machines p) alike
     where
-      go : (o : Option Machine) → IsAlike e n m (awaited_in e o) → listed_in e m o ≡ listed_in e n o
+      go : (o : Option Machine) → IsAlike e n m (awaited_in e cap o) → listed_in e cap m o ≡ listed_in e cap n o
       go None h = refl
       go (Some w) h = listed_alike w h
 
 -- ---- who joins a channel
 
-pub joining_head : (o : _) (c r : NameId) → joins_there o c r ≡ true → awaited_of (place_head o) ≡ Some (Channel c)
-joining_head None c r h = absurd cc
-joining_head (Some p) c r h = at_node p.node p.sessions h
+pub joining_head : (cap : Option ℕ) (o : _) (c r : NameId) → joins_there o c r ≡ true → awaited_of cap (place_head o) ≡ Some (Channel c)
+joining_head cap None c r h = absurd cc
+joining_head cap (Some p) c r h = at_node p.node p.sessions h
   where
-    at_node : (node : CodeNode) (ss : Sessions) → joins_there (Some (record { node = node; sessions = ss })) c r ≡ true → awaited_of (node_head ss node) ≡ Some (Channel c)
+    at_node : (node : CodeNode) (ss : Sessions) → joins_there (Some (record { node = node; sessions = ss })) c r ≡ true → awaited_of cap (node_head ss node) ≡ Some (Channel c)
     at_node (Join d q k next) ss i = ap (λ (j : ℕ). Some (Channel (let name : NameId = record { 0 = j } in name))) (eqb-true d.0 c.0 (and_parts (d.0 == c.0) (q.0 == r.0) i).0)
     at_node (Send k b y next) ss i = absurd cc
     at_node (Recv k b y next) ss i = absurd cc
@@ -132,45 +136,49 @@ both_ways false false f g = refl
 
 -- ---- a process that an event leaves
 
-module _ (e : Endpoints) (n m : NetworkState) (p : ℕ) (h : Head) (at : IsAt e n p h) (left : LeavesOthers e n p h m) where
+module _ (e : Endpoints) (cap : Option ℕ) (n m : NetworkState) (p : ℕ) (h : Head) (at : IsAt e n p h) (left : LeavesOthers e cap n p h m) where
   -- who joins the channel that another joins, before or after, hasn't moved
-  came : (q : ℕ) (c : NameId) → IsOther e n p h q → awaited_at e n q ≡ Some (Channel c) → NobodyCame e n m (Some (Channel c)) → (r : NameId) → is_joined e m.machines c r ≡ is_joined e n.machines c r
+  came : (q : ℕ) (c : NameId) → IsOther e cap n p h q → awaited_at e cap n q ≡ Some (Channel c) → NobodyCame e cap n m (Some (Channel c)) → (r : NameId) → is_joined e m.machines c r ≡ is_joined e n.machines c r
   came q c other waits nobody r = both_ways (is_joined e m.machines c r) (is_joined e n.machines c r) before after
     where
       before : is_joined e m.machines c r ≡ true → is_joined e n.machines c r ≡ true
       before j =
           let f = joiner_of e m.machines c r j in
-          let waits : awaited_at e m f.place ≡ Some (Channel c) = ap (awaited_in e) f.there ∙ joining_head (place_of e f.machine) c r f.joins in
+          let waits : awaited_at e cap m f.place ≡ Some (Channel c) = ap (awaited_in e cap) f.there ∙ joining_head cap (place_of e f.machine) c r f.joins in
           joined_of e n.machines c r f.place f.machine (sym (nobody f.place waits) ∙ f.there) f.joins
 
       untouched : touched_by h ≡ Some (Channel c) → ⊥
       untouched t = other.apart (Channel c) t waits
 
-      own_joins : awaited_in e (Some at.machine) ≡ Some (Channel c) → touched_by h ≡ Some (Channel c)
-      own_joins w = go h (sym (ap awaited_of at.head) ∙ w)
+      own_joins : awaited_in e cap (Some at.machine) ≡ Some (Channel c) → touched_by h ≡ Some (Channel c)
+      own_joins w = go h (sym (ap (awaited_of cap) at.head) ∙ w)
         where
-          go : (k : Head) → awaited_by k ≡ Some (Channel c) → touched_by k ≡ Some (Channel c)
+          go : (k : Head) → awaited_by cap k ≡ Some (Channel c) → touched_by k ≡ Some (Channel c)
           go (head.Take s a b) i = i
           go (head.Join d o) i = i
-          go (head.Out s a b) i = absurd cc
+          go (head.Out s a b) i = absurd (room cap i)
+            where
+              room : (o : Option ℕ) → awaits_room o (Queue s a b) ≡ Some (Channel c) → ⊥
+              room None j = cc
+              room (Some k) j = cc
           go head.Local i = absurd cc
           go head.Ended i = absurd cc
 
       after : is_joined e n.machines c r ≡ true → is_joined e m.machines c r ≡ true
       after j =
           let f = joiner_of e n.machines c r j in
-          let here : awaited_at e n f.place ≡ Some (Channel c) = ap (awaited_in e) f.there ∙ joining_head (place_of e f.machine) c r f.joins in
-          let another : IsOther e n p h f.place = record {
-            another = λ is. untouched (own_joins (sym (ap (awaited_in e) at.there) ∙ sym (ap (awaited_at e n) is) ∙ here));
+          let here : awaited_at e cap n f.place ≡ Some (Channel c) = ap (awaited_in e cap) f.there ∙ joining_head cap (place_of e f.machine) c r f.joins in
+          let another : IsOther e cap n p h f.place = record {
+            another = λ is. untouched (own_joins (sym (ap (awaited_in e cap) at.there) ∙ sym (ap (awaited_at e cap n) is) ∙ here));
             apart = λ w t k. untouched (t ∙ sym k ∙ here);
           } in
           joined_of e m.machines c r f.place f.machine (left.machines f.place (slice_get_within n.machines f.place f.machine f.there) another ∙ f.there) f.joins
 
-  alike : (q : ℕ) → IsOther e n p h q → (w : Option Awaited) → awaited_at e n q ≡ w → NobodyCame e n m w → IsAlike e n m w
+  alike : (q : ℕ) → IsOther e cap n p h q → (w : Option Awaited) → awaited_at e cap n q ≡ w → NobodyCame e cap n m w → IsAlike e n m w
   alike q other None waits nobody = tt
   alike q other (Some (Queue s a b)) waits nobody = left.queues (s, a, b) (λ t. other.apart (Queue s a b) t waits)
   alike q other (Some (Channel c)) waits nobody = came q c other waits nobody
 
   -- Each other process is listed where it was, unless another has come to the channel that it joins
-  pub others_listed : (q : ℕ) → q < length n.machines → IsOther e n p h q → NobodyCame e n m (awaited_at e n q) → listed_in e m (slice_get m.machines q) ≡ listed_in e n (slice_get n.machines q)
-  others_listed q lt other nobody = stays_listed e n m q (left.machines q lt other) (alike q other (awaited_at e n q) refl nobody)
+  pub others_listed : (q : ℕ) → q < length n.machines → IsOther e cap n p h q → NobodyCame e cap n m (awaited_at e cap n q) → listed_in e cap m (slice_get m.machines q) ≡ listed_in e cap n (slice_get n.machines q)
+  others_listed q lt other nobody = stays_listed e cap n m q (left.machines q lt other) (alike q other (awaited_at e cap n q) refl nobody)

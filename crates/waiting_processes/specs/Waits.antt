@@ -8,13 +8,19 @@ use Rattle.endpoint_machine.specs.Heads.{head_of}
 use Rattle.waiting_processes.specs.declared.waits.Awaited.{Awaited}
 use Rattle.waiting_processes.specs.declared.waits.Awaited.TheVariants.{Queue, Channel}
 
--- what a process may wait for at a head: a load on the queue that it takes from, or partners on the channel that it joins
-abbrev pub awaited_by : Head → Option Awaited
-awaited_by (head.Take s a b) = Some (Queue s a b)
-awaited_by (head.Join c r) = Some (Channel c)
-awaited_by (head.Out s a b) = None
-awaited_by head.Local = None
-awaited_by head.Ended = None
+-- a sender waits for its queue only where the queues have a capacity
+abbrev pub awaits_room : Option ℕ → Awaited → Option Awaited
+awaits_room None w = None
+awaits_room (Some c) w = Some w
+
+-- what a process may wait for at a head: a load on the queue that it takes from, partners on the channel that it joins, or
+-- under a capacity room on the queue that it sends on
+abbrev pub awaited_by : Option ℕ → Head → Option Awaited
+awaited_by cap (head.Take s a b) = Some (Queue s a b)
+awaited_by cap (head.Join c r) = Some (Channel c)
+awaited_by cap (head.Out s a b) = awaits_room cap (Queue s a b)
+awaited_by cap head.Local = None
+awaited_by cap head.Ended = None
 
 -- what others may wait for that an event at a head changes: the queue that it sends on or takes from, or who joins a channel
 abbrev pub touched_by : Head → Option Awaited
@@ -24,14 +30,14 @@ touched_by (head.Out s a b) = Some (Queue s a b)
 touched_by head.Local = None
 touched_by head.Ended = None
 
-abbrev pub awaited_of : Option Head → Option Awaited
-awaited_of None = None
-awaited_of (Some h) = awaited_by h
+abbrev pub awaited_of : Option ℕ → Option Head → Option Awaited
+awaited_of cap None = None
+awaited_of cap (Some h) = awaited_by cap h
 
-abbrev pub awaited_in : Endpoints → Option Machine → Option Awaited
-awaited_in e None = None
-awaited_in e (Some m) = awaited_of (head_of e m)
+abbrev pub awaited_in : Endpoints → Option ℕ → Option Machine → Option Awaited
+awaited_in e cap None = None
+awaited_in e cap (Some m) = awaited_of cap (head_of e m)
 
--- what process q may wait for where it stands
-abbrev pub awaited_at : Endpoints → NetworkState → ℕ → Option Awaited
-awaited_at e n q = awaited_in e (slice_get n.machines q)
+-- what process q may wait for where it stands, under a capacity
+abbrev pub awaited_at : Endpoints → Option ℕ → NetworkState → ℕ → Option Awaited
+awaited_at e cap n q = awaited_in e cap (slice_get n.machines q)

@@ -9,19 +9,20 @@ use endpoint_machine::Head;
 /// What a process may wait for.
 #[derive(Clone, Copy, Debug, PartialEq, Eq, Hash)]
 pub enum Awaited {
-    /// A load on the queue of a session from one role to another.
+    /// A load on the queue of a session from one role to another, or room on it.
     Queue(u32, NameId, NameId),
     /// Partners that join a channel.
     Channel(NameId),
 }
 
-/// What a process may wait for at a head.
-pub fn awaited_by(head: Head) -> Option<Awaited>
-    ensures { result ≡ awaited_by head }
+/// What a process may wait for at a head, where queues have this capacity.
+pub fn awaited_by(capacity: Option<u32>, head: Head) -> Option<Awaited>
+    ensures { result ≡ awaited_by capacity head }
 {
     match head {
         Head::Take(sid, from, to) => Some(Awaited::Queue(sid, from, to)),
         Head::Join(channel, _) => Some(Awaited::Channel(channel)),
+        Head::Out(sid, from, to) if capacity.is_some() => Some(Awaited::Queue(sid, from, to)),
         _ => None,
     }
 }
@@ -32,6 +33,6 @@ pub fn touched_by(head: Head) -> Option<Awaited>
 {
     match head {
         Head::Out(sid, from, to) => Some(Awaited::Queue(sid, from, to)),
-        _ => awaited_by(head),
+        _ => awaited_by(None, head),
     }
 }

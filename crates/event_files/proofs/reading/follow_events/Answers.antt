@@ -1,4 +1,4 @@
-use Rattle.std.proofs.Common.{arith, sym, subst}
+use Rattle.std.proofs.Common.{ℕ, Option, None, arith, sym, subst}
 use Rattle.chor_host.specs.Functions.{hosts_in}
 use Rattle.chor_host.specs.Tables.{functions_of}
 use Rattle.endpoint_code.specs.declared.endpoints.Endpoints.{Endpoints}
@@ -10,7 +10,7 @@ use Rattle.event_files.proofs.reading.follow_events.Goals as goal
 pub loop-line-init : goal.loop-line-init
 loop-line-init g c =
     let e = c.args.endpoints.now in
-    begun (words c.args.book.now) e (hosts_in e.names (functions_of c.args.hosts.now)) c.args.bytes.now c.in_ok-network.network c.in_ok-network.ensures.endpoints c.in_ok-network.ensures.state c.requires.few c.requires.serve c.requires.processes
+    begun (words c.args.book.now) e (hosts_in e.names (functions_of c.args.hosts.now)) c.args.bytes.now c.in_ok-network.network c.in_ok-network.ensures.endpoints c.in_ok-network.ensures.capacity c.in_ok-network.ensures.state c.requires.few c.requires.serve c.requires.processes
 
 pub overflow_add-count : goal.overflow_add-count
 overflow_add-count g c =
@@ -37,7 +37,7 @@ returns-in-Unmatched g c =
     let a = c.loop-line.invariant in
     let x = c.in-Ok.event in
     unmatched (words c.args.book.now) e (hosts_in e.names fs) c.args.bytes.now c.requires.book c.loop-line.rest.now c.in-Some.after.now c.in-Some.line.now c.loop-line.count x v a c.requires.few c.in-Some.ensures.lines c.in-Ok.ensures.0 c.in-Ok.ensures.1
-    (λ step. c.in-Unmatched.ensures.0 (subst (λ (b : Endpoints). IsStep b (hosts_in b.names fs) v.state x) (sym a.endpoints) step))
+    (λ step. c.in-Unmatched.ensures.0 (subst (λ (k : Option ℕ). IsStep v.endpoints (hosts_in v.endpoints.names fs) k v.state x) (sym a.capacity) (subst (λ (b : Endpoints). IsStep b (hosts_in b.names fs) None v.state x) (sym a.endpoints) step)))
 
 pub overflow_add-count-in-Some : goal.overflow_add-count-in-Some
 overflow_add-count-in-Some g c =
@@ -53,7 +53,7 @@ loop-line-preserved-in-Did g c =
     let a = c.loop-line.invariant in
     let x = c.in-Ok.event in
     let did = subst (λ (b : Endpoints). HasFollowed (hosts_in b.names fs) v x c.follow.new.self) a.endpoints c.in-Did.ensures.0 in
-    along_more (words c.args.book.now) e (hosts_in e.names fs) c.args.bytes.now c.loop-line.rest.now c.in-Some.after.now c.in-Some.line.now c.loop-line.count x v c.follow.new.self c.forget.new.self a c.in-Some.ensures.lines c.in-Some.ensures.shorter c.in-Ok.ensures.0 c.in-Ok.ensures.1 did c.in-Did.ensures.1 c.forget.ensures.endpoints c.forget.ensures.state
+    along_more (words c.args.book.now) e (hosts_in e.names fs) c.args.bytes.now c.loop-line.rest.now c.in-Some.after.now c.in-Some.line.now c.loop-line.count x v c.follow.new.self c.forget.new.self a c.in-Some.ensures.lines c.in-Some.ensures.shorter c.in-Ok.ensures.0 c.in-Ok.ensures.1 did c.in-Did.ensures.1 c.forget.ensures.endpoints c.forget.ensures.capacity c.forget.ensures.state
 
 pub loop-line-preserved : goal.loop-line-preserved
 loop-line-preserved g c =
@@ -63,4 +63,4 @@ loop-line-preserved g c =
     let a = c.loop-line.invariant in
     let x = c.in-Ok.event in
     let did = subst (λ (b : Endpoints). HasFollowed (hosts_in b.names fs) v x c.follow.new.self) a.endpoints c.in-Did.ensures.0 in
-    along_more (words c.args.book.now) e (hosts_in e.names fs) c.args.bytes.now c.loop-line.rest.now c.in-Some.after.now c.in-Some.line.now c.loop-line.count x v c.follow.new.self c.forget.new.self a c.in-Some.ensures.lines c.in-Some.ensures.shorter c.in-Ok.ensures.0 c.in-Ok.ensures.1 did c.in-Did.ensures.1 c.forget.ensures.endpoints c.forget.ensures.state
+    along_more (words c.args.book.now) e (hosts_in e.names fs) c.args.bytes.now c.loop-line.rest.now c.in-Some.after.now c.in-Some.line.now c.loop-line.count x v c.follow.new.self c.forget.new.self a c.in-Some.ensures.lines c.in-Some.ensures.shorter c.in-Ok.ensures.0 c.in-Ok.ensures.1 did c.in-Did.ensures.1 c.forget.ensures.endpoints c.forget.ensures.capacity c.forget.ensures.state

@@ -4,7 +4,7 @@ use Rattle.chor_base.specs.declared.value.Load.{Load}
 use Rattle.chor_base.specs.declared.event.Event.TheVariants as event
 use Rattle.chor_base.specs.Events.{Triple}
 use Rattle.endpoint_code.specs.Network.{NetworkState, Makes, with_loads, loads_for}
-use Rattle.net_core.specs.Lanes.{loads_in}
+use Rattle.post_office.specs.Lanes.{loads_in}
 use Rattle.net_core.proofs.acts.send.Goals as goal
 
 pub returns-clause-moves : goal.returns-clause-moves

@@ -16,5 +16,5 @@ loop-pid-preserved c =
     let v = c.args.network.now in
     let i = c.loop-pid.pid-index in
     let ps = c.args.pids.now in
-    subst (λ (l : List ℕ). Judges v.endpoints v.state c.args.listed.now l c.judge.new.listed) (sym (take_more ps i 0 c.loop-pid-test.true))
-    (judged_more v.endpoints v.state c.args.listed.now c.loop-pid.listed c.judge.new.listed (take i ps) (get_or ps i 0) c.loop-pid.invariant c.judge.ensures)
+    subst (λ (l : List ℕ). Judges v.endpoints v.capacity v.state c.args.listed.now l c.judge.new.listed) (sym (take_more ps i 0 c.loop-pid-test.true))
+    (judged_more v.endpoints v.capacity v.state c.args.listed.now c.loop-pid.listed c.judge.new.listed (take i ps) (get_or ps i 0) c.loop-pid.invariant c.judge.ensures)

@@ -1,7 +1,7 @@
-use Rattle.std.proofs.Common.{◌≡◌, ◌∙◌, sym, ap, subst, Some, List, ℕ}
+use Rattle.std.proofs.Common.{◌≡◌, ◌∙◌, sym, ap, subst, Option, Some, List, ℕ}
 use Rattle.waiting_processes.specs.declared.waits.Awaited.{Awaited}
 use Rattle.waiting_processes.specs.declared.waits.Awaited.TheVariants.{Channel}
-use Rattle.waiting_processes.specs.Waits.{awaited_at}
+use Rattle.waiting_processes.specs.Waits.{awaited_at, awaited_by}
 use Rattle.net_core.specs.Candidates.{IsIn, Judges}
 use Rattle.net_core.proofs.Anew.{awaits, renewed_channel}
 use Rattle.net_core.proofs.candidates.renew.Goals as goal
@@ -13,8 +13,9 @@ pub returns-in-Some-Channel : goal.returns-in-Some-Channel
 returns-in-Some-Channel c =
     let v = c.args.network.now in
     let e = v.endpoints in
+    let cap = v.capacity in
     let n = v.state in
     let p = c.args.pid in
-    let is : awaited_at e n p ≡ Some (Channel c.in-Some-Channel.channel) = awaits e n p c.head-head.result c.head-head.ensures ∙ sym c.in-Some-Channel.ensures ∙ ap (λ (a : Awaited). Some a) c.in-Some-Channel.field-0-is in
-    renewed_channel e n c.args.done c.args.waiting.now c.args.listed.now c.judge.new.listed c.judge_all.new.listed p c.in-Some-Channel.channel c.requires.lists c.judge.ensures is
-    (subst (λ (l : List ℕ). Judges e n c.judge.new.listed l c.judge_all.new.listed) c.get-joiners.ensures c.judge_all.ensures)
+    let is : awaited_at e cap n p ≡ Some (Channel c.in-Some-Channel.channel) = awaits e cap n p c.head-head.result c.head-head.ensures ∙ ap (λ (k : Option ℕ). awaited_by k c.head-head.result) (sym c.capacity.ensures) ∙ sym c.in-Some-Channel.ensures ∙ ap (λ (a : Awaited). Some a) c.in-Some-Channel.field-0-is in
+    renewed_channel e cap n c.args.done c.args.waiting.now c.args.listed.now c.judge.new.listed c.judge_all.new.listed p c.in-Some-Channel.channel c.requires.lists c.judge.ensures is
+    (subst (λ (l : List ℕ). Judges e cap n c.judge.new.listed l c.judge_all.new.listed) c.get-joiners.ensures c.judge_all.ensures)

@@ -13,5 +13,5 @@ loop-pid-preserved c =
     let v = c.args.network.now in
     let i = c.loop-pid.pid-index in
     let ps = c.args.pids.now in
-    subst (λ (l : List ℕ). Renews v.endpoints v.state c.args.done c.args.listed.now l c.renew.new.listed) (sym (take_more ps i 0 c.loop-pid-test.true))
-    (renewed_more v.endpoints v.state c.args.done c.args.listed.now c.loop-pid.listed c.renew.new.listed (take i ps) (get_or ps i 0) c.loop-pid.invariant c.renew.ensures)
+    subst (λ (l : List ℕ). Renews v.endpoints v.capacity v.state c.args.done c.args.listed.now l c.renew.new.listed) (sym (take_more ps i 0 c.loop-pid-test.true))
+    (renewed_more v.endpoints v.capacity v.state c.args.done c.args.listed.now c.loop-pid.listed c.renew.new.listed (take i ps) (get_or ps i 0) c.loop-pid.invariant c.renew.ensures)

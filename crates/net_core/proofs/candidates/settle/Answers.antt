@@ -6,10 +6,11 @@ pub returns : goal.returns
 returns c =
     let v = c.args.network.now in
     let e = v.endpoints in
+    let cap = v.capacity in
     let n = v.state in
     let p = c.args.pid in
-    let one = judged_one e n c.args.listed.now c.set.new.self p c.is_listed.result c.requires.there c.requires.places c.is_listed.ensures c.set.ensures in
+    let one = judged_one e cap n c.args.listed.now c.set.new.self p c.is_listed.result c.requires.there c.requires.places c.is_listed.ensures c.set.ensures in
     record {
       kept = record { count = one.count; stays = one.stays; judged = λ q i. absurd (in_none q i) };
-      settled = λ f. settled_one e n c.set.new.self p c.args.head c.requires.shows (sym c.is_joining.ensures ∙ c.if-is_joining.false) (one.judged p (0, refl));
+      settled = λ f. settled_one e cap n c.set.new.self p c.args.head c.requires.shows (sym c.is_joining.ensures ∙ c.if-is_joining.false) (one.judged p (0, refl));
     }

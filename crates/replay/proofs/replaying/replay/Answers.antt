@@ -12,7 +12,7 @@ use Rattle.replay.proofs.replaying.replay.Goals as goal
 pub loop-place-init : goal.loop-place-init
 loop-place-init g c =
     let e = c.args.endpoints.now in
-    begun e (hosts_in e.names (functions_of c.args.hosts.now)) c.args.events.now c.in_ok-network.network c.in_ok-network.ensures.endpoints c.in_ok-network.ensures.state c.requires.few c.requires.numbers
+    begun e (hosts_in e.names (functions_of c.args.hosts.now)) c.args.events.now c.in_ok-network.network c.in_ok-network.ensures.endpoints c.in_ok-network.ensures.capacity c.in_ok-network.ensures.state c.requires.few c.requires.numbers
 
 pub returns-in-Unmatched : goal.returns-in-Unmatched
 returns-in-Unmatched g c =
@@ -22,7 +22,7 @@ returns-in-Unmatched g c =
     let u = c.loop-place.invariant in
     let x = c.index-events-place.result in
     unmatched e (hosts_in e.names fs) c.args.events.now c.loop-place.place x v c.loop-place-test.true u
-    (λ step. c.in-Unmatched.ensures.0 (subst (λ (a : Endpoints). IsStep v.endpoints (hosts_in a.names fs) v.state x) (sym u.endpoints) (subst (IsStep v.endpoints (hosts_in e.names fs) v.state) (sym c.index-events-place.is) step)))
+    (λ step. c.in-Unmatched.ensures.0 (subst (λ (a : Endpoints). IsStep v.endpoints (hosts_in a.names fs) v.capacity v.state x) (sym u.endpoints) (subst (IsStep v.endpoints (hosts_in e.names fs) v.capacity v.state) (sym c.index-events-place.is) step)))
 
 pub loop-place-preserved : goal.loop-place-preserved
 loop-place-preserved g c =
@@ -33,7 +33,7 @@ loop-place-preserved g c =
     let x = c.index-events-place.result in
     let followed = subst (λ (y : Event). HasFollowed (hosts_in e.names fs) v y c.follow.new.self) c.index-events-place.is (subst (λ (a : Endpoints). HasFollowed (hosts_in a.names fs) v x c.follow.new.self) u.endpoints c.in-Did.ensures.0) in
     let more = underway_more e (hosts_in e.names fs) c.args.events.now c.loop-place.place x v c.follow.new.self c.loop-place-test.true u followed c.in-Did.ensures.1 in
-    forgotten e (hosts_in e.names fs) c.args.events.now (c.loop-place.place + 1) c.follow.new.self c.forget.new.self more c.forget.ensures.endpoints c.forget.ensures.state
+    forgotten e (hosts_in e.names fs) c.args.events.now (c.loop-place.place + 1) c.follow.new.self c.forget.new.self more c.forget.ensures.endpoints c.forget.ensures.capacity c.forget.ensures.state
 
 pub returns : goal.returns
 returns g c =

@@ -12,4 +12,4 @@ invariant_of-result c =
     let same : steps - length v.history ≡ steps - (0 + length v.history) = omega arith in
     let counted = subst (λ (k : ℕ). FitsMore v k) same fits in
     let none : length v.history ≡ 0 = (λ i. length (begun.history i)) in
-    record { seed = c.requires.seed; few = c.requires.few; within = omega arith; sessions = counted.sid; processes = counted.machines }
+    record { capacity = begun.capacity; seed = c.requires.seed; few = c.requires.few; within = omega arith; sessions = counted.sid; processes = counted.machines }

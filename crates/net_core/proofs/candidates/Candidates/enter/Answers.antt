@@ -1,6 +1,6 @@
-use Rattle.std.proofs.Common.{◌≡◌, ◌∙◌, sym, ap, None, Some, Bool}
+use Rattle.std.proofs.Common.{◌≡◌, ◌∙◌, sym, ap, Option, None, Some, Bool, ℕ}
 use Rattle.std.specs.Prelude.{not, slice_set}
-use Rattle.waiting_processes.specs.Waits.{awaited_at}
+use Rattle.waiting_processes.specs.Waits.{awaited_at, awaited_by}
 use Rattle.net_core.proofs.Anew.{awaits, entered_one, added, adds, adds_below}
 use Rattle.net_core.proofs.candidates.Candidates.enter.Goals as goal
 
@@ -8,26 +8,28 @@ pub returns-in_ok-add-in-Some : goal.returns-in_ok-add-in-Some
 returns-in_ok-add-in-Some c =
     let v = c.args.network.now in
     let e = v.endpoints in
+    let cap = v.capacity in
     let n = v.state in
     let p = c.args.pid in
     let old = c.args.self.now in
-    let is : awaited_at e n p ≡ Some c.in-Some.awaited = awaits e n p c.head-head.result c.head-head.ensures ∙ sym c.in-Some.ensures in
+    let is : awaited_at e cap n p ≡ Some c.in-Some.awaited = awaits e cap n p c.head-head.result c.head-head.ensures ∙ ap (λ (k : Option ℕ). awaited_by k c.head-head.result) (sym c.capacity.ensures) ∙ sym c.in-Some.ensures in
     let put = c.in_ok-add-in-Some.ensures in
-    entered_one e n old (record { listed = c.settle-joins.new.listed; unended = c.set.new.self; waiting = c.add.new.self }) p c.settle-joins.result c.requires.there c.requires.places c.settle-joins.ensures.kept c.settle-joins.ensures.settled
+    entered_one e cap n old (record { listed = c.settle-joins.new.listed; unended = c.set.new.self; waiting = c.add.new.self }) p c.settle-joins.result c.requires.there c.requires.places c.settle-joins.ensures.kept c.settle-joins.ensures.settled
     (c.set.ensures ∙ ap (λ (b : Bool). slice_set old.unended p (not b)) (c.has_ended.ensures ∙ sym c.head-head.ensures.ended))
-    (added e n old.waiting c.add.new.self c.in-Some.awaited p put is)
-    (adds e n old.waiting c.add.new.self c.in-Some.awaited p put)
-    (adds_below e n old.waiting c.add.new.self c.in-Some.awaited p put _ c.requires.there c.requires.places.within)
+    (added e cap n old.waiting c.add.new.self c.in-Some.awaited p put is)
+    (adds e cap n old.waiting c.add.new.self c.in-Some.awaited p put)
+    (adds_below e cap n old.waiting c.add.new.self c.in-Some.awaited p put _ c.requires.there c.requires.places.within)
 
 pub returns-in-None : goal.returns-in-None
 returns-in-None c =
     let v = c.args.network.now in
     let e = v.endpoints in
+    let cap = v.capacity in
     let n = v.state in
     let p = c.args.pid in
     let old = c.args.self.now in
-    let is : awaited_at e n p ≡ None = awaits e n p c.head-head.result c.head-head.ensures ∙ sym c.in-None.ensures in
-    entered_one e n old (record { listed = c.settle-joins.new.listed; unended = c.set.new.self; waiting = old.waiting }) p c.settle-joins.result c.requires.there c.requires.places c.settle-joins.ensures.kept c.settle-joins.ensures.settled
+    let is : awaited_at e cap n p ≡ None = awaits e cap n p c.head-head.result c.head-head.ensures ∙ ap (λ (k : Option ℕ). awaited_by k c.head-head.result) (sym c.capacity.ensures) ∙ sym c.in-None.ensures in
+    entered_one e cap n old (record { listed = c.settle-joins.new.listed; unended = c.set.new.self; waiting = old.waiting }) p c.settle-joins.result c.requires.there c.requires.places c.settle-joins.ensures.kept c.settle-joins.ensures.settled
     (c.set.ensures ∙ ap (λ (b : Bool). slice_set old.unended p (not b)) (c.has_ended.ensures ∙ sym c.head-head.ensures.ended))
     (λ w i. let z : None ≡ Some w = sym is ∙ i in absurd cc)
     (λ w q i. i)

@@ -13,5 +13,5 @@ loop-pid-preserved c =
     let v = c.args.network.now in
     let i = c.loop-pid.pid-index in
     let ps = c.args.pids.now in
-    subst (λ (l : List ℕ). Enters v.endpoints v.state c.args.self.now l (c.loop-pid.joins || c.in_ok-also.also) c.enter.new.self) (sym (take_more ps i 0 c.loop-pid-test.true))
-    (entered_more v.endpoints v.state c.args.self.now c.loop-pid.self c.enter.new.self (take i ps) (get_or ps i 0) c.loop-pid.joins c.in_ok-also.also c.loop-pid.invariant c.in_ok-also.ensures)
+    subst (λ (l : List ℕ). Enters v.endpoints v.capacity v.state c.args.self.now l (c.loop-pid.joins || c.in_ok-also.also) c.enter.new.self) (sym (take_more ps i 0 c.loop-pid-test.true))
+    (entered_more v.endpoints v.capacity v.state c.args.self.now c.loop-pid.self c.enter.new.self (take i ps) (get_or ps i 0) c.loop-pid.joins c.in_ok-also.also c.loop-pid.invariant c.in_ok-also.ensures)

@@ -6,5 +6,5 @@ loop-pid-preserved c =
     let v = c.args.network.now in
     record {
       places = c.in_ok-enter.ensures.places;
-      noted = entered_next v.endpoints v.state c.loop-pid.self c.enter.new.self c.loop-pid.pid _ c.in_ok-enter.ensures c.loop-pid.invariant.noted;
+      noted = entered_next v.endpoints v.capacity v.state c.loop-pid.self c.enter.new.self c.loop-pid.pid _ c.in_ok-enter.ensures c.loop-pid.invariant.noted;
     }

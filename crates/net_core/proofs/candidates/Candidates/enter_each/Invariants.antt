@@ -6,5 +6,5 @@ use Rattle.net_core.proofs.candidates.Candidates.enter_each.Given as goal
 abbrev pub invariant-loop-pid : goal.invariant-loop-pid
 invariant-loop-pid l = record {
   places : HasPlaces (length l.network.state.machines) l.self;
-  noted : (q : ℕ) → q < l.pid → IsNoted l.network.endpoints l.network.state l.self q;
+  noted : (q : ℕ) → q < l.pid → IsNoted l.network.endpoints l.network.capacity l.network.state l.self q;
 }

@@ -8,5 +8,5 @@ invariant-loop-pid l = record {
   unended : l.self.unended ≡ l.fn.self.unended;
   waiting : l.self.waiting ≡ l.fn.self.waiting;
   count : length l.self.listed ≡ length l.fn.self.listed;
-  judged : (q : ℕ) → q < l.pid → IsJudged l.network.endpoints l.network.state l.self.listed q;
+  judged : (q : ℕ) → q < l.pid → IsJudged l.network.endpoints l.network.capacity l.network.state l.self.listed q;
 }

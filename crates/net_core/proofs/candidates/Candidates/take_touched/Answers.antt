@@ -12,24 +12,24 @@ loop-pid-init c =
     let old = c.args.self.now.waiting in
     let taken = c.take_waiting-pids.result.items in
     let takes = c.take_waiting-pids.ensures.takes in
-    let below = waiting_below past old c.take_waiting-pids.new.self.waiting taken takes c.args.count c.requires.places.within in
+    let below = waiting_below c.args.capacity past old c.take_waiting-pids.new.self.waiting taken takes c.args.count c.requires.places.within in
     elim c.if-is_none.branch [
       | then-is_none+in_ok-push w ↦
           (let is = ap (λ (v : Vec ℕ Global). v.items) w.pids-is ∙ w.in_ok-push.ensures.items in
           let lt : past.pid < c.args.count = let a = c.requires.there in let b = c.requires.kept in omega arith in
           record {
-            touched = touched_own past old c.take_waiting-pids.new.self.waiting taken takes c.if-is_none.pids.items is;
+            touched = touched_own c.args.capacity past old c.take_waiting-pids.new.self.waiting taken takes c.if-is_none.pids.items is;
             below = below_more c.args.count taken c.if-is_none.pids.items past.pid below lt is;
           })
       | else-is_none w ↦
           (let is = ap (λ (v : Vec ℕ Global). v.items) w.pids-is in
-          let some : awaited_by past.head ≡ None → ⊥ = λ i.
-          (let a : is_some (awaited_by past.head) ≡ true = sym (ap is_some c.awaited_by.ensures) ∙ c.is_none.ensures ∙ ap not w.if-is_none.false in
-          let b : is_some (awaited_by past.head) ≡ false = ap is_some i in
+          let some : awaited_by c.args.capacity past.head ≡ None → ⊥ = λ i.
+          (let a : is_some (awaited_by c.args.capacity past.head) ≡ true = sym (ap is_some c.awaited_by.ensures) ∙ c.is_none.ensures ∙ ap not w.if-is_none.false in
+          let b : is_some (awaited_by c.args.capacity past.head) ≡ false = ap is_some i in
           cc)
           in
           record {
-            touched = subst (λ (l : List ℕ). HasTouched past past.count old l) (sym is) (touched_waiting past old c.take_waiting-pids.new.self.waiting taken takes some);
+            touched = subst (λ (l : List ℕ). HasTouched c.args.capacity past past.count old l) (sym is) (touched_waiting c.args.capacity past old c.take_waiting-pids.new.self.waiting taken takes some);
             below = subst (AreBelow c.args.count) (sym is) below;
           })
     ]
@@ -38,7 +38,7 @@ pub loop-pid-preserved : goal.loop-pid-preserved
 loop-pid-preserved c =
     let lt : c.loop-pid.pid < c.args.count = c.loop-pid-test.true in
     record {
-      touched = touched_more c.args.past c.loop-pid.pid c.args.self.now.waiting c.loop-pid.pids.items c.push-in-loop-pid.new.self.items c.loop-pid.invariant.touched c.in_ok-push-2.ensures.items;
+      touched = touched_more c.args.capacity c.args.past c.loop-pid.pid c.args.self.now.waiting c.loop-pid.pids.items c.push-in-loop-pid.new.self.items c.loop-pid.invariant.touched c.in_ok-push-2.ensures.items;
       below = below_more c.args.count c.loop-pid.pids.items c.push-in-loop-pid.new.self.items c.loop-pid.pid c.loop-pid.invariant.below lt c.in_ok-push-2.ensures.items;
     }
 
@@ -48,6 +48,6 @@ returns c =
     let last : c.loop-pid.pid ≤ c.args.count = c.loop-pid.auto.pid-end c.requires.kept in
     let past_last : c.args.count ≤ c.loop-pid.pid = c.loop-pid-test.false in
     let all : c.loop-pid.pid ≡ c.args.count = omega arith in
-    takes_touched past c.args.count c.args.self.now c.take_waiting-pids.new.self c.take_waiting-pids.result.items c.loop-pid.pids.items c.requires.places c.take_waiting-pids.ensures.listed c.take_waiting-pids.ensures.unended c.take_waiting-pids.ensures.takes
-    (subst (λ (k : ℕ). HasTouched past k c.args.self.now.waiting c.loop-pid.pids.items) all c.loop-pid.invariant.touched)
+    takes_touched c.args.capacity past c.args.count c.args.self.now c.take_waiting-pids.new.self c.take_waiting-pids.result.items c.loop-pid.pids.items c.requires.places c.take_waiting-pids.ensures.listed c.take_waiting-pids.ensures.unended c.take_waiting-pids.ensures.takes
+    (subst (λ (k : ℕ). HasTouched c.args.capacity past k c.args.self.now.waiting c.loop-pid.pids.items) all c.loop-pid.invariant.touched)
     c.loop-pid.invariant.below

@@ -1,4 +1,4 @@
-use Rattle.std.proofs.Common.{◌∙◌, ◌+◌, ◌<◌, sym, refl, ap, subst, ◌≡◌, None, Some, List, ℕ, length, true, inl, arith}
+use Rattle.std.proofs.Common.{◌∙◌, ◌+◌, ◌<◌, sym, refl, ap, subst, ◌≡◌, Option, Some, List, ℕ, length, true, inl, arith}
 use Rattle.std.specs.Prelude.{slice_get}
 use Rattle.chor_host.specs.Functions.{hosts_in}
 use Rattle.chor_host.specs.Tables.{functions_of}
@@ -15,26 +15,26 @@ use Rattle.net_core.proofs.Runs.{picked_steps, none_picked, stuck_closes}
 use Rattle.net_core.proofs.few.FewKept.turn.Goals as goal
 
 -- the process that is picked among those listed is there and can step
-picked_among : (e : Endpoints) (n : NetworkState) (seed events p : ℕ) (pids : List ℕ) → pids ≡ listed e None n → Some p ≡ picked_of pids (seed + events) → (p < length n.machines) × (steps_at e n p ≡ true)
-picked_among e n seed events p pids lists is = picked_steps e n seed events p (sym (is ∙ ap (λ (l : List ℕ). picked_of l (seed + events)) lists))
+picked_among : (e : Endpoints) (cap : Option ℕ) (n : NetworkState) (seed events p : ℕ) (pids : List ℕ) → pids ≡ listed e cap n → Some p ≡ picked_of pids (seed + events) → (p < length n.machines) × (steps_at e cap n p ≡ true)
+picked_among e cap n seed events p pids lists is = picked_steps e cap n seed events p (sym (is ∙ ap (λ (l : List ℕ). picked_of l (seed + events)) lists))
 
 -- the head that is still kept of a process tells of it
 shown_kept : (e : Endpoints) (n : NetworkState) (p : ℕ) (heads kept : List Head) (h : Head) → EachStands e n → ShowsAll e n heads → kept ≡ heads → slice_get kept p ≡ Some h → Shows e n p h
 shown_kept e n p heads kept h stand all same is = shown_in e n p heads h stand all (ap (λ (l : List Head). slice_get l p) (sym same) ∙ is)
 
 pub returns-in_default : goal.returns-in_default
-returns-in_default g c = record { turns = inl (record { endpoints = refl; state = refl; history = refl }); kept = λ i. absurd cc }
+returns-in_default g c = record { turns = inl (record { endpoints = refl; capacity = refl; state = refl; history = refl }); kept = λ i. absurd cc }
 
 pub returns-then-ended : goal.returns-then-ended
 returns-then-ended g c = record {
-  turns = record { same = record { endpoints = refl; state = refl; history = refl }; closes = ended (sym c.in-Ok.ensures.ended ∙ c.if-ended.true) };
+  turns = record { same = record { endpoints = refl; capacity = refl; state = refl; history = refl }; closes = ended (sym c.in-Ok.ensures.ended ∙ c.if-ended.true) };
   kept = λ i. absurd cc;
 }
 
 pub returns-then-events-steps : goal.returns-then-events-steps
 returns-then-events-steps g c = record {
   turns = record {
-    same = record { endpoints = refl; state = refl; history = refl };
+    same = record { endpoints = refl; capacity = refl; state = refl; history = refl };
     closes = limit (sym c.in-Ok.ensures.ended ∙ c.if-ended.false) (sym c.events.ensures.events ∙ c.if-events-steps.true);
   };
   kept = λ i. absurd cc;
@@ -43,15 +43,15 @@ returns-then-events-steps g c = record {
 pub stuck-requires-clause-none : goal.stuck-requires-clause-none
 stuck-requires-clause-none g c =
     let v = c.args.network.now in
-    let all = listed v.endpoints None v.state in
-    none_listed v.endpoints v.state c.in-Ok.ensures.stand (none_picked all _ (sym (ap (λ (l : List ℕ). picked_of l (c.args.seed + c.events-2.result)) c.in-Ok.ensures.listed) ∙ sym c.pick.ensures ∙ c.in_default-pick.is))
+    let all = listed v.endpoints v.capacity v.state in
+    none_listed v.endpoints v.capacity v.state c.in-Ok.ensures.stand (none_picked all _ (sym (ap (λ (l : List ℕ). picked_of l (c.args.seed + c.events-2.result)) c.in-Ok.ensures.listed) ∙ sym c.pick.ensures ∙ c.in_default-pick.is))
 
 pub returns-in_default-pick : goal.returns-in_default-pick
 returns-in_default-pick g c =
     let v = c.args.network.now in
-    let all = listed v.endpoints None v.state in
-    let none : none_can_step v.endpoints None v.state v.state.machines ≡ true =
-    none_listed v.endpoints v.state c.in-Ok.ensures.stand (none_picked all _ (sym (ap (λ (l : List ℕ). picked_of l (c.args.seed + c.events-2.result)) c.in-Ok.ensures.listed) ∙ sym c.pick.ensures ∙ c.in_default-pick.is)) in
+    let all = listed v.endpoints v.capacity v.state in
+    let none : none_can_step v.endpoints v.capacity v.state v.state.machines ≡ true =
+    none_listed v.endpoints v.capacity v.state c.in-Ok.ensures.stand (none_picked all _ (sym (ap (λ (l : List ℕ). picked_of l (c.args.seed + c.events-2.result)) c.in-Ok.ensures.listed) ∙ sym c.pick.ensures ∙ c.in_default-pick.is)) in
     record {
       turns = stuck_closes (hosts_in v.endpoints.names (functions_of c.args.hosts.now)) c.args.seed c.args.steps v c.stuck.result c.stuck.ensures (λ h. c.if-events-steps.false (c.events.ensures.events ∙ h)) none;
       kept = λ i. absurd cc;
@@ -60,14 +60,14 @@ returns-in_default-pick g c =
 pub head-head-requires : goal.head-head-requires
 head-head-requires g c =
     let v = c.args.network.now in
-    let there = (picked_among v.endpoints v.state c.args.seed c.events-2.result c.in-Some.pid _ c.in-Ok.ensures.listed c.in-Some.ensures).0 in
+    let there = (picked_among v.endpoints v.capacity v.state c.args.seed c.events-2.result c.in-Some.pid _ c.in-Ok.ensures.listed c.in-Some.ensures).0 in
     subst (λ (k : ℕ). c.in-Some.pid < k) (sym {A = ℕ} (ap length c.in-Ok.ensures.kept ∙ c.requires.kept.count)) there
 
 pub go-requires-clause-there : goal.go-requires-clause-there
-go-requires-clause-there g c = let v = c.args.network.now in (picked_among v.endpoints v.state c.args.seed c.events-2.result c.in-Some.pid _ c.in-Ok.ensures.listed c.in-Some.ensures).0
+go-requires-clause-there g c = let v = c.args.network.now in (picked_among v.endpoints v.capacity v.state c.args.seed c.events-2.result c.in-Some.pid _ c.in-Ok.ensures.listed c.in-Some.ensures).0
 
 pub go-requires-clause-steps : goal.go-requires-clause-steps
-go-requires-clause-steps g c = let v = c.args.network.now in (picked_among v.endpoints v.state c.args.seed c.events-2.result c.in-Some.pid _ c.in-Ok.ensures.listed c.in-Some.ensures).1
+go-requires-clause-steps g c = let v = c.args.network.now in (picked_among v.endpoints v.capacity v.state c.args.seed c.events-2.result c.in-Some.pid _ c.in-Ok.ensures.listed c.in-Some.ensures).1
 
 pub go-requires-clause-shows : goal.go-requires-clause-shows
 go-requires-clause-shows g c =
@@ -77,7 +77,7 @@ go-requires-clause-shows g c =
 pub follow-requires-clause-there : goal.follow-requires-clause-there
 follow-requires-clause-there g c =
     let v = c.args.network.now in
-    let there = (picked_among v.endpoints v.state c.args.seed c.events-2.result c.in-Some.pid _ c.in-Ok.ensures.listed c.in-Some.ensures).0 in
+    let there = (picked_among v.endpoints v.capacity v.state c.args.seed c.events-2.result c.in-Some.pid _ c.in-Ok.ensures.listed c.in-Some.ensures).0 in
     let kept = c.in-Ok-go.ensures.grown.kept in
     omega arith
 

@@ -32,8 +32,8 @@ act-event-requires g c =
       room = room.1;
       queue = room.2;
       goes =
-          acts_freely e i.machines.items i.queues i.sid p m c.args.head t in_it here
-          (subst (λ (v : NetworkView). steps_at v.endpoints v.state p ≡ true) (sym c.self.view_is) c.requires.steps)
+          acts_freely e i.capacity i.machines.items i.queues i.sid p m c.args.head t in_it here
+          (subst (λ (v : NetworkView). steps_at v.endpoints v.capacity v.state p ≡ true) (sym c.self.view_is) c.requires.steps)
           (subst (λ (v : NetworkView). joins_at_all v.endpoints v.state p ≡ false) (sym c.self.view_is) c.requires.alone);
     }
 
@@ -58,10 +58,11 @@ returns-clause-stepped g c =
     let i = c.self.inside in
     let p = c.args.pid in
     let hosts = hosts_in c.args.self.now.endpoints.names (functions_of c.args.hosts.now) in
-    stepped i.machines.items i.queues c.self.view_is hosts _ p c.act-event.result _ refl refl c.append.ensures
-    (alone_chooses i.endpoints.now hosts i.machines.items i.queues c.act-event.new.queues i.sid p c.index_mut-machine.result.now c.act-event.new.machine c.args.head c.act-event.result
+    stepped i.machines.items i.queues c.self.view_is hosts _ p c.act-event.result _ refl refl refl c.append.ensures
+    (alone_chooses i.endpoints.now hosts i.capacity i.machines.items i.queues c.act-event.new.queues i.sid p c.index_mut-machine.result.now c.act-event.new.machine c.args.head c.act-event.result
     (shows_in i.machines.items i.queues c.self.view_is p c.args.head c.requires.shows) c.self.invariant.counted
     (within i.machines.items i.queues c.self.view_is p c.requires.there) c.index_mut-machine.ensures.value
+    (subst (λ (v : NetworkView). steps_at v.endpoints v.capacity v.state p ≡ true) (sym c.self.view_is) c.requires.steps)
     (subst (λ (v : NetworkView). joins_at_all v.endpoints v.state p ≡ false) (sym c.self.view_is) c.requires.alone)
     (subst (λ (v : NetworkView). ActsWith i.endpoints.now (hosts_in v.endpoints.names (functions_of c.args.hosts.now)) i.queues c.index_mut-machine.result.now c.act-event.result c.act-event.new.queues c.act-event.new.machine) c.self.view_is c.act-event.ensures.acts))
 

@@ -3,7 +3,7 @@ use Rattle.chor_base.specs.declared.event.Entry.{Entry}
 use Rattle.chor_base.specs.declared.event.Event.TheVariants as event
 use Rattle.endpoint_code.specs.Network.{NetworkState}
 use Rattle.session_starts.specs.Machines.{standing_of}
-use Rattle.net_core.specs.Lanes.{loads_in}
+use Rattle.post_office.specs.Lanes.{loads_in}
 use Rattle.net_core.proofs.Fields.{has_begun, numbers_left}
 use Rattle.net_core.proofs.network.Network.begin.Goals as goal
 
@@ -14,7 +14,7 @@ pub returns-clause-ok : goal.returns-clause-ok
 returns-clause-ok c =
     let i = c.self.inside in
     let ns = map standing_of c.start_session.new.machines.items in
-    has_begun i.machines.items i.queues c.self.view_is _ c.args.channel.now c.args.parts c.in_ok-parts.parts ns refl
+    has_begun i.machines.items i.queues c.self.view_is _ c.args.channel.now c.args.parts c.in_ok-parts.parts ns refl refl
     (ap (λ (k : ℕ). let n : NetworkState = record { machines = ns; queues = loads_in i.queues.lanes; sid = k } in n) (add-one i.sid))
     (c.append.ensures ∙ ap (λ (es : List Entry). es ++ record { worker = 0; event = event.Start c.args.channel.now.name i.sid c.in_ok-parts.parts } ∷ []) c.in_ok-reserve.ensures.items)
     c.in_ok-parts.ensures.parts

@@ -10,17 +10,17 @@ pub returns-then-not-can_make : goal.returns-then-not-can_make
 returns-then-not-can_make g c =
     let v = c.args.self.now in
     let hosts = hosts_in v.endpoints.names (functions_of c.args.hosts.now) in
-    (no_step v.endpoints hosts v.state c.args.pid c.args.event.now c.requires.maker (λ may. let yes : c.can_make.result ≡ true = c.can_make.ensures.1 may in let no : c.can_make.result ≡ false = c.if-not-can_make.true in let clash : true ≡ false = sym yes ∙ no in cc), record { endpoints = refl; state = refl; history = refl })
+    (no_step v.endpoints hosts v.capacity v.state c.args.pid c.args.event.now c.requires.maker (λ may. let yes : c.can_make.result ≡ true = c.can_make.ensures.1 may in let no : c.can_make.result ≡ false = c.if-not-can_make.true in let clash : true ≡ false = sym yes ∙ no in cc), record { endpoints = refl; capacity = refl; state = refl; history = refl })
 
 pub go-requires-clause-there : goal.go-requires-clause-there
 go-requires-clause-there g c =
     let v = c.args.self.now in
-    may_within v.endpoints (hosts_in v.endpoints.names (functions_of c.args.hosts.now)) v.state c.args.pid c.args.event.now (c.can_make.ensures.0 c.if-not-can_make.false)
+    may_within v.endpoints (hosts_in v.endpoints.names (functions_of c.args.hosts.now)) v.capacity v.state c.args.pid c.args.event.now (c.can_make.ensures.0 c.if-not-can_make.false)
 
 pub go-requires-clause-steps : goal.go-requires-clause-steps
 go-requires-clause-steps g c =
     let v = c.args.self.now in
-    may_step v.endpoints (hosts_in v.endpoints.names (functions_of c.args.hosts.now)) v.state c.args.pid c.args.event.now (c.can_make.ensures.0 c.if-not-can_make.false)
+    may_step v.endpoints (hosts_in v.endpoints.names (functions_of c.args.hosts.now)) v.capacity v.state c.args.pid c.args.event.now (c.can_make.ensures.0 c.if-not-can_make.false)
 
 pub returns-in-Ok : goal.returns-in-Ok
 returns-in-Ok g c =
@@ -32,4 +32,4 @@ pub returns-in-Err : goal.returns-in-Err
 returns-in-Err g c =
     let v = c.args.self.now in
     let hosts = hosts_in v.endpoints.names (functions_of c.args.hosts.now) in
-    (is_step v.endpoints hosts v.state c.args.pid c.args.event.now (c.can_make.ensures.0 c.if-not-can_make.false), c.in-Err.ensures.same)
+    (is_step v.endpoints hosts v.capacity v.state c.args.pid c.args.event.now (c.can_make.ensures.0 c.if-not-can_make.false), c.in-Err.ensures.same)

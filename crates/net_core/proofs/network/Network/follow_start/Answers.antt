@@ -17,8 +17,8 @@ returns-in_default c = λ hosts.
     let none : None ≡ channel_of v.endpoints.channels c.args.channel =
     ap option_copied (sym c.in_default.is) ∙ c.channel_named.ensures ∙ ap (λ (ks : List Channel). channel_of ks c.args.channel) c.as_slice.ensures ∙ ap (λ (w : NetworkView). channel_of w.endpoints.channels c.args.channel) c.self.view_is
     in (
-      λ step. let r = step_casting v.endpoints hosts v.state c.args.channel c.args.sid c.args.parts.now step in let no : None ≡ Some r.0 = none ∙ r.1 in cc,
-      record { endpoints = refl; state = refl; history = refl },
+      λ step. let r = step_casting v.endpoints hosts v.capacity v.state c.args.channel c.args.sid c.args.parts.now step in let no : None ≡ Some r.0 = none ∙ r.1 in cc,
+      record { endpoints = refl; capacity = refl; state = refl; history = refl },
     )
 
 pub may_start-requires : goal.may_start-requires
@@ -35,8 +35,8 @@ may_start-requires c =
 pub returns-then-sid-self : goal.returns-then-sid-self
 returns-then-sid-self c = λ hosts.
     let v = c.args.self.now in (
-      λ step. let r = step_casting v.endpoints hosts v.state c.args.channel c.args.sid c.args.parts.now step in c.if-sid-self.true (r.2 ∙ ap (λ (w : NetworkView). w.state.sid) (sym c.self.view_is)),
-      record { endpoints = refl; state = refl; history = refl },
+      λ step. let r = step_casting v.endpoints hosts v.capacity v.state c.args.channel c.args.sid c.args.parts.now step in c.if-sid-self.true (r.2 ∙ ap (λ (w : NetworkView). w.state.sid) (sym c.self.view_is)),
+      record { endpoints = refl; capacity = refl; state = refl; history = refl },
     )
 
 pub returns-then-not-may_start : goal.returns-then-not-may_start
@@ -47,14 +47,14 @@ returns-then-not-may_start c = λ hosts.
     sym (c.in-Some.ensures ∙ ap (λ (ks : List Channel). channel_of ks c.args.channel) c.as_slice.ensures ∙ ap (λ (w : NetworkView). channel_of w.endpoints.channels c.args.channel) c.self.view_is)
     in (
       λ step.
-          let r = step_casting v.endpoints hosts v.state c.args.channel c.args.sid c.args.parts.now step in
+          let r = step_casting v.endpoints hosts v.capacity v.state c.args.channel c.args.sid c.args.parts.now step in
           let both : Some r.0 ≡ Some k = sym r.1 ∙ found in
           let same : r.0 ≡ k = cc in
           let yes : c.may_start.result ≡ true = c.may_start.ensures.1 (subst (λ (x : Channel). IsCasting v.endpoints v.state.machines x c.args.parts.now) same r.3) in
           let no : c.may_start.result ≡ false = c.if-not-may_start.true in
           let clash : true ≡ false = sym yes ∙ no in
           cc,
-      record { endpoints = refl; state = refl; history = refl },
+      record { endpoints = refl; capacity = refl; state = refl; history = refl },
     )
 
 pub begin_with-requires-clause-channel : goal.begin_with-requires-clause-channel
@@ -92,6 +92,6 @@ returns-in-Err c = λ hosts.
     let here = subst (λ (x : NameId). channel_of v.endpoints.channels x ≡ Some k) (sym named) found in
     let cast = c.may_start.ensures.0 c.if-not-may_start.false in
     let number = c.if-sid-self.false ∙ ap (λ (w : NetworkView). w.state.sid) c.self.view_is in (
-      subst (IsStep v.endpoints hosts v.state) (same_start v.state k c.args.channel c.args.sid c.args.parts.now c.args.parts.now named number refl) (casting_step v.endpoints hosts v.state k c.args.parts.now here cast),
+      subst (IsStep v.endpoints hosts v.capacity v.state) (same_start v.state k c.args.channel c.args.sid c.args.parts.now c.args.parts.now named number refl) (casting_step v.endpoints hosts v.capacity v.state k c.args.parts.now here cast),
       c.in-Err.ensures.err,
     )

@@ -56,18 +56,18 @@ returns-in-Local g c =
     let same = stands_there e i.machines.items i.queues i.sid p m t.node t.stands in_it c.index-machine.ensures in
     let stands = subst (λ (k : Machine). StandsAt e k t.node t.stands.sessions) same t.stands.at_node in
     let number : m.number ≡ p = c.self.invariant.counted p m.number (mapped_at number_of i.machines.items p m in_it c.index-machine.ensures) in
-    let both = may_acting e hosts (state_of i.machines.items i.queues i.sid) p m.machine t.node t.stands.sessions x (runner_at i.machines.items p m in_it c.index-machine.ensures) stands shown in
-    subst (λ (v : NetworkView). (IsTrue c.may.result → MayMake v.endpoints (hosts_in v.endpoints.names (functions_of c.args.hosts.now)) v.state p x) × (MayMake v.endpoints (hosts_in v.endpoints.names (functions_of c.args.hosts.now)) v.state p x → IsTrue c.may.result)) c.self.view_is
+    let both = may_acting e hosts i.capacity (state_of i.machines.items i.queues i.sid) p m.machine t.node t.stands.sessions x (runner_at i.machines.items p m in_it c.index-machine.ensures) stands shown in
+    subst (λ (v : NetworkView). (IsTrue c.may.result → MayMake v.endpoints (hosts_in v.endpoints.names (functions_of c.args.hosts.now)) v.capacity v.state p x) × (MayMake v.endpoints (hosts_in v.endpoints.names (functions_of c.args.hosts.now)) v.capacity v.state p x → IsTrue c.may.result)) c.self.view_is
     (λ h. both.0 (subst (λ (k : ℕ). CanMake e hosts k m.machine x) number (c.may.ensures.0 h)), λ may. c.may.ensures.1 (subst (λ (k : ℕ). CanMake e hosts k m.machine x) (sym number) (both.1 may)))
 
 pub returns-in-Join : goal.returns-in-Join
 returns-in-Join g c =
     let v = c.args.self.now in
     let hosts = hosts_in v.endpoints.names (functions_of c.args.hosts.now) in
-    (λ (h : false ≡ true). absurd cc, λ may. sym (may_alone v.endpoints hosts v.state c.args.pid c.args.event.now may) ∙ c.in-Join.ensures.joining)
+    (λ (h : false ≡ true). absurd cc, λ may. sym (may_alone v.endpoints hosts v.capacity v.state c.args.pid c.args.event.now may) ∙ c.in-Join.ensures.joining)
 
 pub returns-in-Ended : goal.returns-in-Ended
 returns-in-Ended g c =
     let v = c.args.self.now in
     let hosts = hosts_in v.endpoints.names (functions_of c.args.hosts.now) in
-    (λ (h : false ≡ true). absurd cc, λ may. absurd (steps_no_end v.endpoints v.state c.args.pid (may_step v.endpoints hosts v.state c.args.pid c.args.event.now may) c.in-Ended.ensures.ended))
+    (λ (h : false ≡ true). absurd cc, λ may. absurd (steps_no_end v.endpoints v.capacity v.state c.args.pid (may_step v.endpoints hosts v.capacity v.state c.args.pid c.args.event.now may) c.in-Ended.ensures.ended))

@@ -5,15 +5,16 @@ use Rattle.chor_base.specs.Events.{Triple}
 use Rattle.endpoint_code.specs.Network.{Machine, NetworkState}
 use Rattle.endpoint_machine.specs.Heads.{head_of}
 use Rattle.endpoint_machine.specs.Bound.{IsBound}
-use Rattle.net_core.specs.Lanes.{loads_in}
+use Rattle.post_office.specs.Lanes.{loads_in}
 use Rattle.session_starts.specs.Machines.{standing_of, is_reserved}
 use Rattle.net_core.specs.Machines.{has_queue_room}
 use Rattle.net_core.specs.Views.{NetworkView, has_room}
-use Rattle.net_core.proofs.Lanes.{on_both}
+use Rattle.net_core.proofs.Answered.{on_both}
 use Rattle.net_core.proofs.Fields.{within, shows_in, same_but_room}
 use Rattle.net_core.proofs.Scopes.{bound_at}
 use Rattle.net_core.proofs.Alone.{head_there, sound_after}
-use Rattle.net_core.proofs.Rooms.{set_mapped_at, kept_after, room_stays, mapped_put, room_made, room_known, reserved_room, reserved_first}
+use Rattle.post_office.proofs.Lanes.{mapped_put}
+use Rattle.net_core.proofs.Rooms.{set_mapped_at, kept_after, room_stays, room_made, room_known, reserved_room, reserved_first}
 use Rattle.net_core.proofs.network.Network.reserve_for.Goals as goal
 
 pub returns-in_err-reserve-clause-succeeds : goal.returns-in_err-reserve-clause-succeeds
@@ -47,7 +48,7 @@ returns-clause-same c =
     let i = c.self.inside in
     let p = c.args.pid in
     let machines = mapped_put standing_of i.machines.items p c.index_mut-machine.result.now c.reserve-2.new.machine (within i.machines.items i.queues c.self.view_is p c.requires.there) c.index_mut-machine.ensures.value c.reserve-2.ensures.machine in
-    same_but_room i.machines.items i.queues c.self.view_is _ refl
+    same_but_room i.machines.items i.queues c.self.view_is _ refl refl
     (ap (λ (ms : List Machine). let n : NetworkState = record { machines = ms; queues = loads_in c.reserve-2.new.queues.lanes; sid = i.sid } in n) machines
     ∙ ap (λ (qs : List (Triple × List Load)). let n : NetworkState = record { machines = map standing_of i.machines.items; queues = qs; sid = i.sid } in n) c.reserve-2.ensures.loads)
     c.reserve.ensures.items

@@ -10,7 +10,7 @@ use Rattle.net_core.specs.Heads.{Shows}
 use Rattle.net_core.specs.Starts.{IsCast}
 use Rattle.net_core.specs.Views.{NetworkView}
 use Rattle.net_core.specs.Steps.{HasBegun}
-use Rattle.net_core.proofs.Lanes.{on_ok}
+use Rattle.net_core.proofs.Answered.{on_ok}
 use Rattle.net_core.proofs.Fields.{grown_begun}
 use Rattle.net_core.proofs.Casts.{cast_joins, cast_apart}
 use Rattle.net_core.proofs.Begins.{stands_joining, channel_distinct, channel_named, begins, join_stands, join_channel}
@@ -65,7 +65,7 @@ returns-clause-ok c =
       event = _;
       state = _;
       becomes = h.becomes;
-      chooses = begins v.endpoints hosts v.state c.args.pid c.in-Join.channel c.in-Join.own t.0 t.1 k c.in_ok-parts.parts h.machines t.2 found cast h.started;
+      chooses = begins v.endpoints hosts v.capacity v.state c.args.pid c.in-Join.channel c.in-Join.own t.0 t.1 k c.in_ok-parts.parts h.machines t.2 found cast h.started;
     })
     c.begin.ensures.ok
 

@@ -6,4 +6,4 @@ use Rattle.network_tests.proofs.steps.Steps.turn.Goals as goal
 pub go-requires : goal.go-requires
 go-requires g c =
     let n = c.self.inside.network in
-    subst (λ (v : NetworkView). c.in-Some.pid < length v.state.machines) c.self.view_is (picked_steps n.endpoints n.state _ _ _ (sym c.in-Some.ensures.pick)).0
+    subst (λ (v : NetworkView). c.in-Some.pid < length v.state.machines) c.self.view_is (picked_steps n.endpoints n.capacity n.state _ _ _ (sym c.in-Some.ensures.pick)).0

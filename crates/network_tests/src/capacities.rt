@@ -1,0 +1,121 @@
+//! Networks whose queues have a capacity.
+
+ghost use Rattle.chor_host.specs.Functions.{names_of};
+ghost use Rattle.endpoint_code.specs.Faults.{IsFaultlessWith};
+ghost use Rattle.network_tests.specs.Known.{known};
+
+use crate::programs::read;
+use crate::scheduled::is_stepped;
+use crate::steps::Steps;
+use chor_base::{NameId, Why};
+use endpoint_code::Endpoints;
+use endpoint_runs::Closed;
+use std::alloc::Global;
+use std::process::Abort;
+use std::test::Fail;
+use test_programs::lines;
+
+// How many events a run has at most.
+const STEPS: u32 = 60;
+
+// p sends twice, and q receives both.
+const TWICE: &[u8] = b"endpoints 1;
+channel a (A, B);
+process p { join a[A](k); send k B 1; send k B 2; end }
+process q { join a[B](k); recv k A x; recv k A y; end }
+";
+
+// The run of these with room for one message, whatever the seed is.
+const ONE_BY_ONE: &[u8] = b"1 start a #0 A=p B=q
+2 send p #0 A>B 1
+3 recv q #0 A>B 1
+4 send p #0 A>B 2
+5 recv q #0 A>B 2
+";
+
+// p sends twice, and q receives nothing.
+const CROWDED: &[u8] = b"endpoints 1;
+channel a (A, B);
+process p { join a[A](k); send k B 1; send k B 2; end }
+process q { join a[B](k); end }
+";
+
+// Three pairs, of which the first sends three times and the second once.
+const PAIRS: &[u8] = b"endpoints 1;
+channel a (A, B);
+process p { join a[A](k); send k B 1; send k B 2; recv k B x; send k B 3; end }
+process q { join a[B](k); recv k A x; send k A 4; recv k A y; recv k A z; end }
+process r { join a[A](k); send k B 1; send k B 2; recv k B x; send k B 3; end }
+process s { join a[B](k); recv k A x; send k A 4; recv k A y; recv k A z; end }
+process t { join a[A](k); send k B 1; send k B 2; recv k B x; send k B 3; end }
+process u { join a[B](k); recv k A x; send k A 4; recv k A y; recv k A z; end }
+";
+
+// The run by the pick rule under a capacity: how it is closed, how many events it has and their lines.
+#[derive(Drop)]
+struct Told {
+    closed: Closed,
+    count: usize,
+    text: Vec<u8>,
+}
+
+// The run of these programs with this seed, which is the one that is made step by step.
+fn told_under(
+    rt: &impl Abort,
+    alloc: Global,
+    endpoints: &Endpoints,
+    capacity: u32,
+    seed: u32,
+) -> Result<Told, Fail>
+    requires { IsFaultlessWith (names_of known) endpoints.now }
+{
+    let ran = Steps::new(rt, alloc, endpoints, Some(capacity))?;
+    let (closed, history) = ran.finish(rt, seed, STEPS)?;
+    let mut steps = Steps::new(rt, alloc, endpoints, Some(capacity))?;
+    let is_stepped = is_stepped(rt, &mut steps, (seed, STEPS), (closed, history.as_slice()));
+    drop(steps);
+    assert!(rt; is_stepped?, "with seed {seed}");
+    let text = lines(alloc, endpoints, history.as_slice())?;
+    let count = history.len();
+    Ok(Told {
+        closed,
+        count,
+        text,
+    })
+}
+
+#[test]
+fn a_sender_waits_for_room(rt: HostRuntime) -> Result<(), Fail> {
+    let endpoints = read(&rt, rt.alloc(), TWICE)?;
+    for seed in 0..3 {
+        let told = told_under(&rt, rt.alloc(), &endpoints, 1, seed)?;
+        assert!(&rt; told.closed == Closed::Ended);
+        assert!(&rt; told.text.as_slice() == ONE_BY_ONE);
+    }
+    drop(endpoints);
+    Ok(())
+}
+
+#[test]
+fn a_sender_waits_for_ever(rt: HostRuntime) -> Result<(), Fail> {
+    let endpoints = read(&rt, rt.alloc(), CROWDED)?;
+    let told = told_under(&rt, rt.alloc(), &endpoints, 1, 0)?;
+    let from = endpoints.names.find(b"A").unwrap_or(NameId(0));
+    let to = endpoints.names.find(b"B").unwrap_or(NameId(0));
+    drop(endpoints);
+    assert!(&rt; told.count == 2);
+    assert!(&rt; told.closed == Closed::Stuck(0, Why::Full(0, from, to)));
+    Ok(())
+}
+
+#[test]
+fn senders_wait_among_many(rt: HostRuntime) -> Result<(), Fail> {
+    let endpoints = read(&rt, rt.alloc(), PAIRS)?;
+    for seed in 0..13 {
+        let told = told_under(&rt, rt.alloc(), &endpoints, 1, seed)?;
+        assert!(&rt; told.closed == Closed::Ended, "with seed {seed}");
+        assert!(&rt; told.count == 27, "with seed {seed}");
+    }
+    drop(endpoints);
+    Ok(())
+}
