@@ -14,9 +14,14 @@ use std::marker::Model;
 
 /// What some names stand for, each for one thing. Contracts see the finite map from the names'
 /// numbers, and how many names more fit without taking memory.
-#[derive(Drop)]
 pub struct NameMap<V> {
     entries: IndexMap<NameId, V>,
+}
+
+impl<V: Drop> Drop for NameMap<V> {
+    fn drop(self) {
+        let NameMap { entries: _ } = self;
+    }
 }
 
 /// The variables of one process that are set.

@@ -10,9 +10,14 @@ use std::alloc::Global;
 use std::marker::Model;
 
 /// Fewer than 2^32 byte strings, each once. The number of one is its place.
-#[derive(Drop)]
 pub struct Table {
     words: IndexSet<Vec<u8>>,
+}
+
+impl Drop for Table {
+    fn drop(self) {
+        let Table { words: _ } = self;
+    }
 }
 
 impl Model for Table {

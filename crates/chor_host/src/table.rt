@@ -10,11 +10,19 @@ use crate::function::HostFn;
 use chor_base::Names;
 
 /// Host functions, no two of one name. The number of one is its place.
-#[derive(Drop)]
 pub struct HostTable {
     // The names of the functions, in their order.
     names: Names,
     functions: Vec<HostFn>,
     ghost named: { names ≡ names_of (map function_of functions.items) },
     ghost distinct: { AllDistinct names },
+}
+
+impl Drop for HostTable {
+    fn drop(self) {
+        let HostTable {
+            names: _,
+            functions: _,
+        } = self;
+    }
 }

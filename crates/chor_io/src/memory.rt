@@ -11,12 +11,22 @@ use std::alloc::Global;
 use std::marker::Model;
 
 /// Files in memory, of which chosen calls fail.
-#[derive(Drop)]
 pub struct MemoryShelf {
     files: List<(Word, Word)>,
     fails: List<u64>,
     calls: u64,
     failed: FailedNames,
+}
+
+impl Drop for MemoryShelf {
+    fn drop(self) {
+        let MemoryShelf {
+            files: _,
+            fails: _,
+            calls: _,
+            failed: _,
+        } = self;
+    }
 }
 
 impl Model for MemoryShelf {
@@ -112,13 +122,24 @@ impl Shelf for MemoryShelf {
 }
 
 /// Bytes written to memory, of which chosen calls fail.
-#[derive(Drop)]
 pub struct MemorySink {
     bytes: Vec<u8>,
     room: usize,
     fails: List<(u64, u64)>,
     calls: u64,
     failures: u64,
+}
+
+impl Drop for MemorySink {
+    fn drop(self) {
+        let MemorySink {
+            bytes: _,
+            room: _,
+            fails: _,
+            calls: _,
+            failures: _,
+        } = self;
+    }
 }
 
 impl Model for MemorySink {

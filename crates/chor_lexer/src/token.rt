@@ -29,9 +29,15 @@ pub struct Token {
 }
 
 /// The tokens of a file. The last one is `Last`, and no other is.
-#[derive(Debug, Drop)]
+#[derive(Debug)]
 pub struct Tokens {
     pub items: List<Token>,
     pub ghost ended: { IsTrue (is_ended items) },
     pub ghost short: { length items < 2 ^ 32 },
+}
+
+impl Drop for Tokens {
+    fn drop(self) {
+        let Tokens { items: _ } = self;
+    }
 }

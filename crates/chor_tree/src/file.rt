@@ -17,7 +17,6 @@ pub struct Named {
 ///
 /// Its numbers are in its tables, it has an item in each list for which the grammar asks one, and a
 /// node begins one body or follows one other node, and no more.
-#[derive(Drop)]
 pub struct File {
     pub names: Names,
     pub texts: Texts,
@@ -33,6 +32,21 @@ pub struct File {
     ghost kept: { Keeps names texts protocols services procs processes tree.nodes body },
 }
 
+impl Drop for File {
+    fn drop(self) {
+        let File {
+            names: _,
+            texts: _,
+            protocols: _,
+            services: _,
+            procs: _,
+            processes: _,
+            tree: _,
+            body: _,
+        } = self;
+    }
+}
+
 /// A public channel: `service name : protocol (active | serve);`.
 #[derive(Drop)]
 pub struct Service {
@@ -45,12 +59,22 @@ pub struct Service {
 }
 
 /// A procedure with its process parameters and its session parameters.
-#[derive(Drop)]
 pub struct Proc {
     pub name: Named,
     pub params: List<ProcParam>,
     pub sessions: List<SessionParam>,
     pub body: NodeId,
+}
+
+impl Drop for Proc {
+    fn drop(self) {
+        let Proc {
+            name: _,
+            params: _,
+            sessions: _,
+            body: _,
+        } = self;
+    }
 }
 
 /// A process parameter, and the variables that it must have set.

@@ -6,11 +6,20 @@ use std::marker::Model;
 
 /// A protocol with its roles and its states. The first state is the initial one. It has a role and a
 /// state, and each choice of it has a label.
-#[derive(Drop)]
 pub struct Protocol {
     pub name: Named,
     pub roles: List<Named>,
     pub states: List<State>,
+}
+
+impl Drop for Protocol {
+    fn drop(self) {
+        let Protocol {
+            name: _,
+            roles: _,
+            states: _,
+        } = self;
+    }
 }
 
 impl Model for Protocol {

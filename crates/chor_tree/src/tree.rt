@@ -101,10 +101,15 @@ pub enum Form {
 }
 
 /// Nodes, each after those that follow it in the choreography.
-#[derive(Drop)]
 pub struct Tree {
     pub nodes: List<Node>,
     ghost closed: { IsClosed nodes },
+}
+
+impl Drop for Tree {
+    fn drop(self) {
+        let Tree { nodes: _ } = self;
+    }
 }
 
 impl Tree {

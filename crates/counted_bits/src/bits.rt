@@ -15,7 +15,6 @@ use std::marker::Model;
 /// found the last bit is kept, so that `nth` mostly looks at these 16 bits alone where it is asked
 /// for one number after the other. Elsewhere it looks at 16 counts of each level at most, and at one
 /// for each 4,096 bits.
-#[derive(Drop)]
 pub struct CountedBits {
     bits: Vec<bool>,
     total: u32,
@@ -26,6 +25,20 @@ pub struct CountedBits {
     // The block where the last bit was found, and how many set bits stand before it.
     block: usize,
     start: u32,
+}
+
+impl Drop for CountedBits {
+    fn drop(self) {
+        let CountedBits {
+            bits: _,
+            total: _,
+            blocks: _,
+            groups: _,
+            tops: _,
+            block: _,
+            start: _,
+        } = self;
+    }
 }
 
 impl Model for CountedBits {

@@ -22,11 +22,19 @@ struct Span {
 
 /// The holders of roles. A session's roles are held from its start on, and pass to others only by
 /// delegation. Contracts see the list of entries, one for each role of each session.
-#[derive(Drop)]
 pub struct Owners {
     entries: Vec<Held>,
     // A session's entries stand together.
     spans: NameMap<Span>,
+}
+
+impl Drop for Owners {
+    fn drop(self) {
+        let Owners {
+            entries: _,
+            spans: _,
+        } = self;
+    }
 }
 
 impl Model for Owners {

@@ -42,10 +42,15 @@ pub enum CodeNode {
 }
 
 /// Nodes, each after those that follow it.
-#[derive(Drop)]
 pub struct Code {
     pub nodes: List<CodeNode>,
     ghost closed: { IsClosed nodes },
+}
+
+impl Drop for Code {
+    fn drop(self) {
+        let Code { nodes: _ } = self;
+    }
 }
 
 impl Code {

@@ -40,7 +40,6 @@ pub struct Process {
 }
 
 /// Programs for all endpoints, with their tables of names and texts.
-#[derive(Drop)]
 pub struct Endpoints {
     pub names: Names,
     pub texts: Texts,
@@ -52,4 +51,18 @@ pub struct Endpoints {
     pub code: Code,
     ghost inside: { AreInside code.nodes procedures services processes },
     ghost numbered: { AreNumbered names texts channels procedures services processes code.nodes },
+}
+
+impl Drop for Endpoints {
+    fn drop(self) {
+        let Endpoints {
+            names: _,
+            texts: _,
+            channels: _,
+            procedures: _,
+            services: _,
+            processes: _,
+            code: _,
+        } = self;
+    }
 }

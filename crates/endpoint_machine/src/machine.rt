@@ -27,7 +27,6 @@ use std::marker::Model;
 use std::mem::swap;
 
 /// A process of an endpoint program: where it stands, its variables and its sessions.
-#[derive(Drop)]
 pub struct Machine {
     pub(crate) number: u32,
     pub(crate) at: CodeId,
@@ -37,6 +36,19 @@ pub struct Machine {
     pub(crate) beyond: Bindings,
     // Where the procedure stands that the process calls here, or has called last.
     called: usize,
+}
+
+impl Drop for Machine {
+    fn drop(self) {
+        let Machine {
+            number: _,
+            at: _,
+            vars: _,
+            sessions: _,
+            beyond: _,
+            called: _,
+        } = self;
+    }
 }
 
 impl Model for Machine {

@@ -18,11 +18,16 @@ pub struct Binding {
 
 /// The sessions of a process by their names. Contracts see the finite map from the names' numbers,
 /// and how many names more fit without taking memory.
-#[derive(Drop)]
 pub struct Bindings {
     items: Vec<Binding>,
     // The first of them once more, so that a look at it needs no memory of the list.
     first: Option<Binding>,
+}
+
+impl Drop for Bindings {
+    fn drop(self) {
+        let Bindings { items: _, first: _ } = self;
+    }
 }
 
 impl Model for Bindings {

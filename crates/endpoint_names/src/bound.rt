@@ -11,9 +11,14 @@ use std::alloc::Global;
 use std::marker::Model;
 
 // The sessions that are bound on a path, the last one first.
-#[derive(Drop)]
 pub struct Bound {
     names: Vec<NameId>,
+}
+
+impl Drop for Bound {
+    fn drop(self) {
+        let Bound { names: _ } = self;
+    }
 }
 
 impl Model for Bound {

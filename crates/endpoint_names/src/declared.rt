@@ -15,7 +15,6 @@ use endpoint_reader::{Channel, Named, Procedure, Service, Signature, Written};
 use std::alloc::Global;
 
 // A file with its declarations by name.
-#[derive(Drop)]
 pub struct Declared<'a> {
     pub alloc: Global,
     pub written: &'a Written,
@@ -26,6 +25,19 @@ pub struct Declared<'a> {
     ghost channels_are: { channels.items.now ≡ written.now.channels },
     ghost procedures_are: { procedures.items.now ≡ written.now.procedures },
     ghost services_are: { services.items.now ≡ written.now.services },
+}
+
+impl Drop for Declared<'_> {
+    fn drop(self) {
+        let Declared {
+            alloc: _,
+            written: _,
+            functions: _,
+            channels: _,
+            procedures: _,
+            services: _,
+        } = self;
+    }
 }
 
 impl<'a> Declared<'a> {

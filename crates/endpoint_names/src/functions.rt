@@ -13,10 +13,18 @@ use chor_host::HostTable;
 use std::alloc::Global;
 
 // Which names are those of host functions: for each name of a table, and for one that isn't in it.
-#[derive(Drop)]
 pub struct Functions {
     known: Vec<bool>,
     unnamed: bool,
+}
+
+impl Drop for Functions {
+    fn drop(self) {
+        let Functions {
+            known: _,
+            unnamed: _,
+        } = self;
+    }
 }
 
 impl Functions {

@@ -10,11 +10,19 @@ use chor_base::Memory;
 use std::alloc::Global;
 
 // Items by their keys. Of several of one key the first counts.
-#[derive(Drop)]
 pub struct Index<'a, T: HasSign> {
     pub items: &'a [T],
     places: Places,
     ghost is_index: { IsIndex (keys_of T.sign_of items.now) places },
+}
+
+impl<T: HasSign> Drop for Index<'_, T> {
+    fn drop(self) {
+        let Index {
+            items: _,
+            places: _,
+        } = self;
+    }
 }
 
 impl<'a, T: HasSign> Index<'a, T> {

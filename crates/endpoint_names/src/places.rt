@@ -14,9 +14,14 @@ use indexmap::IndexMap;
 use std::alloc::Global;
 
 // The place at which each key stands first.
-#[derive(Drop)]
 pub struct Places {
     entries: IndexMap<Key, usize>,
+}
+
+impl Drop for Places {
+    fn drop(self) {
+        let Places { entries: _ } = self;
+    }
 }
 
 impl Places {

@@ -39,7 +39,6 @@ pub struct Process {
 
 /// The units of a file, by their kinds, each in the order in which they are written, and the lines
 /// of their bodies.
-#[derive(Drop)]
 pub struct Written {
     pub lines: Lines,
     pub channels: List<Channel>,
@@ -47,4 +46,16 @@ pub struct Written {
     pub services: List<Service>,
     pub processes: List<Process>,
     ghost inside: { AreInside lines.items procedures services processes },
+}
+
+impl Drop for Written {
+    fn drop(self) {
+        let Written {
+            lines: _,
+            channels: _,
+            procedures: _,
+            services: _,
+            processes: _,
+        } = self;
+    }
 }

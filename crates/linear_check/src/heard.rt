@@ -12,10 +12,15 @@ use std::alloc::Global;
 
 // For each process the channels of which it has heard: those of its entries, and those of which
 // all processes have.
-#[derive(Drop)]
 pub struct Heard {
     all: Marks,
     entries: List<(NameId, Marks)>,
+}
+
+impl Drop for Heard {
+    fn drop(self) {
+        let Heard { all: _, entries: _ } = self;
+    }
 }
 
 impl Heard {

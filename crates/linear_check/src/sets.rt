@@ -18,9 +18,14 @@ pub struct Parameter {
 }
 
 // For each parameter the channels in whose sets it is.
-#[derive(Drop)]
 pub struct Sets {
     marks: IndexMap<Parameter, Marks>,
+}
+
+impl Drop for Sets {
+    fn drop(self) {
+        let Sets { marks: _ } = self;
+    }
 }
 
 impl Sets {

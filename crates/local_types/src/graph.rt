@@ -24,10 +24,15 @@ pub struct Edge {
 }
 
 /// An act of the role, and all exchanges in which it does so.
-#[derive(Drop)]
 pub struct Group {
     pub act: Act,
     pub edges: SmallVec<Edge, 1>,
+}
+
+impl Drop for Group {
+    fn drop(self) {
+        let Group { act: _, edges: _ } = self;
+    }
 }
 
 // The acts of a role, by ascending labels.

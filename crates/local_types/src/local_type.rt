@@ -4,9 +4,14 @@ use chor_base::{List, NameId};
 use chor_tree::Payload;
 
 /// What a role does, as a table of states. It begins in the first.
-#[derive(Drop)]
 pub struct LocalType {
     pub states: List<LocalState>,
+}
+
+impl Drop for LocalType {
+    fn drop(self) {
+        let LocalType { states: _ } = self;
+    }
 }
 
 /// What a role does next: with whom, what, and the number of the state after it.

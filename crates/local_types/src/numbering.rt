@@ -14,10 +14,18 @@ use std::alloc::Global;
 
 /// The sets that are found, whose numbers are their places, and for each state the number of the set
 /// of this state alone, once it has one.
-#[derive(Drop)]
 pub struct Numbering {
     pub sets: Texts,
     pub singles: Vec<Option<u32>>,
+}
+
+impl Drop for Numbering {
+    fn drop(self) {
+        let Numbering {
+            sets: _,
+            singles: _,
+        } = self;
+    }
 }
 
 // No sets, for so many states.

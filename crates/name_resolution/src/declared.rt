@@ -10,7 +10,6 @@ use chor_tree::{File, Named, Proc, Protocol, Service};
 use std::alloc::Global;
 
 // A file with its declarations by name.
-#[derive(Drop)]
 pub struct Declared<'a> {
     pub file: &'a File,
     protocols: Index<'a, Protocol>,
@@ -19,6 +18,17 @@ pub struct Declared<'a> {
     ghost protocols_are: { protocols.items.now ≡ file.now.protocols },
     ghost channels_are: { channels.items.now ≡ file.now.services },
     ghost procedures_are: { procedures.items.now ≡ file.now.procs },
+}
+
+impl Drop for Declared<'_> {
+    fn drop(self) {
+        let Declared {
+            file: _,
+            protocols: _,
+            channels: _,
+            procedures: _,
+        } = self;
+    }
 }
 
 impl<'a> Declared<'a> {

@@ -12,12 +12,20 @@ use chor_tree::Named;
 use std::alloc::Global;
 
 /// Items by their names. Of several of one name the first counts.
-#[derive(Drop)]
 pub struct Index<'a, T: HasName> {
     pub items: &'a [T],
     // Where the first item of each name stands.
     places: NameMap<usize>,
     ghost is_index: { IsIndex (names_of T.name_of items.now) places.map },
+}
+
+impl<T: HasName> Drop for Index<'_, T> {
+    fn drop(self) {
+        let Index {
+            items: _,
+            places: _,
+        } = self;
+    }
 }
 
 impl<'a, T: HasName> Index<'a, T> {

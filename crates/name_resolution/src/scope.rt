@@ -14,10 +14,18 @@ use std::alloc::Global;
 use std::marker::Model;
 
 // The processes and the sessions that are bound on a path. They share one name space.
-#[derive(Drop)]
 pub struct Bound {
     processes: NameSet,
     sessions: NameSet,
+}
+
+impl Drop for Bound {
+    fn drop(self) {
+        let Bound {
+            processes: _,
+            sessions: _,
+        } = self;
+    }
 }
 
 impl Model for Bound {

@@ -13,9 +13,14 @@ use std::alloc::Global;
 use std::marker::Model;
 
 // Names, each once, in the order in which they came.
-#[derive(Drop)]
 pub struct NameSet {
     names: IndexSet<NameId>,
+}
+
+impl Drop for NameSet {
+    fn drop(self) {
+        let NameSet { names: _ } = self;
+    }
 }
 
 impl Model for NameSet {

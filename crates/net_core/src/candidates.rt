@@ -39,11 +39,20 @@ fn joined_by(head: Head) -> Option<NameId>
 }
 
 /// Which processes the pick rule may take, which haven't ended, and what the others wait for.
-#[derive(Drop)]
 pub struct Candidates {
     listed: CountedBits,
     unended: CountedBits,
     waiting: WaitingLists,
+}
+
+impl Drop for Candidates {
+    fn drop(self) {
+        let Candidates {
+            listed: _,
+            unended: _,
+            waiting: _,
+        } = self;
+    }
 }
 
 impl Candidates {

@@ -27,10 +27,15 @@ fn add_if(pids: &mut Vec<u32>, pid: u32, counts: bool) -> Result<(), Memory>
 }
 
 /// The next action of each process, in order, and those that may be picked.
-#[derive(Drop)]
 pub struct Few {
     heads: Vec<Head>,
     pids: Vec<u32>,
+}
+
+impl Drop for Few {
+    fn drop(self) {
+        let Few { heads: _, pids: _ } = self;
+    }
 }
 
 impl Few {

@@ -24,7 +24,6 @@ use std::marker::Model;
 /// What the processes of a network share: the queues, the counters and the events so far; and what
 /// was posted of each process. The events are a run of the network's origin, the queues and
 /// counters are those after it, and what was posted is true there.
-#[derive(Drop)]
 pub struct Office<'a> {
     endpoints: &'a Endpoints,
     // What the host functions may answer, by the numbers of their names.
@@ -34,6 +33,20 @@ pub struct Office<'a> {
     sid: u32,
     desks: Vec<Desk>,
     history: Vec<Entry>,
+}
+
+impl Drop for Office<'_> {
+    fn drop(self) {
+        let Office {
+            endpoints: _,
+            hosts: _,
+            capacity: _,
+            queues: _,
+            sid: _,
+            desks: _,
+            history: _,
+        } = self;
+    }
 }
 
 impl<'a> Model for Office<'a> {

@@ -87,7 +87,6 @@ struct Direction {
 
 /// The queues of a network, one for each triple of a session, a sender's role and a receiver's
 /// role on which something was sent.
-#[derive(Drop)]
 pub struct Queues {
     // The triples of the queues, in their order.
     directions: IndexSet<Direction>,
@@ -95,6 +94,17 @@ pub struct Queues {
     // Room for the first load of a new queue.
     spare: VecDeque<Load>,
     recent: RecentPlaces,
+}
+
+impl Drop for Queues {
+    fn drop(self) {
+        let Queues {
+            directions: _,
+            lanes: _,
+            spare: _,
+            recent: _,
+        } = self;
+    }
 }
 
 impl Model for Queues {

@@ -18,9 +18,14 @@ fn slot_of(numbers: (u32, u32, u32)) -> usize {
 /// Places of a table at which something was found lately, by the numbers that it is known by: mostly
 /// those that are asked for next. They promise nothing: who takes one looks whether the right thing
 /// stands there, and otherwise looks for it by hash.
-#[derive(Drop)]
 pub struct RecentPlaces {
     places: Vec<usize>,
+}
+
+impl Drop for RecentPlaces {
+    fn drop(self) {
+        let RecentPlaces { places: _ } = self;
+    }
 }
 
 impl RecentPlaces {

@@ -25,10 +25,18 @@ use type_check::{Typed, check_types};
 
 /// A file without faults of names, protocols, views, types, linearity and merging, and its endpoint
 /// programs.
-#[derive(Drop)]
 pub struct Accepted {
     typed: Typed,
     endpoints: Endpoints,
+}
+
+impl Drop for Accepted {
+    fn drop(self) {
+        let Accepted {
+            typed: _,
+            endpoints: _,
+        } = self;
+    }
 }
 
 impl Model for Accepted {

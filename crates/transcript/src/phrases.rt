@@ -105,12 +105,17 @@ impl Slot {
 }
 
 /// The texts of phrases that were written lately.
-#[derive(Drop)]
 pub struct Phrases {
     slots: Vec<Slot>,
     // One less than there are slots.
     mask: u32,
     ghost within: { mask < vec_len slots },
+}
+
+impl Drop for Phrases {
+    fn drop(self) {
+        let Phrases { slots: _, mask: _ } = self;
+    }
 }
 
 impl Phrases {

@@ -8,12 +8,17 @@ use chor_tree::File;
 
 /// A file without fault of names, protocols, views and types, where programs may call the host
 /// functions of these names.
-#[derive(Drop)]
 pub struct Typed {
     file: File,
     // The names of the host functions.
     hosts: List<Word>,
     pub ghost fine: { IsFine hosts file },
+}
+
+impl Drop for Typed {
+    fn drop(self) {
+        let Typed { file: _, hosts: _ } = self;
+    }
 }
 
 impl Typed {

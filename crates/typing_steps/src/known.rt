@@ -22,11 +22,20 @@ use std::alloc::Global;
 
 /// What is known at a statement: where each session in scope stands, who holds its roles, and the
 /// sorts of the variables that are set.
-#[derive(Drop)]
 pub struct Known {
     pub(crate) standings: Vec<Standing>,
     pub(crate) owners: Owners,
     pub(crate) sorts: SortMap,
+}
+
+impl Drop for Known {
+    fn drop(self) {
+        let Known {
+            standings: _,
+            owners: _,
+            sorts: _,
+        } = self;
+    }
 }
 
 impl Known {

@@ -13,10 +13,18 @@ use indexmap::IndexMap;
 use std::alloc::Global;
 
 // The variables of each process that are set.
-#[derive(Drop)]
 pub struct SortMap {
     alloc: Global,
     processes: IndexMap<NameId, Env>,
+}
+
+impl Drop for SortMap {
+    fn drop(self) {
+        let SortMap {
+            alloc: _,
+            processes: _,
+        } = self;
+    }
 }
 
 impl SortMap {

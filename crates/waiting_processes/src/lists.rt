@@ -55,13 +55,23 @@ fn numbers_of(wait: Awaited) -> (u32, u32, u32) {
 
 /// For each thing that processes wait for a list of processes. A list keeps its memory when it is
 /// taken out, so that processes that come and go take memory at the first time only.
-#[derive(Drop)]
 pub struct WaitingLists {
     alloc: Global,
     lists: IndexMap<Awaited, Waiting>,
     recent: RecentPlaces,
     // Memory of a list that was taken out.
     spare: Vec<u32>,
+}
+
+impl Drop for WaitingLists {
+    fn drop(self) {
+        let WaitingLists {
+            alloc: _,
+            lists: _,
+            recent: _,
+            spare: _,
+        } = self;
+    }
 }
 
 impl WaitingLists {

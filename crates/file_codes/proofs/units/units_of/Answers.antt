@@ -1,4 +1,4 @@
-use Rattle.std.proofs.Common.{◌∙◌, ap, map}
+use Rattle.std.proofs.Common.{◌∙◌, ap, map, refl}
 use Rattle.projection.specs.Projects.{names_of}
 use Rattle.projection.specs.MergeFaults.{sites_of}
 use Rattle.block_codes.specs.Walks.{StopsAt}
@@ -26,5 +26,5 @@ returns-in_err-list-clause-stopped c =
 pub returns-clause-units : goal.returns-clause-units
 returns-clause-units c =
     units_made c.args.file.now c.in_ok-procedures.procedures c.in_ok-procedures.ensures.procedures c.as_slice-2.result.now (c.as_slice-2.ensures ∙ c.in_ok-scope.ensures ∙ ap names_of c.as_slice.ensures)
-    c.codes.new.code c.in_ok-list.list c.procedures-2.inside.items.items c.in_ok-processes_of.field-0 c.in_ok-list.ensures.codes c.procedures-2.view_is
+    c.codes.new.code c.in_ok-list.list c.in_ok-procedures.procedures c.in_ok-processes_of.field-0 c.in_ok-list.ensures.codes refl
     (c.in_ok-processes_of.ensures ∙ ap (map process_from) c.as_slice-3.ensures)

@@ -12,5 +12,5 @@ returns-in-Some c = c.sort_of.ensures ∙ ap (λ o. sort_of (term_of c.args.expr
 
 pub returns-in-None : goal.returns-in-None
 returns-in-None c =
-    c.sort_of-in-None-2.ensures ∙ ap (λ (m : FromNames Sort). sort_of (term_of c.args.expr.now) (sorts_of_map m)) c.new.ensures ∙ ap (λ (s : Sorts). sort_of (term_of c.args.expr.now) s) none_in_empty
+    c.sort_of-in-None.ensures ∙ ap (λ (m : FromNames Sort). sort_of (term_of c.args.expr.now) (sorts_of_map m)) c.new.ensures ∙ ap (λ (s : Sorts). sort_of (term_of c.args.expr.now) s) none_in_empty
     ∙ ap (λ o. sort_of (term_of c.args.expr.now) (sorts_of_entry o)) c.in-None.ensures.value
