@@ -14,18 +14,12 @@ use std::alloc::Global;
 use std::process::Abort;
 use std::test::Fail;
 use test_programs::lines;
+use worked::endpoints::TWICE;
 
 // How many events a run has at most.
 const STEPS: u32 = 60;
 
-// p sends twice, and q receives both.
-const TWICE: &[u8] = b"endpoints 1;
-channel a (A, B);
-process p { join a[A](k); send k B 1; send k B 2; end }
-process q { join a[B](k); recv k A x; recv k A y; end }
-";
-
-// The run of these with room for one message, whatever the seed is.
+// The run of two sends with room for one message, whatever the seed is.
 const ONE_BY_ONE: &[u8] = b"1 start a #0 A=p B=q
 2 send p #0 A>B 1
 3 recv q #0 A>B 1

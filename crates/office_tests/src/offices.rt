@@ -14,17 +14,10 @@ use std::alloc::Global;
 use std::process::Abort;
 use std::test::Fail;
 use test_programs::{lines, read};
-use worked::endpoints::{EXAMPLES, HELLO};
+use worked::endpoints::{EXAMPLES, HELLO, TWICE};
 
 // How many events a run has at most.
 const STEPS: u64 = 120;
-
-// p starts a session and sends twice. With seed 0 it sends 2 before q receives 1, with seed 1 after it.
-const TWICE: &[u8] = b"endpoints 1;
-channel a (A, B);
-process p { join a[A](k); send k B 1; send k B 2; end }
-process q { join a[B](k); recv k A x; recv k A y; end }
-";
 
 // The host functions that programs may ask: `max` alone.
 fn functions(alloc: Global) -> Result<HostTable, Fail> {
@@ -192,6 +185,7 @@ fn the_queue_and_the_start_of_hello(rt: HostRuntime) -> Result<(), Fail> {
 #[test]
 fn a_queue_is_full_at_its_capacity(rt: HostRuntime) -> Result<(), Fail> {
     let alloc = rt.alloc();
+    // With seed 0 the second send comes before the first receipt, with seed 1 after it.
     let wanted = [
         ((0, Some(1), 1), Some(false)),
         ((0, Some(1), 2), Some(true)),

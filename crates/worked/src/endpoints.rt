@@ -15,6 +15,13 @@ channel a (A, B);
 process p { join a[A](k); send k B 3; end }
 ";
 
+/// p sends twice before it ends, and q receives both.
+pub const TWICE: &[u8] = b"endpoints 1;
+channel a (A, B);
+process p { join a[A](k); send k B 1; send k B 2; end }
+process q { join a[B](k); recv k A x; recv k A y; end }
+";
+
 pub const CHOICE: &[u8] = b"endpoints 1;
 channel offer (Seller, Buyer);
 process s { join offer[Seller](k); send k Buyer 20; branch k Buyer { no { show \"kept\"; end } yes { show \"sold\"; end } } }
