@@ -1,11 +1,11 @@
 -- Where a triple's queue is.
-use Rattle.std.proofs.Common.{◌≡◌, ℕ, zero, suc, ◌+◌, ◌≤◌, ◌<◌, Bool, true, false, cond, List, [], ◌∷◌, ◌++◌, length, get_or, refl, sym, ap, ◌∙◌, subst, Some, None, arith, OnOk, Result, Ok, Err}
+use Rattle.std.proofs.Common.{◌≡◌, ℕ, zero, suc, ◌+◌, ◌≤◌, ◌<◌, Bool, true, false, cond, List, [], ◌∷◌, ◌++◌, length, get_or, ◌||◌, refl, sym, ap, ◌∙◌, subst, Some, None, arith, OnOk, Result, Ok, Err}
 use Rattle.std.specs.Prelude.{map, slice_set, slice_get}
 use Rattle.chor_base.specs.declared.value.Load.{Load}
 use Rattle.chor_base.specs.Events.{Triple, triple_eq}
 use Rattle.endpoint_code.specs.Network.{loads_for, with_loads}
 use Rattle.endpoint_code.proofs.Fifo.{same_triple}
-use Rattle.post_office.specs.Lanes.{LaneView, loads_in, room_among, lane_from}
+use Rattle.post_office.specs.Lanes.{LaneView, loads_in, room_among, is_there, lane_from}
 
 -- a list stays where an item is put that a function takes alike
 pub mapped_put : {X Y : Type 0} (f : X → Y) (xs : List X) (p : ℕ) (x y : X) → p < length xs → x ≡ get_or xs p x → f y ≡ f x → map f (slice_set xs p y) ≡ map f xs
@@ -86,7 +86,31 @@ room_kept f (l ∷ ls) (suc i) d m t lt h k = go (triple_eq l.triple t) refl (ro
     go true e r = rw e (omega arith)
     go false e r = rw e r
 
+-- other triples keep their room
+room_apart : {t : Triple} {ls : List LaneView} {i : ℕ} → At t ls i → (f : ℕ) (d m : LaneView) (u : Triple) → m.triple ≡ (get_or ls i d).triple → triple_eq t u ≡ false → room_among f (slice_set ls i m) u ≡ room_among f ls u
+room_apart {t} (here {l} {ls} e) f d m u h k =
+    let old : triple_eq l.triple u ≡ false = ap (λ (s : Triple). triple_eq s u) (same_triple l.triple t e) ∙ k in
+    let new : triple_eq m.triple u ≡ false = ap (λ (s : Triple). triple_eq s u) h ∙ old in
+    ap (λ b. cond b m.room (room_among f ls u)) new ∙ sym (ap (λ b. cond b l.room (room_among f ls u)) old)
+room_apart {t} (later {l} {ls} e a) f d m u h k = ap (cond (triple_eq l.triple u) l.room) (room_apart a f d m u h k)
+
+-- lanes that come after change nothing for a triple whose lane is there
+before : (f g : ℕ) (ls ms : List LaneView) (t : Triple) → is_there ls t ≡ true → room_among f (ls ++ ms) t ≡ room_among g ls t
+before f g [] ms t h = absurd cc
+before f g (l ∷ ls) ms t h = go (triple_eq l.triple t) h (before f g ls ms t)
+  where
+    go : (b : Bool) → (b || is_there ls t) ≡ true → (is_there ls t ≡ true → room_among f (ls ++ ms) t ≡ room_among g ls t) → cond b l.room (room_among f (ls ++ ms) t) ≡ cond b l.room (room_among g ls t)
+    go true k more = refl
+    go false k more = more k
+
+pub room_before : (f g : ℕ) (ls ms all : List LaneView) (t : Triple) → all ≡ ls ++ ms → is_there ls t ≡ true → room_among f all t ≡ room_among g ls t
+room_before f g ls ms all t e h = ap (λ (xs : List LaneView). room_among f xs t) e ∙ before f g ls ms t h
+
 -- ---- a lane that isn't there
+
+pub isnt_there : {t : Triple} {ls : List LaneView} → Lacks t ls → is_there ls t ≡ false
+isnt_there no_lane = refl
+isnt_there {t} (one_lane {l} {ls} e a) = ap (λ b. b || is_there ls t) e ∙ isnt_there a
 
 pub loads_lacking : {t : Triple} {ls : List LaneView} → Lacks t ls → loads_for (loads_in ls) t ≡ []
 loads_lacking no_lane = refl
@@ -143,6 +167,12 @@ room_put {t} (later {l} {ls} {i} e a) f d m h = ap (λ b. cond b l.room (room_am
 
 pub room_put_found : (f : ℕ) (ls : List LaneView) (t : Triple) (i : ℕ) (l m : LaneView) → lane_from 0 ls t ≡ Some i → l ≡ get_or ls i l → m.triple ≡ l.triple → room_among f (slice_set ls i m) t ≡ m.room
 room_put_found f ls t i l m h e k = room_put (at_found ls t i h) f l m (k ∙ ap (λ (n : LaneView). n.triple) e)
+
+pub room_apart_found : (f : ℕ) (ls : List LaneView) (t : Triple) (i : ℕ) (l m : LaneView) (u : Triple) → lane_from 0 ls t ≡ Some i → l ≡ get_or ls i l → m.triple ≡ l.triple → triple_eq t u ≡ false → room_among f (slice_set ls i m) u ≡ room_among f ls u
+room_apart_found f ls t i l m u h e k apart = room_apart (at_found ls t i h) f l m u (k ∙ ap (λ (n : LaneView). n.triple) e) apart
+
+pub none_there : (ls : List LaneView) (t : Triple) → lane_from 0 ls t ≡ None → is_there ls t ≡ false
+none_there ls t h = isnt_there (lacks_found 0 ls t h)
 
 pub room_none : (f : ℕ) (ls : List LaneView) (t : Triple) → lane_from 0 ls t ≡ None → room_among f ls t ≡ f
 room_none f ls t h = room_lacking (lacks_found 0 ls t h) f

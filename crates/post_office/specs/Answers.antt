@@ -10,12 +10,13 @@ use Rattle.post_office.specs.declared.post.Sent.{Sent as Sending}
 use Rattle.post_office.specs.declared.post.Sent.TheVariants.{Sent, Full}
 use Rattle.post_office.specs.declared.post.Received.{Received}
 use Rattle.post_office.specs.declared.post.Received.TheVariants.{Got, Empty}
-use Rattle.post_office.specs.Lanes.{QueuesView, loads_in, room_on}
+use Rattle.post_office.specs.Lanes.{QueuesView, KeepsRoom, loads_in, room_on}
 use Rattle.post_office.specs.Views.{OfficeView, loads_at, made_busy, is_full}
 
--- one load more on a triple, after all others
-abbrev pub HasPut : QueuesView → Triple → Load → QueuesView → Type 0
-HasPut old t l new = loads_in new.lanes ≡ with_loads (loads_in old.lanes) t (loads_at old t ++ l ∷ [])
+-- one load more on a triple, after all others, and the other queues that were there keep their room
+pub record HasPut (old : QueuesView) (t : Triple) (l : Load) (new : QueuesView) : Type 0 where
+  pub loads : loads_in new.lanes ≡ with_loads (loads_in old.lanes) t (loads_at old t ++ l ∷ [])
+  pub room : KeepsRoom old t new
 
 -- the first load of a triple is gone, and there is no less room
 pub record HasTaken (old : QueuesView) (t : Triple) (new : QueuesView) : Type 0 where

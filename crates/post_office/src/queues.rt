@@ -1,9 +1,10 @@
 //! The queues of a network.
 
-ghost use Rattle.std.specs.Prelude.{◌≡◌, ◌≤◌, ◌<◌, ◌∷◌, ◌++◌, [], length, drop, OnOk, IsOk, IfSome, slice_get, None};
+ghost use Rattle.std.specs.Prelude.{◌≡◌, ◌≤◌, ◌<◌, ◌+◌, true, ◌∷◌, ◌++◌, [], length, drop, OnOk, IsOk, IfSome, slice_get, None};
 ghost use Rattle.chor_base.specs.Events.{Triple};
 ghost use Rattle.endpoint_code.specs.Network.{has_room, loads_for, with_loads};
-ghost use Rattle.post_office.specs.Lanes.{loads_in, room_on, lane_from};
+ghost use Rattle.post_office.specs.Lanes.{KeepsRoom, loads_in, room_on, lane_from, is_there};
+ghost use Rattle.post_office.specs.Views.{loads_at};
 
 use chor_base::{Load, Memory, NameId};
 use indexmap::IndexSet;
@@ -60,6 +61,7 @@ impl Lane {
         requires { 1 ≤ self.old.room }
         ensures triple { self.new.triple ≡ self.old.triple }
         ensures loads { self.new.loads ≡ self.old.loads ++ load ∷ [] }
+        ensures room { self.old.room ≡ self.new.room + 1 }
     {
         match self.loads.push_back(load) {
             Ok(()) => {}
@@ -209,7 +211,8 @@ impl Queues {
     /// Puts a load into its queue, after all others.
     pub fn put(&mut self, sid: u32, from: NameId, to: NameId, load: Load)
         requires { 1 ≤ room_on self.old (sid, from, to) }
-        ensures { loads_in self.new.lanes ≡ with_loads (loads_in self.old.lanes) (sid, from, to) (loads_for (loads_in self.old.lanes) (sid, from, to) ++ load ∷ []) }
+        ensures loads { loads_in self.new.lanes ≡ with_loads (loads_in self.old.lanes) (sid, from, to) (loads_at self.old (sid, from, to) ++ load ∷ []) }
+        ensures room { KeepsRoom self.old (sid, from, to) self.new }
     {
         match self.place_of(sid, from, to) {
             Some(place) => {
@@ -224,7 +227,8 @@ impl Queues {
     fn open(&mut self, sid: u32, from: NameId, to: NameId, load: Load)
         requires room { 1 ≤ self.old.fresh }
         requires absent { lane_from 0 self.old.lanes (sid, from, to) ≡ None }
-        ensures { loads_in self.new.lanes ≡ loads_in self.old.lanes ++ ((sid, from, to), load ∷ []) ∷ [] }
+        ensures loads { loads_in self.new.lanes ≡ loads_in self.old.lanes ++ ((sid, from, to), load ∷ []) ∷ [] }
+        ensures room { (t : Triple) → is_there self.old.lanes t ≡ true → room_on self.new t ≡ room_on self.old t }
     {
         let alloc = *self.lanes.allocator();
         let mut loads = replace(&mut self.spare, VecDeque::new(alloc));

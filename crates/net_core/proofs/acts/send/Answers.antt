@@ -14,5 +14,5 @@ returns-clause-moves c = λ v n h.
     let m = c.sent.new.self in
     c.sent.ensures.sent None n v t.0 t.1 t.2 l c.requires.head c.outgoing-load.ensures
     ∙ ap (λ (qs : List (Triple × List Load)). Some (Makes (event.Send c.args.machine.now.number t.0 t.1 t.2 l) (let k : NetworkState = record { machines = slice_set n.machines c.args.machine.now.number m.machine; queues = qs; sid = n.sid } in k)))
-    (ap (λ (qs : List (Triple × List Load)). with_loads qs t (loads_for qs t ++ l ∷ [])) h ∙ sym c.put.ensures)
+    (ap (λ (qs : List (Triple × List Load)). with_loads qs t (loads_for qs t ++ l ∷ [])) h ∙ sym c.put.ensures.loads)
     ∙ ap (λ (p : ℕ). Some (Makes (event.Send p t.0 t.1 t.2 l) (let k : NetworkState = record { machines = slice_set n.machines c.args.machine.now.number m.machine; queues = loads_in c.put.new.self.lanes; sid = n.sid } in k))) (sym (c.number.ensures ∙ c.sent.ensures.number))

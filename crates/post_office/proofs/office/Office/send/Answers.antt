@@ -13,4 +13,4 @@ invariant_of-self c =
     let room : is_full c.args.self.now t ≡ false = sym c.if-full.ensures in
     acted_kept c.self.invariant x c.args.pid refl refl (subst (λ (v : OfficeView). CanMake v x) (sym c.self.view_is) c.requires.stands)
     (not_full c.self.inside.capacity (loads_at c.self.inside.queues t) (subst (λ (v : OfficeView). is_full v t ≡ false) (sym c.self.view_is) room)) c.args.worker c.append.new.history.items c.put.new.self c.make_busy.new.desks.items _
-    c.append.ensures.items c.put.ensures c.make_busy.ensures
+    c.append.ensures.items c.put.ensures.loads c.make_busy.ensures

@@ -1,6 +1,8 @@
-use Rattle.std.proofs.Common.{◌∙◌, ap, refl, rules}
+use Rattle.std.proofs.Common.{◌∙◌, ◌≡◌, ap, refl, rules, true}
 use Rattle.chor_base.specs.Events.{Triple}
-use Rattle.post_office.specs.Lanes.{QueuesView, lane_from}
+use Rattle.post_office.specs.Lanes.{QueuesView, is_there, lane_from, room_on}
+use Rattle.post_office.specs.contracts.queues.Queues.{the_view}
+use Rattle.post_office.proofs.Lanes.{room_before}
 use Rattle.post_office.proofs.Places.{is_direction, indexed_more}
 use Rattle.post_office.proofs.queues.Queues.open.Goals as goal
 
@@ -13,3 +15,8 @@ invariant_of-self c =
           (ap (λ (v : QueuesView). lane_from 0 v.lanes t) c.self.view_is ∙ c.requires.absent) c.in-Ok.ensures.keys c.in-Ok-push.ensures.items refl;
       unused = search rules;
     }
+
+pub returns-clause-room : goal.returns-clause-room
+returns-clause-room c = λ t h.
+    let there : is_there c.self.inside.lanes.items t ≡ true = ap (λ (v : QueuesView). is_there v.lanes t) c.self.view_is ∙ h in
+    room_before _ (the_view c.self.inside).fresh c.self.inside.lanes.items _ _ t c.in-Ok-push.ensures.items there ∙ ap (λ (v : QueuesView). room_on v t) c.self.view_is
