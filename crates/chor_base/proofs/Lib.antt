@@ -2,6 +2,7 @@ pub mod Lists
 pub mod Tables
 pub mod WordTables
 pub mod NameMaps
+pub mod Copies
 pub mod FirstPlaces
 pub mod Members
 pub mod Rules

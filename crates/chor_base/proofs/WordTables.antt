@@ -1,19 +1,15 @@
 -- Words in a set and their places.
 use Rattle.std.proofs.Common.{take, drop, take-append-drop, drop-cons, ◌<◌, ◌+◌, ◌≡◌, ℕ, Bool, true, false, List, [], ◌∷◌, ◌++◌, refl, sym, ap, ◌∙◌, Option, Some, None, Vec, Global, subst, arith, get_or, ◌||◌, ◌&&◌, ◌==◌, length, zero, suc}
-use Rattle.indexmap.specs.IndexSet.{insert_key}
-use Rattle.std.specs.Prelude.{position, slice_get, bytes_eq, Decides, IfSome, IfNone, is_some, if◌then◌else◌}
+use Rattle.std.specs.Prelude.{slice_get, bytes_eq, Decides, IfSome, IfNone, if◌then◌else◌}
 use Rattle.std.specs.List.{list_any}
-use Rattle.std.proofs.lemmas.List.Quantifiers.{position-Some}
-use Rattle.std.proofs.lemmas.Option.{slice_get-get_or, slice_get-map}
+use Rattle.std.specs.Map.{lookup, KeepsOthers, IsKeyTest, AreApart}
+use Rattle.std.proofs.lemmas.Cmp.{nat_list_eq_equiv}
+use Rattle.std.proofs.lemmas.Option.{slice_get-get_or}
 use Rattle.std.proofs.lemmas.Slice.Eq.{bytes_eq-Decides}
 use Rattle.std.proofs.lemmas.Bool.Decides.{nat_tests}
 use Rattle.std.proofs.lemmas.List.{take_more}
 use Rattle.chor_base.proofs.Lists.{AtEnd, before, last, at_end, slice_get_last}
-use Rattle.chor_base.specs.Words.{words_of, with_word, AllDistinct, Lacks}
-
-pub any_words : (p : List ℕ → Bool) (ws : List (Vec ℕ Global)) → list_any (λ k. p k.items) ws ≡ list_any p (words_of ws)
-any_words p [] = refl
-any_words p (w ∷ ws) = ap (λ b. p w.items || b) (any_words p ws)
+use Rattle.chor_base.specs.Words.{words_of, with_word, AllDistinct, Lacks, number_in, IsPlaceAmong}
 
 same_bytes : (xs ys : List ℕ) → bytes_eq xs ys ≡ true → xs ≡ ys
 same_bytes xs ys h = (subst (λ b. Decides b (xs ≡ ys)) h (bytes_eq-Decides xs ys)).0 refl
@@ -22,29 +18,56 @@ own_bytes : (w : List ℕ) → bytes_eq w w ≡ true
 own_bytes [] = refl
 own_bytes (x ∷ w) = ap (λ b. (x == x) && b) (own_bytes w) ∙ grind (arith, nat_tests)
 
-pub found_word : (w : List ℕ) (ws : List (Vec ℕ Global)) (n : ℕ) → position (λ k. bytes_eq w k.items) ws ≡ Some n → slice_get (words_of ws) n ≡ Some w
-found_word w [] n h = absurd cc
-found_word w (v ∷ ws) n h =
-    let f = position-Some (λ k. bytes_eq w k.items) (v ∷ ws) n v h in
-    let same : w ≡ (get_or (v ∷ ws) n v).items = same_bytes w _ f.1 in
-    slice_get-map (λ k. k.items) (v ∷ ws) n ∙ (rw (slice_get-get_or (v ∷ ws) n v f.0) (ap Some (sym same)))
-
-pub find_found : (w : List ℕ) (ws : List (Vec ℕ Global)) (r : Option ℕ) → r ≡ position (λ k. bytes_eq w k.items) ws → IfSome r (λ n. slice_get (words_of ws) n ≡ Some w)
-find_found w ws None h = tt
-find_found w ws (Some n) h = found_word w ws n (sym h)
-
-pub find_absent : (w : List ℕ) (ws : List (Vec ℕ Global)) (r : Option ℕ) → is_some r ≡ list_any (λ k. bytes_eq w k.items) ws → IfNone r (list_any (bytes_eq w) (words_of ws) ≡ false)
-find_absent w ws None h = sym (any_words (bytes_eq w) ws) ∙ sym h
-find_absent w ws (Some n) h = tt
-
-words-push : (ws : List (Vec ℕ Global)) (k : Vec ℕ Global) → words_of (ws ++ k ∷ []) ≡ words_of ws ++ k.items ∷ []
+pub words-push : (ws : List (Vec ℕ Global)) (k : Vec ℕ Global) → words_of (ws ++ k ∷ []) ≡ words_of ws ++ k.items ∷ []
 words-push [] k = refl
 words-push (w ∷ ws) k = ap (λ r. w.items ∷ r) (words-push ws k)
 
-pub words_added : (ws new : List (Vec ℕ Global)) (k : Vec ℕ Global) → new ≡ insert_key (λ a b. bytes_eq a.items b.items) ws k → list_any (bytes_eq k.items) (words_of ws) ≡ false → words_of new ≡ words_of ws ++ k.items ∷ []
-words_added ws new k h none =
-    let absent : list_any (λ b. bytes_eq k.items b.items) ws ≡ false = any_words (bytes_eq k.items) ws ∙ none in
-    ap words_of (h ∙ ap (λ b. if b then ws else ws ++ k ∷ []) absent) ∙ words-push ws k
+-- ---- what entries have at words
+
+module _ {K X : Type 0} (eq : K → K → Bool) (test : K → Bool) where
+  other_entries : (old new : List (K × X)) → KeepsOthers eq test old new → (other : K → Bool) → IsKeyTest eq other → AreApart test other → lookup other new ≡ lookup other old
+  unfolding KeepsOthers
+  other_entries old new h = h
+
+apart : (v w ks : List ℕ) → bytes_eq v w ≡ false → bytes_eq v ks ≡ true → bytes_eq w ks ≡ false
+apart v w ks n y = nat_list_eq_equiv.symm w ks ∙ sym (nat_list_eq_equiv.congr v ks w y) ∙ n
+
+abbrev pub Puts : List (Vec ℕ Global × ℕ) → List (Vec ℕ Global × ℕ) → List ℕ → ℕ → Type 0
+Puts old new w n = (number_in new w ≡ Some n) × KeepsOthers (λ x y. bytes_eq x.items y.items) (λ k. bytes_eq w k.items) old new
+
+any_more : (ws : List (List ℕ)) (v w : List ℕ) → bytes_eq v w ≡ false → list_any (bytes_eq v) (ws ++ w ∷ []) ≡ list_any (bytes_eq v) ws
+any_more [] v w n = ap (λ b. b || false) n
+any_more (u ∷ ws) v w n = ap (λ b. bytes_eq v u || b) (any_more ws v w n)
+
+slice_get_more : (ws : List (List ℕ)) (w v : List ℕ) (n : ℕ) → slice_get ws n ≡ Some v → slice_get (ws ++ w ∷ []) n ≡ Some v
+slice_get_more [] w v n h = absurd cc
+slice_get_more (u ∷ ws) w v zero h = h
+slice_get_more (u ∷ ws) w v (suc n) h = slice_get_more ws w v n h
+
+-- a word that isn't there goes last, and the entries have its number
+pub numbered_more : (ws : List (List ℕ)) (old new : List (Vec ℕ Global × ℕ)) (w : List ℕ) → Lacks ws w → ((v : List ℕ) → IsPlaceAmong ws v (number_in old v)) → Puts old new w (length ws) → (v : List ℕ) → IsPlaceAmong (ws ++ w ∷ []) v (number_in new v)
+numbered_more ws old new w absent places put v = go (bytes_eq w v) refl
+  where
+    stays : (o : Option ℕ) → bytes_eq w v ≡ false → IsPlaceAmong ws v o → IsPlaceAmong (ws ++ w ∷ []) v o
+    stays None h lacks = any_more ws v w (nat_list_eq_equiv.symm v w ∙ h) ∙ lacks
+    stays (Some n) h at = slice_get_more ws w v n at
+
+    go : (t : Bool) → bytes_eq w v ≡ t → IsPlaceAmong (ws ++ w ∷ []) v (number_in new v)
+    go true h =
+        let same : w ≡ v = same_bytes w v h in
+        subst (λ u. IsPlaceAmong (ws ++ w ∷ []) u (number_in new u)) same (subst (IsPlaceAmong (ws ++ w ∷ []) w) (sym put.0) (slice_get_last ws w))
+    go false h =
+        let kept : number_in new v ≡ number_in old v = other_entries _ _ old new put.1 (λ k. bytes_eq v k.items) (λ x y. nat_list_eq_equiv.congr v x.items y.items) (λ k. apart w v k.items h) in
+        subst (IsPlaceAmong (ws ++ w ∷ []) v) (sym kept) (stays (number_in old v) h (places v))
+
+-- what is found of a word
+pub found_at : (ws : List (List ℕ)) (w : List ℕ) (o : Option ℕ) → IsPlaceAmong ws w o → IfSome o (λ n. slice_get ws n ≡ Some w)
+found_at ws w None h = tt
+found_at ws w (Some n) h = h
+
+pub absent_at : (ws : List (List ℕ)) (w : List ℕ) (o : Option ℕ) → IsPlaceAmong ws w o → IfNone o (Lacks ws w)
+absent_at ws w None h = h
+absent_at ws w (Some n) h = tt
 
 -- what stands in a list without it
 pub put_absent : (ws : List (List ℕ)) (w : List ℕ) → list_any (bytes_eq w) ws ≡ false → with_word ws w ≡ ws ++ w ∷ []

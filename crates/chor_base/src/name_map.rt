@@ -1,26 +1,27 @@
 //! Finite maps from names.
 
-ghost use Rattle.std.specs.Prelude.{◌≡◌, ◌≤◌, ◌+◌, ◌⊎◌, IfOk, OnOk, IsOk, IsTrue, is_some, true, Some, ◌<◌, slice_get};
-ghost use Rattle.indexmap.specs.IndexMap.{keys, index_map_len, with_value_at};
-ghost use Rattle.std.specs.Ordering.{nat_cmp};
+ghost use Rattle.std.specs.Prelude.{◌≡◌, ◌≤◌, ◌+◌, ◌⊎◌, IfOk, OnOk, IsOk, is_some, true};
 ghost use Rattle.std.specs.FinMap as fin;
+ghost use Rattle.chor_base.specs.NameMap.{takes_first};
 
 use crate::memory::Memory;
 use crate::names::NameId;
 use crate::value::Value;
-use indexmap::IndexMap;
 use std::alloc::Global;
+use std::collections::HashMap;
 use std::marker::Model;
 
 /// What some names stand for, each for one thing. Contracts see the finite map from the names'
 /// numbers, and how many names more fit without taking memory.
 pub struct NameMap<V> {
-    entries: IndexMap<NameId, V>,
+    // The name that came first, which is found without a hash, and what it stands for.
+    first: Option<(NameId, V)>,
+    rest: HashMap<NameId, V>,
 }
 
 impl<V: Drop> Drop for NameMap<V> {
     fn drop(self) {
-        let NameMap { entries: _ } = self;
+        let NameMap { first: _, rest: _ } = self;
     }
 }
 
@@ -31,34 +32,23 @@ impl<V> Model for NameMap<V> {
     ghost use Rattle.std.specs.Prelude.{ℕ, refl};
     ghost use Rattle.std.specs.Coded.{code_by, coded×, coded_ℕ};
     ghost use Rattle.std.specs.FinMap as fin;
-    ghost use Rattle.indexmap.specs.IndexMap.{spare};
-    ghost use Rattle.chor_base.specs.NameMap.{NameMapView, FromNames, map_of};
+    ghost use Rattle.std.specs.HashMap.{spare};
+    ghost use Rattle.chor_base.specs.NameMap.{NameMapView, FromNames, map_of, with_first};
 
     ghost Value = { NameMapView V };
 
     ghost coded = { code_by (FromNames V × ℕ) (coded× (fin.code coded_ℕ V.code) coded_ℕ) (λ v. (v.map, v.spare)) (λ p. record { map = p.0; spare = p.1 }) (λ _. refl) };
 
-    ghost view = { λ a. record { map = map_of a.entries.entries; spare = spare a.entries } };
+    ghost view = { λ a. record { map = with_first a.first (map_of a.rest.entries); spare = spare a.rest } };
 }
 
-// Whether a name is the first of these.
-fn is_first<V>(entries: &IndexMap<NameId, V>, name: NameId) -> bool
-    ensures { result ≡ true → slice_get (keys entries.now) 0 ≡ Some name }
+// Whether a name is the one that came first, or none has come.
+fn is_first<V: Copy>(first: Option<(NameId, V)>, name: NameId) -> bool
+    ensures { result ≡ takes_first first name }
 {
-    match entries.get_index(0) {
-        Some((first, _)) => *first == name,
-        None => false,
-    }
-}
-
-// The first of these stands for something else.
-fn put_first<V: Copy>(entries: &mut IndexMap<NameId, V>, value: V)
-    requires { 0 < index_map_len entries.old }
-    ensures { entries.new ≡ with_value_at entries.old 0 value }
-{
-    match entries.get_index_mut(0) {
-        Some(first) => *first = value,
-        None => unreachable!(),
+    match first {
+        Some((own, _)) => own == name,
+        None => true,
     }
 }
 
@@ -68,7 +58,8 @@ impl<V> NameMap<V> {
         ensures { result.map ≡ fin.empty }
     {
         NameMap {
-            entries: IndexMap::new(alloc),
+            first: None,
+            rest: HashMap::new(alloc),
         }
     }
 }
@@ -78,25 +69,26 @@ impl<V: Copy> NameMap<V> {
     pub fn copy(&self, alloc: Global) -> Result<Self, Memory>
         ensures { IfOk result (λ map. map.map ≡ self.now.map) }
     {
-        let mut entries = IndexMap::new(alloc);
-        let mut left = self.entries.len();
-        while left > 0 {
-            left -= 1;
-            if let Some((name, value)) = self.entries.get_index(left) {
-                entries.insert(*name, *value)?;
-            }
+        let mut rest = HashMap::new(alloc);
+        for (name, value) in self.rest.iter() {
+            rest.insert(*name, *value)?;
         }
-        Ok(NameMap { entries })
+        Ok(NameMap {
+            first: self.first,
+            rest,
+        })
     }
 
     /// What a name stands for, if anything. The name that came first is found without a hash.
     pub fn get(&self, name: NameId) -> Option<V>
         ensures { result ≡ fin.get self.now.map name.0 }
     {
-        match self.entries.get_index(0) {
-            Some((first, value)) if *first == name => Some(*value),
-            _ => self.entries.get(&name).copied(),
+        if let Some((first, value)) = self.first {
+            if first == name {
+                return Some(value);
+            }
         }
+        self.rest.get(&name).copied()
     }
 
     /// Takes memory for one name more. Afterwards `set` of any name takes none.
@@ -106,7 +98,7 @@ impl<V: Copy> NameMap<V> {
         ensures kept { self.old.spare ≤ self.new.spare }
         ensures succeeds { 1 ≤ self.old.spare → IsOk result }
     {
-        self.entries.reserve(1)?;
+        self.rest.reserve(1)?;
         Ok(())
     }
 
@@ -116,11 +108,11 @@ impl<V: Copy> NameMap<V> {
         ensures map { self.new.map ≡ fin.insert self.old.map name.0 value }
         ensures spare { self.old.spare ≤ self.new.spare + 1 }
     {
-        if is_first(&self.entries, name) {
-            put_first(&mut self.entries, value);
+        if is_first(self.first, name) {
+            self.first = Some((name, value));
             return;
         }
-        match self.entries.insert(name, value) {
+        match self.rest.insert(name, value) {
             Ok(_) => {}
             Err(_) => unreachable!(),
         }

@@ -1,34 +1,37 @@
 //! Byte strings and their numbers.
 
-ghost use Rattle.std.specs.Prelude.{◌≡◌, ◌<◌, ◌++◌, ◌∷◌, [], length, slice_get, Some, OnOk, OnErr, IfOk, IfSome, IfNone, bytes_eq, false, ◌^◌};
-ghost use Rattle.std.specs.List.{list_any};
+ghost use Rattle.std.specs.Prelude.{◌≡◌, ◌<◌, ◌++◌, ◌∷◌, [], length, slice_get, Some, OnOk, OnErr, IfOk, IfSome, IfNone};
 ghost use Rattle.chor_base.specs.Words.{with_word, IsShortSet, Lacks};
 
 use crate::memory::Memory;
-use indexmap::IndexSet;
 use std::alloc::Global;
+use std::collections::HashMap;
 use std::marker::Model;
 
 /// Fewer than 2^32 byte strings, each once. The number of one is its place.
 pub struct Table {
-    words: IndexSet<Vec<u8>>,
+    words: Vec<Vec<u8>>,
+    numbers: HashMap<Vec<u8>, u32>,
 }
 
 impl Drop for Table {
     fn drop(self) {
-        let Table { words: _ } = self;
+        let Table {
+            words: _,
+            numbers: _,
+        } = self;
     }
 }
 
 impl Model for Table {
     ghost use Rattle.std.specs.Prelude.{List, ℕ};
-    ghost use Rattle.chor_base.specs.Words.{words_of, IsShortSet};
+    ghost use Rattle.chor_base.specs.Words.{words_of, IsNumbered};
 
     ghost Value = { List (List ℕ) };
 
-    ghost view = { λ a. words_of a.words.keys };
+    ghost view = { λ a. words_of a.words.items };
 
-    ghost invariant = { λ a. IsShortSet (words_of a.words.keys) };
+    ghost invariant = { λ a. IsNumbered (words_of a.words.items) a.numbers.entries };
 }
 
 impl Table {
@@ -36,7 +39,8 @@ impl Table {
         ensures { result ≡ [] }
     {
         Table {
-            words: IndexSet::new(alloc),
+            words: Vec::new(alloc),
+            numbers: HashMap::new(alloc),
         }
     }
 
@@ -51,20 +55,14 @@ impl Table {
         ensures found { IfSome result (λ n. slice_get self.now n ≡ Some word.now) }
         ensures absent { IfNone result (Lacks self.now word.now) }
     {
-        match self.words.get_index_of(word) {
-            Some(number) => Some(number as u32),
-            None => None,
-        }
+        self.numbers.get(word).copied()
     }
 
     pub fn at(&self, number: u32) -> &[u8]
         requires { number < length self.now }
         ensures { slice_get self.now number ≡ Some result.now }
     {
-        match self.words.get_index(number as usize) {
-            Some(word) => word.as_slice(),
-            None => unreachable!(),
-        }
+        self.words[number as usize].as_slice()
     }
 
     // The number of a word, which goes last where it isn't there. A table that is full answers
@@ -80,8 +78,9 @@ impl Table {
             return Ok(number);
         }
         let alloc = *self.words.allocator();
+        let own = word.to_vec(alloc)?;
         let key = word.to_vec(alloc)?;
-        self.add(key)
+        self.add(own, key)
     }
 
     pub fn copy(&self, alloc: Global) -> Result<Table, Memory>
@@ -95,10 +94,11 @@ impl Table {
         Ok(table)
     }
 
-    // One more word.
-    fn add(&mut self, key: Vec<u8>) -> Result<u32, Memory>
-        requires { Lacks self.old key.items }
-        ensures ok { OnOk result (self.new ≡ self.old ++ key.items ∷ []) }
+    // One more word, which is the key too.
+    fn add(&mut self, word: Vec<u8>, key: Vec<u8>) -> Result<u32, Memory>
+        requires absent { Lacks self.old word.items }
+        requires key { key.items ≡ word.items }
+        ensures ok { OnOk result (self.new ≡ self.old ++ word.items ∷ []) }
         ensures number { IfOk result (λ n. n ≡ length self.old) }
         ensures err { OnErr result (self.new ≡ self.old) }
         ensures set { IsShortSet self.new }
@@ -108,8 +108,9 @@ impl Table {
             return Err(Memory);
         }
         self.words.reserve(1)?;
-        match self.words.insert_full(key) {
-            Ok(_) => Ok(number as u32),
+        self.numbers.insert(key, number as u32)?;
+        match self.words.push(word) {
+            Ok(()) => Ok(number as u32),
             Err(_) => unreachable!(),
         }
     }

@@ -10,12 +10,12 @@ ghost use Rattle.endpoint_names.specs.Places.{place_of, IsIndex};
 
 use crate::key::{HasSign, Key};
 use chor_base::{Fault, Memory, Rule, earlier, fault_if};
-use indexmap::IndexMap;
 use std::alloc::Global;
+use std::collections::HashMap;
 
 // The place at which each key stands first.
 pub struct Places {
-    entries: IndexMap<Key, usize>,
+    entries: HashMap<Key, usize>,
 }
 
 impl Drop for Places {
@@ -29,7 +29,7 @@ impl Places {
         ensures { (k : AnyKey) → place_of result k ≡ None }
     {
         Places {
-            entries: IndexMap::new(alloc),
+            entries: HashMap::new(alloc),
         }
     }
 

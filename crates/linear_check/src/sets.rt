@@ -6,9 +6,9 @@ ghost use Rattle.linearity.specs.Marks.{is_marked};
 ghost use Rattle.linear_check.specs.Sets.{holds};
 
 use chor_base::{Memory, NameId};
-use indexmap::IndexMap;
 use linearity::Marks;
 use std::alloc::Global;
+use std::collections::HashMap;
 
 // A parameter of the procedures of a name, by its place.
 #[derive(Clone, Copy, PartialEq, Eq, Hash)]
@@ -19,7 +19,7 @@ pub struct Parameter {
 
 // For each parameter the channels in whose sets it is.
 pub struct Sets {
-    marks: IndexMap<Parameter, Marks>,
+    marks: HashMap<Parameter, Marks>,
 }
 
 impl Drop for Sets {
@@ -34,7 +34,7 @@ impl Sets {
         ensures { (c : ℕ) (f : NameId) (i : ℕ) → c < 128 → holds result c f i ≡ true }
     {
         Sets {
-            marks: IndexMap::new(alloc),
+            marks: HashMap::new(alloc),
         }
     }
 

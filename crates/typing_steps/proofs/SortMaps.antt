@@ -1,12 +1,13 @@
 -- The sorts of the variables of each process, entry by entry.
-use Rattle.std.proofs.Common.{◌≡◌, ℕ, suc, ◌+◌, ◌-◌, ◌<◌, ◌==◌, ◌≤◌, ◌||◌, Bool, true, false, cond, List, ◌∷◌, length, drop, map, Option, Some, None, refl, sym, ap, ◌∙◌, arith}
-use Rattle.std.specs.Prelude.{slice_get, slice_index_or, if◌then◌else◌}
+use Rattle.std.proofs.Common.{◌≡◌, ℕ, suc, ◌+◌, ◌-◌, ◌<◌, ◌==◌, ◌≤◌, ◌||◌, Bool, true, false, cond, subst, List, [], ◌∷◌, length, drop, map, Option, Some, None, refl, sym, ap, ◌∙◌, arith}
+use Rattle.std.specs.Prelude.{slice_index_or, if◌then◌else◌}
+use Rattle.std.specs.List.{AllByRecursion, IsDistinct}
 use Rattle.std.specs.Ordering.{nat_cmp}
-use Rattle.std.specs.Map.{lookup}
+use Rattle.std.specs.Map.{lookup, keys_of}
 use Rattle.std.specs.FinMap as fin
 use Rattle.std.proofs.lemmas.Cmp.{nat_cmp_total}
 use Rattle.std.proofs.lemmas.Bool.Decides.{nat_tests}
-use Rattle.std.proofs.lemmas.Option.{slice_get_within, get_or_from_slice_get}
+use Rattle.std.proofs.lemmas.Map.Keys.{IsDistinct-head, IsDistinct-tail}
 use Rattle.std.proofs.lemmas.List.{drop_all}
 use Rattle.std.proofs.Math.Seq.{drop-cons, drop-length}
 use Rattle.std.proofs.lemmas.Bool.{eqb-true}
@@ -101,25 +102,50 @@ cleared_turn m new whole ps i d e lt empty is_new so_far =
 pub cleared_all : (m whole : NameId → Sorts) (ps : List Part) (i : ℕ) → length ps ≤ i → unset m (names_of (drop i ps)) ≡ whole → m ≡ whole
 cleared_all m whole ps i past so_far = ap (λ l. unset m (names_of l)) (sym (drop_all i ps past)) ∙ so_far
 
--- ---- copies and declarations, made from the last item to the first
+-- ---- copies, made entry by entry
 
-module _ (es : Entries) (i : ℕ) (p : NameId) (v : NameMapView Sort) where
-  entry_first : (rest : Entries) → with_sorts (sorts_among rest) p (sorts_of_map v.map) ≡ sorts_among ((p, v) ∷ rest)
-  entry_first rest = λ j q. go q (q.0 == p.0) j where
-    go : (q : NameId) (b : Bool) → cond b (sorts_of_map v.map) (sorts_among rest q) ≡ sorts_of_entry (cond b (Some v) (entry_of rest q))
-    go q true = refl
-    go q false = refl
+-- no two entries are of one process
+abbrev pub AreApart : Entries → Type 0
+AreApart es = IsDistinct (λ p q. p.0 == q.0) (keys_of es)
 
-  -- an entry more, of which the sorts alone are the same
-  pub copied_turn : (old new : Entries) (w : NameMapView Sort) → 0 < i → slice_get es (i - 1) ≡ Some (p, v) → w.map ≡ v.map
-      → ((q : NameId) → entry_of new q ≡ cond (p.0 == q.0) (Some w) (entry_of old q))
-      → sorts_among old ≡ sorts_among (drop i es) → sorts_among new ≡ sorts_among (drop (i - 1) es)
-  copied_turn old new w positive at copied put so_far =
-      let lt : i - 1 < length es = slice_get_within es (i - 1) (p, v) at in
-      let after : suc (i - 1) ≡ i = omega arith in
-      let parts : drop (i - 1) es ≡ (p, v) ∷ drop i es = drop-cons es (i - 1) (p, v) lt ∙ ap (λ e. e ∷ drop (suc (i - 1)) es) (get_or_from_slice_get es (i - 1) (p, v) (p, v) at) ∙ ap (λ j. (p, v) ∷ drop j es) after in
-      put_one old new p w put ∙ ap (λ m. with_sorts m p (sorts_of_map w.map)) so_far ∙ ap (λ (m : FromNames Sort). with_sorts (sorts_among (drop i es)) p (sorts_of_map m)) copied
-      ∙ entry_first (drop i es) ∙ ap sorts_among (sym parts)
+-- the sorts of these entries, and beyond them others
+abbrev pub sorts_over : Entries → (NameId → Sorts) → NameId → Sorts
+sorts_over [] m = m
+sorts_over (e ∷ es) m = with_sorts (sorts_over es m) e.0 (sorts_of_map e.1.map)
+
+over_nothing : (es : Entries) → sorts_over es (λ p x. None) ≡ sorts_among es
+over_nothing [] = refl
+over_nothing (e ∷ es) = ap (λ m. with_sorts m e.0 (sorts_of_map e.1.map)) (over_nothing es) ∙ (λ i q. go q (q.0 == e.0.0) i) where
+  go : (q : NameId) (b : Bool) → cond b (sorts_of_map e.1.map) (sorts_among es q) ≡ sorts_of_entry (cond b (Some e.1) (entry_of es q))
+  go q true = refl
+  go q false = refl
+
+-- before anything is copied
+pub copied_init : (left es : Entries) (m : NameId → Sorts) → left ≡ es → AreApart es → m ≡ (λ p x. None) → AreApart left × (sorts_over left m ≡ sorts_among es)
+copied_init left es m whole apart empty = (subst AreApart (sym whole) apart, (λ i. sorts_over (whole i) (empty i)) ∙ over_nothing es)
+
+swapped : (m : NameId → Sorts) (p q : NameId) (s t : Sorts) → (p.0 == q.0) ≡ false → with_sorts (with_sorts m p s) q t ≡ with_sorts (with_sorts m q t) p s
+swapped m p q s t apart = λ i r. at r i where
+  at : (r : NameId) → with_sorts (with_sorts m p s) q t r ≡ with_sorts (with_sorts m q t) p s r
+  at r = grind (arith, nat_tests)
+
+put_beyond : (es : Entries) (m : NameId → Sorts) (p : NameId) (s : Sorts) → AllByRecursion (λ q. (p.0 == q.0) ≡ false) (keys_of es)
+    → sorts_over es (with_sorts m p s) ≡ with_sorts (sorts_over es m) p s
+put_beyond [] m p s h = refl
+put_beyond (e ∷ es) m p s h =
+    ap (λ n. with_sorts n e.0 (sorts_of_map e.1.map)) (put_beyond es m p s h.1) ∙ swapped (sorts_over es m) p e.0 s (sorts_of_map e.1.map) h.0
+
+-- an entry more is copied, of which the sorts alone are the same
+pub copied_turn : (left rest : Entries) (m new whole : NameId → Sorts) (p : NameId) (v : NameMapView Sort) (n : FromNames Sort) → left ≡ (p, v) ∷ rest → n ≡ v.map
+    → new ≡ with_sorts m p (sorts_of_map n) → AreApart left → sorts_over left m ≡ whole → AreApart rest × (sorts_over rest new ≡ whole)
+copied_turn left rest m new whole p v n parts copied is_new apart so_far =
+    let all = subst AreApart parts apart in
+    let beyond = put_beyond rest m p (sorts_of_map n) (IsDistinct-head (λ p q. p.0 == q.0) p (keys_of rest) all) in (
+      IsDistinct-tail (λ p q. p.0 == q.0) p (keys_of rest) all,
+      ap (sorts_over rest) is_new ∙ beyond ∙ ap (λ (f : FromNames Sort). with_sorts (sorts_over rest m) p (sorts_of_map f)) copied ∙ ap (λ es. sorts_over es m) (sym parts) ∙ so_far,
+    )
+
+-- ---- declarations, made from the last item to the first
 
 -- the sorts of one process, with a declared variable more
 variable_first : (v : Named × Sort) (rest : List (Named × Sort)) (m new : FromNames Sort) → new ≡ fin.insert m v.0.name.0 v.1 → sorts_of_map m ≡ declared_sort rest

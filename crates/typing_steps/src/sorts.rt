@@ -9,13 +9,13 @@ ghost use Rattle.typing_steps.specs.Sorts.{sorts_in, sorts_of_map, with_sorts};
 
 use chor_base::{Env, Expr, Memory, NameId, Rule, Sort};
 use chor_tree::{Named, Part, ProcParam};
-use indexmap::IndexMap;
 use std::alloc::Global;
+use std::collections::HashMap;
 
 // The variables of each process that are set.
 pub struct SortMap {
     alloc: Global,
-    processes: IndexMap<NameId, Env>,
+    processes: HashMap<NameId, Env>,
 }
 
 impl Drop for SortMap {
@@ -34,7 +34,7 @@ impl SortMap {
     {
         SortMap {
             alloc,
-            processes: IndexMap::new(alloc),
+            processes: HashMap::new(alloc),
         }
     }
 
@@ -57,15 +57,11 @@ impl SortMap {
     pub fn copy(&self, alloc: Global) -> Result<Self, Memory>
         ensures { IfOk result (λ sorts. sorts_in sorts ≡ sorts_in self.now) }
     {
-        let mut processes = IndexMap::new(alloc);
-        let mut left = self.processes.len();
-        while left > 0 {
-            left -= 1;
-            if let Some((process, env)) = self.processes.get_index(left) {
-                processes.insert(*process, env.copy(alloc)?)?;
-            }
+        let mut sorts = SortMap::new(alloc);
+        for (process, env) in self.processes.iter() {
+            sorts.put(*process, env.copy(alloc)?)?;
         }
-        Ok(SortMap { alloc, processes })
+        Ok(sorts)
     }
 
     // The sort of a variable of a process, if it is set.

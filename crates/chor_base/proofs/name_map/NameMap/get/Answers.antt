@@ -1,12 +1,21 @@
-use Rattle.std.proofs.Common.{◌∙◌, sym, ap}
+use Rattle.std.proofs.Common.{◌≡◌, ◌∙◌, sym, ap}
 use Rattle.std.specs.FinMap as fin
-use Rattle.chor_base.proofs.NameMaps.{first_found, get_found}
+use Rattle.chor_base.specs.NameMap.{with_first, takes_first, map_of}
+use Rattle.chor_base.proofs.NameMaps.{get_found, get_first, get_other}
 use Rattle.chor_base.proofs.name_map.NameMap.get.Goals as goal
+use Rattle.chor_base.proofs.name_map.NameMap.get.Goals.{in-Some+else-eq, in_default}
 
-pub returns-in-Some : goal.returns-in-Some
-returns-in-Some g c =
-    let es = c.self.inside.entries.entries in
-    sym (first_found es c.args.name c.in-Some.first.now c.in-Some.value.now c.in-Some.ensures.entry (sym c.eq.ensures ∙ c.if-eq.true)) ∙ sym (get_found es c.args.name) ∙ ap (λ v. fin.get v.map c.args.name.0) c.self.view_is
+pub returns-then-eq : goal.returns-then-eq
+returns-then-eq g c =
+    sym (get_first c.self.inside.first (map_of c.self.inside.rest.entries) c.in-Some.first c.args.name c.in-Some.value c.in-Some.is (sym c.eq.ensures ∙ c.if-eq.true))
+    ∙ ap (λ v. fin.get v.map c.args.name.0) c.self.view_is
 
-pub returns-in_default : goal.returns-in_default
-returns-in_default g c = c.copied.ensures ∙ c.get.ensures.value ∙ sym (get_found c.self.inside.entries.entries c.args.name) ∙ ap (λ v. fin.get v.map c.args.name.0) c.self.view_is
+pub returns : goal.returns
+returns g c =
+    let others = map_of c.self.inside.rest.entries in
+    let name = c.args.name in
+    let alike : fin.get (with_first c.self.inside.first others) name.0 ≡ fin.get others name.0 = elim c.match-self.branch [
+      | in-Some+else-eq w ↦ get_other c.self.inside.first others name (ap (λ f. takes_first f name) w.in-Some.is ∙ sym w.eq.ensures ∙ w.if-eq.false)
+      | in_default w ↦ ap (λ f. fin.get (with_first f others) name.0) w.in_default.is
+    ] in
+    c.copied.ensures ∙ c.get.ensures.value ∙ sym (get_found c.self.inside.rest.entries name) ∙ sym alike ∙ ap (λ v. fin.get v.map name.0) c.self.view_is
