@@ -1,6 +1,5 @@
 -- What contracts see of a network.
-use Rattle.std.specs.Prelude.{ℕ, ◌≡◌, ◌<◌, ◌^◌, Bool, true, ◌&&◌, List, [], ◌∷◌, ◌++◌, length, map, Option, Some, slice_get, nat_lt, All, ◌-◌, vec_capacity, vec_len, Vec}
-use Rattle.std.specs.declared.alloc.Global.{Global}
+use Rattle.std.specs.Prelude.{ℕ, ◌≡◌, ◌<◌, ◌^◌, Bool, true, ◌&&◌, List, [], ◌∷◌, ◌++◌, length, map, Option, Some, slice_get, nat_lt, All, ◌-◌, vec_capacity, vec_len}
 use Rattle.chor_base.specs.declared.event.Event.{Event}
 use Rattle.chor_base.specs.declared.event.Entry.{Entry}
 use Rattle.endpoint_code.specs.declared.endpoints.Endpoints.{Endpoints}
@@ -10,6 +9,7 @@ use Rattle.endpoint_machine.specs.Bound.{IsBound}
 use Rattle.endpoint_machine.specs.Heads.{head_of}
 use Rattle.endpoint_machine.specs.Views.{MachineView}
 use Rattle.post_office.specs.Lanes.{QueuesView, loads_in}
+use Rattle.post_office.specs.declared.ledger.Ledger.{Ledger}
 use Rattle.session_starts.specs.Machines.{standing_of, is_reserved, AreCounted}
 use Rattle.net_core.specs.Machines.{has_queue_room}
 
@@ -50,9 +50,9 @@ abbrev pub has_room : Endpoints → ℕ → QueuesView → MachineView → Bool
 has_room e entries q m = nat_lt 0 entries && (is_reserved e m && has_queue_room q (head_of e m.machine))
 
 -- what contracts see of a network with these fields
-abbrev pub network_of : Endpoints → Option ℕ → List MachineView → QueuesView → ℕ → Vec Entry Global → NetworkView
-network_of e cap ms q sid history =
-    record { endpoints = e; capacity = cap; state = state_of ms q sid; history = history.items; reserved = map (has_room e (vec_capacity history - vec_len history) q) ms }
+abbrev pub network_of : Endpoints → List MachineView → Ledger → NetworkView
+network_of e ms l =
+    record { endpoints = e; capacity = l.capacity; state = state_of ms l.queues l.sid; history = l.history.items; reserved = map (has_room e (vec_capacity l.history - vec_len l.history) l.queues) ms }
 
 -- the programs are without fault, there are fewer than 2^32 processes, each knows its sessions and its number
 pub record IsSound (e : Endpoints) (machines : List MachineView) : Type 0 where

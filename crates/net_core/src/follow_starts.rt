@@ -11,9 +11,9 @@ ghost use Rattle.net_core.specs.Views.{IsSame};
 
 use crate::answer::Followed;
 use crate::network::Network;
-use crate::parts::channel_named;
 use chor_base::{List, Memory, NameId};
 use endpoint_code::Channel;
+use post_office::channel_named;
 
 // Whether a part is this process in this role.
 fn is_part(part: (NameId, u32), role: NameId, pid: u32) -> bool
@@ -100,7 +100,7 @@ impl Network<'_> {
         let Some(found) = channel_named(endpoints.channels.as_slice(), channel) else {
             return Followed::Unmatched;
         };
-        if sid != self.sid {
+        if sid != self.ledger.sid {
             return Followed::Unmatched;
         }
         if !self.may_start(found, parts) {

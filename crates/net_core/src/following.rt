@@ -56,7 +56,7 @@ impl Network<'_> {
         requires sends { Shows self.now.endpoints self.now.state pid (head.Out lane.0 lane.1 lane.2) }
         ensures { (hosts : Hosts) → IsTrue result ↔ MayMake self.now.endpoints hosts self.now.capacity self.now.state pid event.now }
     {
-        if !self.queues.has_room(self.capacity, lane.0, lane.1, lane.2) {
+        if !self.ledger.has_room(lane.0, lane.1, lane.2) {
             return false;
         }
         let machine = &self.machines[pid as usize];
@@ -69,7 +69,7 @@ impl Network<'_> {
         requires takes { Shows self.now.endpoints self.now.state pid (head.Take lane.0 lane.1 lane.2) }
         ensures { (hosts : Hosts) → IsTrue result ↔ MayMake self.now.endpoints hosts self.now.capacity self.now.state pid event.now }
     {
-        let Some(load) = self.queues.first(lane.0, lane.1, lane.2) else {
+        let Some(load) = self.ledger.queues.first(lane.0, lane.1, lane.2) else {
             return false;
         };
         let machine = &self.machines[pid as usize];

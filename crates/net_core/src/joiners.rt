@@ -6,8 +6,8 @@ ghost use Rattle.endpoint_code.specs.NetworkRuns.{is_joined, absent_on};
 ghost use Rattle.net_core.specs.Candidates.{AreBelow, AreJoiners};
 
 use crate::network::Network;
-use crate::parts::channel_named;
 use chor_base::NameId;
+use post_office::channel_named;
 
 impl Network<'_> {
     // Whether one of these processes, who are all that join a channel, joins it in a role.

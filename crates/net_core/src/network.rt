@@ -18,13 +18,13 @@ ghost use Rattle.net_core.specs.Heads.{Shows, EachStands, ended_at, why_at, step
 
 use crate::acts::{act, reserve};
 use crate::answer::Step;
-use crate::parts::{append, channel_named, standing_all};
+use crate::parts::standing_all;
 use crate::standing::{has_ended, is_joining};
 use chor_base::{Entry, Event, List, Memory, NameId, Why};
 use chor_host::HostTable;
 use endpoint_code::{Channel, Endpoints};
 use endpoint_machine::{Head, Machine};
-use post_office::Queues;
+use post_office::{Ledger, append, channel_named};
 use session_starts::start_session;
 use std::alloc::Global;
 use std::marker::Model;
@@ -35,11 +35,8 @@ use std::mem::replace;
 pub struct Network<'a> {
     pub(crate) alloc: Global,
     pub(crate) endpoints: &'a Endpoints,
-    pub(crate) capacity: Option<u32>,
     pub(crate) machines: Vec<Machine>,
-    pub(crate) queues: Queues,
-    pub(crate) sid: u32,
-    history: Vec<Entry>,
+    pub(crate) ledger: Ledger,
 }
 
 impl<'a> Model for Network<'a> {
@@ -53,7 +50,7 @@ impl<'a> Model for Network<'a> {
 
     ghost coded = { Prim.hlevel (codes, whole.the_row.coded, fin.code) };
 
-    ghost view = { λ a. network_of a.endpoints.now a.capacity a.machines.items a.queues a.sid a.history };
+    ghost view = { λ a. network_of a.endpoints.now a.machines.items a.ledger };
 
     ghost invariant = { λ a. IsSound a.endpoints.now a.machines.items };
 }
@@ -76,11 +73,8 @@ impl<'a> Network<'a> {
         Ok(Network {
             alloc,
             endpoints,
-            capacity,
             machines,
-            queues: Queues::new(alloc),
-            sid: 0,
-            history: Vec::new(alloc),
+            ledger: Ledger::new(alloc, capacity),
         })
     }
 
@@ -88,7 +82,7 @@ impl<'a> Network<'a> {
     pub fn history(&self) -> &[Entry]
         ensures { result.now ≡ self.now.history }
     {
-        self.history.as_slice()
+        self.ledger.history.as_slice()
     }
 
     /// Forgets the events so far. Those that come are counted from the first again, and have the memory
@@ -99,21 +93,22 @@ impl<'a> Network<'a> {
         ensures state { self.new.state ≡ self.old.state }
         ensures history { self.new.history ≡ [] }
     {
-        self.history.clear();
+        self.ledger.history.clear();
     }
 
     /// The events so far, of a network that makes no more.
     pub fn into_history(self) -> Vec<Entry>
         ensures { result.items ≡ self.entry.history }
     {
-        self.history
+        let ledger = self.ledger;
+        ledger.history
     }
 
     // How many loads each queue takes at most, if that is declared.
     pub(crate) fn capacity(&self) -> Option<u32>
         ensures { result ≡ self.now.capacity }
     {
-        self.capacity
+        self.ledger.capacity
     }
 
     // This network. One without processes comes in its place.
@@ -123,11 +118,8 @@ impl<'a> Network<'a> {
         let nobody = Network {
             alloc: self.alloc,
             endpoints: self.endpoints,
-            capacity: self.capacity,
             machines: Vec::new(self.alloc),
-            queues: Queues::new(self.alloc),
-            sid: 0,
-            history: Vec::new(self.alloc),
+            ledger: Ledger::new(self.alloc, self.ledger.capacity),
         };
         replace(self, nobody)
     }
@@ -237,9 +229,9 @@ impl<'a> Network<'a> {
         ensures succeeds { IsReserved self.old pid → IsOk result }
     {
         let endpoints = self.endpoints;
-        self.history.reserve(1)?;
+        self.ledger.history.reserve(1)?;
         let machine = &mut self.machines[pid as usize];
-        reserve(endpoints, machine, head, &mut self.queues)
+        reserve(endpoints, machine, head, &mut self.ledger.queues)
     }
 
     // Makes the event of a process with this head that can step and doesn't join.
@@ -256,8 +248,8 @@ impl<'a> Network<'a> {
     {
         let endpoints = self.endpoints;
         let machine = &mut self.machines[pid as usize];
-        let event = act(endpoints, hosts, machine, head, &mut self.queues);
-        append(&mut self.history, event);
+        let event = act(endpoints, hosts, machine, head, &mut self.ledger.queues);
+        append(&mut self.ledger.history, 0, event);
     }
 
     /// One step of a process. A start takes the least process that joins in each other active role.
@@ -368,16 +360,16 @@ impl<'a> Network<'a> {
         ensures ok { OnOk result (HasBegun self.old channel.now parts self.new) }
         ensures err { OnErr result (IsSame self.old self.new) }
     {
-        self.history.reserve(1)?;
-        let sid = self.sid;
+        self.ledger.history.reserve(1)?;
+        let sid = self.ledger.sid;
         let parts = start_session(self.endpoints, &mut self.machines, channel, sid, parts)?;
-        self.sid = sid + 1;
+        self.ledger.sid = sid + 1;
         let event = Event::Start {
             channel: channel.name,
             sid,
             parts,
         };
-        append(&mut self.history, event);
+        append(&mut self.ledger.history, 0, event);
         Ok(())
     }
 }

@@ -1,12 +1,11 @@
-//! Parts of a network: its first processes, its history and its channels.
+//! Parts of a network: its first processes, and whom the seed picks.
 
-ghost use Rattle.std.specs.Prelude.{◌≡◌, ◌<◌, ◌+◌, ◌%◌, ◌^◌, ◌++◌, ◌∷◌, [], length, map, IfOk, vec_len, vec_capacity};
-ghost use Rattle.std.specs.Option.{option_copied};
-ghost use Rattle.endpoint_code.specs.Network.{channel_of, standing_all};
+ghost use Rattle.std.specs.Prelude.{◌≡◌, ◌<◌, ◌+◌, ◌%◌, ◌^◌, length, map, IfOk};
+ghost use Rattle.endpoint_code.specs.Network.{standing_all};
 ghost use Rattle.session_starts.specs.Machines.{standing_of, AreCounted};
 
-use chor_base::{Entry, Event, List, Memory, NameId};
-use endpoint_code::{Channel, Process};
+use chor_base::{List, Memory};
+use endpoint_code::Process;
 use endpoint_machine::Machine;
 use std::alloc::Global;
 
@@ -23,29 +22,6 @@ pub fn standing_all(alloc: Global, processes: &List<Process>) -> Result<Vec<Mach
         machines.push(machine)?;
     }
     Ok(machines)
-}
-
-// One event more, for which there is room.
-pub fn append(history: &mut Vec<Entry>, event: Event)
-    requires { vec_len history.old < vec_capacity history.old }
-    ensures { history.new.items ≡ history.old.items ++ record { worker = 0; event = event } ∷ [] }
-{
-    match history.push(Entry { worker: 0, event }) {
-        Ok(()) => {}
-        Err(_) => unreachable!(),
-    }
-}
-
-// The channel of a name.
-pub fn channel_named(channels: &[Channel], name: NameId) -> Option<&Channel>
-    ensures { option_copied result ≡ channel_of channels.now name }
-{
-    for channel in channels {
-        if channel.name == name {
-            return Some(channel);
-        }
-    }
-    None
 }
 
 // The place of what the seed picks among so many after so many events.

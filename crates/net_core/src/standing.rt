@@ -5,9 +5,9 @@ ghost use Rattle.endpoint_machine.specs.declared.head.Head.TheVariants as head;
 ghost use Rattle.net_core.specs.Heads.{Shows, is_end, is_joining_head, why_at, why_by, steps_at, is_listed_at, leads_at};
 
 use crate::network::Network;
-use crate::parts::channel_named;
 use chor_base::{NameId, Why};
 use endpoint_machine::Head;
+use post_office::channel_named;
 
 // Whether a process with this head has ended.
 pub fn has_ended(head: Head) -> bool
@@ -51,7 +51,7 @@ impl Network<'_> {
         requires takes { Shows self.now.endpoints self.now.state pid (head.Take sid from to) }
         ensures { result ≡ why_at self.now.endpoints self.now.capacity self.now.state pid }
     {
-        let Some(load) = self.queues.first(sid, from, to) else {
+        let Some(load) = self.ledger.queues.first(sid, from, to) else {
             return Some(Why::Empty(sid, from, to));
         };
         let machine = &self.machines[pid as usize];
@@ -66,7 +66,7 @@ impl Network<'_> {
     fn crowded(&self, sid: u32, from: NameId, to: NameId) -> Option<Why>
         ensures { result ≡ why_by self.now.endpoints self.now.capacity self.now.state (head.Out sid from to) }
     {
-        if self.queues.has_room(self.capacity, sid, from, to) {
+        if self.ledger.has_room(sid, from, to) {
             None
         } else {
             Some(Why::Full(sid, from, to))

@@ -105,16 +105,16 @@ module _ (names : List (List ℕ)) (fs : List Function) (i : ℕ) (f : Function)
 
 -- ---- the first office
 
-pub first_kept : (e : Endpoints) (hosts : Hosts) (capacity : Option ℕ) (history : List Entry) (queues : QueuesView) (desks : List Desk) (room : ℕ) → IsFaultless e → length e.processes < 2 ^ 32 → history ≡ [] → queues.lanes ≡ [] → desks ≡ replicate (length e.processes) idle
-    → IsKept (record { endpoints = e; hosts = hosts; capacity = capacity; history = history; queues = queues; sid = 0; desks = desks; room = room })
-first_kept e hosts capacity history queues desks room faultless few no_history no_queues all_idle =
+pub first_kept : (e : Endpoints) (hosts : Hosts) (capacity : Option ℕ) (history : List Entry) (queues : QueuesView) (sid : ℕ) (desks : List Desk) (room : ℕ) → IsFaultless e → length e.processes < 2 ^ 32 → history ≡ [] → queues.lanes ≡ [] → sid ≡ 0 → desks ≡ replicate (length e.processes) idle
+    → IsKept (record { endpoints = e; hosts = hosts; capacity = capacity; history = history; queues = queues; sid = sid; desks = desks; room = room })
+first_kept e hosts capacity history queues sid desks room faultless few no_history no_queues no_session all_idle =
     let many : length desks ≡ length e.processes = ap length all_idle ∙ length-replicate (length e.processes) idle in
     record {
       faultless = faultless;
       state = first_state e;
       after = subst (λ (h : List Entry). NetworkLeads e hosts capacity (first_state e) (events_of h) (first_state e)) (sym no_history) refl;
       queues = ap loads_in no_queues;
-      sid = refl;
+      sid = sym no_session;
       processes = as_many e.processes ∙ sym many;
       few = subst (λ n. n < 2 ^ 32) (sym many) few;
       posts = λ q. subst (λ (p : Post). IsTrueIn e (first_state e) q p) (sym (ap (λ (ds : List Desk). post_at ds q) all_idle ∙ idle_post (length e.processes) q)) (busy_true e (first_state e) (slice_get (standing_all e.processes) q));

@@ -12,6 +12,7 @@ use Rattle.endpoint_code.specs.declared.endpoints.Endpoints.{Endpoints}
 use Rattle.endpoint_code.specs.Network.{NetworkState, NetworkSteps, has_room, loads_for}
 use Rattle.endpoint_code.specs.NetworkRuns.{IsNetworkRun}
 use Rattle.post_office.specs.declared.desk.Desk.{Desk}
+use Rattle.post_office.specs.declared.ledger.Ledger.{Ledger}
 use Rattle.post_office.specs.declared.post.Post.{Post}
 use Rattle.post_office.specs.declared.post.Post.TheVariants.{Busy}
 use Rattle.post_office.specs.Lanes.{QueuesView, loads_in}
@@ -34,9 +35,9 @@ abbrev pub room_in : Vec Entry Global → ℕ
 room_in h = vec_capacity h - vec_len h
 
 -- an office by its fields
-abbrev pub office_of : Endpoints → Hosts → Option ℕ → Vec Entry Global → QueuesView → ℕ → List Desk → OfficeView
-office_of e hosts capacity history queues sid desks =
-    record { endpoints = e; hosts = hosts; capacity = capacity; history = history.items; queues = queues; sid = sid; desks = desks; room = room_in history }
+abbrev pub office_of : Endpoints → Hosts → Ledger → List Desk → OfficeView
+office_of e hosts ledger desks =
+    record { endpoints = e; hosts = hosts; capacity = ledger.capacity; history = ledger.history.items; queues = ledger.queues; sid = ledger.sid; desks = desks; room = room_in ledger.history }
 
 -- the loads in transit on a triple, the first to be received first
 abbrev pub loads_at : QueuesView → Triple → List Load

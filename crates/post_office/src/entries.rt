@@ -1,10 +1,10 @@
-//! Entries of a history.
+//! The processes of events.
 
-ghost use Rattle.std.specs.Prelude.{◌≡◌, ◌<◌, ◌≤◌, ◌+◌, ◌-◌, ◌++◌, ◌∷◌, [], true, vec_len, vec_capacity};
+ghost use Rattle.std.specs.Prelude.{◌≡◌, ◌∷◌, [], true};
 ghost use Rattle.chor_base.specs.Events.{actors_of};
 ghost use Rattle.post_office.specs.Answers.{is_local};
 
-use chor_base::{Entry, Event};
+use chor_base::Event;
 
 // The process of a local event.
 pub fn actor(event: &Event) -> u32
@@ -19,17 +19,5 @@ pub fn actor(event: &Event) -> u32
         Event::Start { .. } => unreachable!(),
         Event::Send { .. } => unreachable!(),
         Event::Recv { .. } => unreachable!(),
-    }
-}
-
-// One event more, for which there is room.
-pub fn append(history: &mut Vec<Entry>, worker: u32, event: Event)
-    requires { vec_len history.old < vec_capacity history.old }
-    ensures items { history.new.items ≡ history.old.items ++ record { worker = worker; event = event } ∷ [] }
-    ensures room { vec_capacity history.old - vec_len history.old ≤ vec_capacity history.new - vec_len history.new + 1 }
-{
-    match history.push(Entry { worker, event }) {
-        Ok(()) => {}
-        Err(_) => unreachable!(),
     }
 }

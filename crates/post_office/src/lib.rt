@@ -4,11 +4,14 @@
 mod desk;
 mod entries;
 mod hosts;
+mod ledger;
 mod office;
 mod parts;
 mod post;
 mod queues;
 
+pub use ledger::{Ledger, append};
 pub use office::Office;
+pub use parts::channel_named;
 pub use post::{Post, Received, Sent, Started};
 pub use queues::Queues;

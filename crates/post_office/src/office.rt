@@ -14,7 +14,7 @@ mod starts;
 
 use crate::desk::Desk;
 use crate::hosts::known_hosts;
-use crate::queues::Queues;
+use crate::ledger::Ledger;
 use chor_base::{Entry, Meaning, Memory, NameId};
 use chor_host::HostTable;
 use endpoint_code::Endpoints;
@@ -28,11 +28,8 @@ pub struct Office<'a> {
     endpoints: &'a Endpoints,
     // What the host functions may answer, by the numbers of their names.
     hosts: Vec<(NameId, Meaning)>,
-    capacity: Option<u32>,
-    queues: Queues,
-    sid: u32,
+    ledger: Ledger,
     desks: Vec<Desk>,
-    history: Vec<Entry>,
 }
 
 impl Drop for Office<'_> {
@@ -40,11 +37,8 @@ impl Drop for Office<'_> {
         let Office {
             endpoints: _,
             hosts: _,
-            capacity: _,
-            queues: _,
-            sid: _,
+            ledger: _,
             desks: _,
-            history: _,
         } = self;
     }
 }
@@ -60,9 +54,9 @@ impl<'a> Model for Office<'a> {
 
     ghost coded = { Prim.hlevel (codes, whole.the_row.coded) };
 
-    ghost view = { λ a. office_of a.endpoints.now a.hosts.items a.capacity a.history a.queues a.sid a.desks.items };
+    ghost view = { λ a. office_of a.endpoints.now a.hosts.items a.ledger a.desks.items };
 
-    ghost invariant = { λ a. IsKept (office_of a.endpoints.now a.hosts.items a.capacity a.history a.queues a.sid a.desks.items) };
+    ghost invariant = { λ a. IsKept (office_of a.endpoints.now a.hosts.items a.ledger a.desks.items) };
 }
 
 impl<'a> Office<'a> {
@@ -88,11 +82,8 @@ impl<'a> Office<'a> {
         Ok(Office {
             endpoints,
             hosts,
-            capacity,
-            queues: Queues::new(alloc),
-            sid: 0,
+            ledger: Ledger::new(alloc, capacity),
             desks,
-            history: Vec::new(alloc),
         })
     }
 
@@ -101,6 +92,6 @@ impl<'a> Office<'a> {
         ensures history { result.now ≡ self.now.history }
         ensures kept { IsKept self.now }
     {
-        self.history.as_slice()
+        self.ledger.history.as_slice()
     }
 }

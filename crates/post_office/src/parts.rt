@@ -7,7 +7,7 @@ ghost use Rattle.endpoint_code.specs.Network.{channel_of, served_parts};
 use chor_base::{List, Memory, NameId};
 use endpoint_code::Channel;
 
-// The channel of a name.
+/// The channel of a name.
 pub fn channel_named(channels: &[Channel], name: NameId) -> Option<&Channel>
     ensures { option_copied result ≡ channel_of channels.now name }
 {

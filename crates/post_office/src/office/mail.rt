@@ -8,7 +8,8 @@ ghost use Rattle.post_office.specs.Answers.{IsSame, HasActed, AnswersSend, Answe
 
 use super::Office;
 use crate::desk::make_busy;
-use crate::entries::{actor, append};
+use crate::entries::actor;
+use crate::ledger::append;
 use crate::post::{Received, Sent};
 use chor_base::{Event, Load, Memory, NameId};
 
@@ -20,8 +21,8 @@ impl Office<'_> {
         ensures place { OnOk result (1 ≤ room_on self.new.queues (sid, from, to)) }
         ensures succeeds { 1 ≤ self.old.room → 1 ≤ room_on self.old.queues (sid, from, to) → IsOk result }
     {
-        self.history.reserve(1)?;
-        self.queues.reserve(sid, from, to)
+        self.ledger.history.reserve(1)?;
+        self.ledger.queues.reserve(sid, from, to)
     }
 
     /// Takes memory for so many events.
@@ -30,7 +31,7 @@ impl Office<'_> {
         ensures room { OnOk result (count ≤ self.new.room) }
         ensures succeeds { count ≤ self.old.room → IsOk result }
     {
-        self.history.reserve(count as usize)?;
+        self.ledger.history.reserve(count as usize)?;
         Ok(())
     }
 
@@ -38,14 +39,14 @@ impl Office<'_> {
     pub fn first(&self, sid: u32, from: NameId, to: NameId) -> Option<Load>
         ensures { result ≡ slice_get (loads_at self.now.queues (sid, from, to)) 0 }
     {
-        self.queues.first(sid, from, to)
+        self.ledger.queues.first(sid, from, to)
     }
 
     /// Whether a declared capacity is reached in a queue.
     pub fn full(&self, sid: u32, from: NameId, to: NameId) -> bool
         ensures { result ≡ is_full self.now (sid, from, to) }
     {
-        !self.queues.has_room(self.capacity, sid, from, to)
+        !self.ledger.has_room(sid, from, to)
     }
 
     /// Sends a message, which makes an event of a process that is at a head for it.
@@ -66,7 +67,7 @@ impl Office<'_> {
         if self.full(sid, from, to) {
             return Sent::Full;
         }
-        self.queues.put(sid, from, to, load);
+        self.ledger.queues.put(sid, from, to, load);
         make_busy(&mut self.desks, pid);
         let event = Event::Send {
             pid,
@@ -75,7 +76,7 @@ impl Office<'_> {
             to,
             load,
         };
-        append(&mut self.history, worker, event);
+        append(&mut self.ledger.history, worker, event);
         Sent::Sent
     }
 
@@ -86,10 +87,10 @@ impl Office<'_> {
         requires stands { CanReceive self.old pid (sid, from, to) }
         ensures { AnswersReceipt self.old worker pid (sid, from, to) result self.new }
     {
-        let Some(load) = self.queues.first(sid, from, to) else {
+        let Some(load) = self.ledger.queues.first(sid, from, to) else {
             return Received::Empty;
         };
-        let _ = self.queues.take(sid, from, to);
+        let _ = self.ledger.queues.take(sid, from, to);
         make_busy(&mut self.desks, pid);
         let event = Event::Recv {
             pid,
@@ -98,7 +99,7 @@ impl Office<'_> {
             to,
             load,
         };
-        append(&mut self.history, worker, event);
+        append(&mut self.ledger.history, worker, event);
         Received::Got(load)
     }
 
@@ -112,6 +113,6 @@ impl Office<'_> {
     {
         let pid = actor(&event);
         make_busy(&mut self.desks, pid);
-        append(&mut self.history, worker, event);
+        append(&mut self.ledger.history, worker, event);
     }
 }

@@ -8,7 +8,7 @@ ghost use Rattle.post_office.specs.Starts.{least_posted, partner_for, first_abse
 
 use super::Office;
 use crate::desk::{Desk, join_all, posted};
-use crate::entries::append;
+use crate::ledger::append;
 use crate::parts::{add_served, channel_named};
 use crate::post::{Post, Started};
 use chor_base::{Event, List, Memory, NameId};
@@ -87,7 +87,7 @@ impl Office<'_> {
         ensures sid { IfOk result (λ sid. sid ≡ self.old.sid) }
         ensures err { OnErr result (IsSame self.old self.new) }
     {
-        let sid = self.sid;
+        let sid = self.ledger.sid;
         let alloc = *self.desks.allocator();
         add_served(
             &mut parts,
@@ -95,7 +95,7 @@ impl Office<'_> {
             self.desks.len() as u32,
         )?;
         let mut new = vec![in alloc; Desk::idle(); channel.serve.len()]?;
-        self.history.reserve(1)?;
+        self.ledger.history.reserve(1)?;
         self.desks.reserve(new.len())?;
         match self.desks.append(&mut new) {
             Ok(()) => {}
@@ -107,8 +107,8 @@ impl Office<'_> {
             sid,
             parts,
         };
-        append(&mut self.history, worker, event);
-        self.sid += 1;
+        append(&mut self.ledger.history, worker, event);
+        self.ledger.sid += 1;
         Ok(sid)
     }
 

@@ -31,15 +31,15 @@ may-requires g c =
     let p = c.args.pid in
     let e = i.endpoints.now in
     let m = c.index-machine.result.now in
-    let in_it = within i.machines.items i.queues c.self.view_is p c.requires.there in
-    let t = shows_in i.machines.items i.queues c.self.view_is p head.Local c.in-Local.ensures in
+    let in_it = within i.machines.items i.ledger.queues c.self.view_is p c.requires.there in
+    let t = shows_in i.machines.items i.ledger.queues c.self.view_is p head.Local c.in-Local.ensures in
     record {
       faultless = record {
         faultless = c.self.invariant.faultless;
         hosts = subst (λ (v : NetworkView). AsksKnown (is_listed (names_of (functions_of c.args.hosts.now)) v.endpoints) v.endpoints) (sym c.self.view_is) c.requires.hosts;
       };
       bound = bound_at e i.machines.items p m c.self.invariant in_it c.index-machine.ensures;
-      alone = head_there e i.machines.items i.queues i.sid p m head.Local t in_it c.index-machine.ensures;
+      alone = head_there e i.machines.items i.ledger.queues i.ledger.sid p m head.Local t in_it c.index-machine.ensures;
     }
 
 pub returns-in-Local : goal.returns-in-Local
@@ -50,13 +50,13 @@ returns-in-Local g c =
     let m = c.index-machine.result.now in
     let x = c.args.event.now in
     let hosts = hosts_in e.names (functions_of c.args.hosts.now) in
-    let in_it = within i.machines.items i.queues c.self.view_is p c.requires.there in
-    let t = shows_in i.machines.items i.queues c.self.view_is p head.Local c.in-Local.ensures in
-    let shown = head_there e i.machines.items i.queues i.sid p m head.Local t in_it c.index-machine.ensures in
-    let same = stands_there e i.machines.items i.queues i.sid p m t.node t.stands in_it c.index-machine.ensures in
+    let in_it = within i.machines.items i.ledger.queues c.self.view_is p c.requires.there in
+    let t = shows_in i.machines.items i.ledger.queues c.self.view_is p head.Local c.in-Local.ensures in
+    let shown = head_there e i.machines.items i.ledger.queues i.ledger.sid p m head.Local t in_it c.index-machine.ensures in
+    let same = stands_there e i.machines.items i.ledger.queues i.ledger.sid p m t.node t.stands in_it c.index-machine.ensures in
     let stands = subst (λ (k : Machine). StandsAt e k t.node t.stands.sessions) same t.stands.at_node in
     let number : m.number ≡ p = c.self.invariant.counted p m.number (mapped_at number_of i.machines.items p m in_it c.index-machine.ensures) in
-    let both = may_acting e hosts i.capacity (state_of i.machines.items i.queues i.sid) p m.machine t.node t.stands.sessions x (runner_at i.machines.items p m in_it c.index-machine.ensures) stands shown in
+    let both = may_acting e hosts i.ledger.capacity (state_of i.machines.items i.ledger.queues i.ledger.sid) p m.machine t.node t.stands.sessions x (runner_at i.machines.items p m in_it c.index-machine.ensures) stands shown in
     subst (λ (v : NetworkView). (IsTrue c.may.result → MayMake v.endpoints (hosts_in v.endpoints.names (functions_of c.args.hosts.now)) v.capacity v.state p x) × (MayMake v.endpoints (hosts_in v.endpoints.names (functions_of c.args.hosts.now)) v.capacity v.state p x → IsTrue c.may.result)) c.self.view_is
     (λ h. both.0 (subst (λ (k : ℕ). CanMake e hosts k m.machine x) number (c.may.ensures.0 h)), λ may. c.may.ensures.1 (subst (λ (k : ℕ). CanMake e hosts k m.machine x) (sym number) (both.1 may)))
 

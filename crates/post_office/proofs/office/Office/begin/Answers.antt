@@ -26,7 +26,7 @@ invariant_of-self-2 c =
     let fits = subst FitsStart (sym view) c.requires.fits in
     let most = served_most c.self.inside.endpoints.now.channels k.name k found in
     let few : length c.self.inside.desks.items + length k.serve < 2 ^ 32 = omega (arith, most, fits.processes) in
-    let s = c.self.inside.sid in
+    let s = c.self.inside.ledger.sid in
     let many : c.len.result ≡ length c.self.inside.desks.items = (let e = c.len.ensures in omega arith) in
     let parts : c.add_served.new.parts ≡ c.args.parts ++ served_parts k.serve (length c.self.inside.desks.items) =
     c.in_ok-add_served.ensures ∙ ap (λ (rs : List NameId). c.args.parts ++ served_parts rs c.len.result) c.as_slice.ensures ∙ ap (λ i. c.args.parts ++ served_parts k.serve i) many in
