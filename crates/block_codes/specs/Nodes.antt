@@ -14,12 +14,14 @@ use Rattle.chor_tree.specs.declared.tree.NodeId.{NodeId}
 use Rattle.chor_tree.specs.declared.tree.Part.{Part as Taking}
 use Rattle.chor_tree.specs.Children.{children_of}
 use Rattle.chor_tree.specs.Source.{Statement, Block, Then, body_of, block_in, block_of, blocks_of}
+use Rattle.chor_semantics.specs.Choreography.{Node, Content, Communicates, Named as Unbound}
 use Rattle.chor_semantics.specs.Sources.{name_ref}
 use Rattle.endpoint_code.specs.Trees.{CodeTree, Ends}
 use Rattle.source_blocks.specs.Blocks.{node_of, choreography_of}
 use Rattle.projection.specs.Codes.{part_in, proc_named, call_code, IsCodeOf}
 use Rattle.projection.specs.Making.{part_at}
 use Rattle.projection.specs.MergeFaults.{made_by, sites_in}
+use Rattle.block_codes.specs.declared.part.Link.{Link}
 use Rattle.block_codes.specs.declared.node.Turn.{Turn}
 use Rattle.block_codes.specs.declared.node.Turn.TheVariants.{Next, Branches, Last}
 
@@ -70,3 +72,7 @@ abbrev pub GoesOn : Form → Turn → Type 0
 GoesOn g (Next next) = IsStatement g next
 GoesOn g (Branches first second) = IsConditional g first second
 GoesOn g Last = IsLast g
+
+-- what goes over a link, from one process to another in a session
+abbrev pub over : Link → Content → Node
+over link w = Communicates (Unbound link.session.0 0) (name_ref link.from.process) link.from.role.name (name_ref link.to.process) link.to.role.name w

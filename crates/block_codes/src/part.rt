@@ -2,10 +2,11 @@
 
 ghost use Rattle.std.specs.Prelude.{◌≡◌, true, IfOk};
 ghost use Rattle.chor_base.specs.Expr.{term_of};
-ghost use Rattle.chor_semantics.specs.Choreography.{Communicates, OfValue, OfLabel, OfPart, Named as Unbound};
+ghost use Rattle.chor_semantics.specs.Choreography.{OfValue, OfLabel, OfPart};
 ghost use Rattle.chor_semantics.specs.Sources.{name_ref, parts_of};
 ghost use Rattle.projection.specs.Codes.{part_in, role_in};
 ghost use Rattle.projection.specs.Making.{is_message, is_own, part_at, DoesPart};
+ghost use Rattle.block_codes.specs.Nodes.{over};
 
 use chor_base::{Expr, List, Memory, NameId};
 use chor_tree::{Form, Part};
@@ -175,7 +176,7 @@ fn value(
     process: NameId,
     next: CodeId,
 ) -> Result<Option<CodeNode>, Memory>
-    ensures { IfOk result (DoesPart next (part_in process (Communicates (Unbound link.session.0 0) (name_ref link.from.process) link.from.role.name (name_ref link.to.process) link.to.role.name (OfValue (term_of expr.now) var)))) }
+    ensures { IfOk result (DoesPart next (part_in process (over link (OfValue (term_of expr.now) var)))) }
 {
     if process == link.from.process.name {
         let sent = expr.copy(alloc)?;
@@ -195,7 +196,7 @@ fn choice(
     process: NameId,
     next: CodeId,
 ) -> Result<Option<CodeNode>, Memory>
-    ensures { IfOk result (DoesPart next (part_in process (Communicates (Unbound link.session.0 0) (name_ref link.from.process) link.from.role.name (name_ref link.to.process) link.to.role.name (OfLabel label)))) }
+    ensures { IfOk result (DoesPart next (part_in process (over link (OfLabel label)))) }
 {
     if process == link.from.process.name {
         Ok(Some(CodeNode::Pick(link.session, link.to.role.name, label, next)))
@@ -210,7 +211,7 @@ fn choice(
 
 // The sender gives its endpoint of another session away, and the receiver takes it over.
 fn delegation(link: Link, given: Part, process: NameId, next: CodeId) -> Option<CodeNode>
-    ensures { DoesPart next (part_in process (Communicates (Unbound link.session.0 0) (name_ref link.from.process) link.from.role.name (name_ref link.to.process) link.to.role.name (OfPart (name_ref given.process) given.role.name))) result }
+    ensures { DoesPart next (part_in process (over link (OfPart (name_ref given.process) given.role.name))) result }
 {
     if process == link.from.process.name {
         Some(CodeNode::Throw(link.session, link.to.role.name, given.process.name, next))

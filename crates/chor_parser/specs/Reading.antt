@@ -11,7 +11,8 @@ use Rattle.chor_tree.specs.declared.tree.Node.{Node}
 use Rattle.chor_tree.specs.declared.tree.NodeId.{NodeId}
 use Rattle.chor_tree.specs.declared.tree.Form.{Form}
 use Rattle.chor_tree.specs.declared.tree.Form.TheVariants as form
-use Rattle.token_grammar.specs.Symbols.{Nothing, Reads}
+use Rattle.chor_base.specs.declared.rule.Denied.{Denied}
+use Rattle.token_grammar.specs.Symbols.{Part, Further, Nothing, Reads, Halts, Leads}
 use Rattle.chor_parser.specs.declared.input.Input.{Input}
 use Rattle.chor_parser.specs.declared.block.Line.{Line}
 use Rattle.chor_parser.specs.declared.source.Declared.{Declared}
@@ -47,6 +48,33 @@ abbrev pub AfterColon : List (List ℕ) → Named → Named → List Token → (
 AfterColon names a b ts P =
     (t0 t1 t2 t3 : List Token)
     → NameIs names t0 a t1 → MarkIs Arrow t1 t2 → NameIs names t2 b t3 → MarkIs Colon t3 ts → P t0
+
+-- ---- by places
+
+module _ {A : Type 0} (R : Part A) where
+  -- the tokens from one place up to another are a part with this value
+  abbrev pub ReadsTo : Further → Input → ℕ → A → ℕ → Type 0
+  ReadsTo C input at x next = Reads R C (names_of input) (tokens_from input at) x (tokens_from input next)
+
+  -- so are those from the word before the place on
+  abbrev pub ReadsAfter : List ℕ → Input → ℕ → A → ℕ → Type 0
+  ReadsAfter w input at x next = AfterWord (names_of input) w (tokens_from input at) (λ t0. Reads R Nothing (names_of input) t0 x (tokens_from input next))
+
+  -- those from the word before the place on are refused
+  abbrev pub HaltsAfter : List ℕ → Input → ℕ → Denied → Type 0
+  HaltsAfter w input at d = AfterWord (names_of input) w (tokens_from input at) (λ t0. Halts R Nothing (names_of input) t0 d)
+
+  -- those from NAME "->" NAME ":" before the place on are a part with this value
+  abbrev pub ReadsAfterColon : Named → Named → Input → ℕ → A → ℕ → Type 0
+  ReadsAfterColon a b input at x next = AfterColon (names_of input) a b (tokens_from input at) (λ t0. Reads R Nothing (names_of input) t0 x (tokens_from input next))
+
+  -- those from NAME "->" NAME ":" before the place on are refused
+  abbrev pub HaltsAfterColon : Named → Named → Input → ℕ → Denied → Type 0
+  HaltsAfterColon a b input at d = AfterColon (names_of input) a b (tokens_from input at) (λ t0. Halts R Nothing (names_of input) t0 d)
+
+  -- at the second place the second part is what is left of the first one, and f makes of its value that of the whole
+  abbrev pub LeadsTo : {B : Type 0} → Input → ℕ → Part B → ℕ → (B → A) → Type 0
+  LeadsTo input at S next f = Leads R Nothing (names_of input) (tokens_from input at) S Nothing (tokens_from input next) f
 
 -- ---- statements and nodes
 
@@ -103,3 +131,11 @@ pub record ItemGoes (names : List (List ℕ)) (ts : List Token) (old new : Decla
   pub reads : Reads AnItemPart Nothing names ts item rest
   pub adds : (is : Items) → joined (items_of old) (with_item item is) ≡ joined (items_of new) is
   pub shorter : length rest < length ts
+
+-- the tokens from one place up to another are an item
+abbrev pub ItemGoesTo : Input → ℕ → Declared → Declared → ℕ → Type 0
+ItemGoesTo input at old new next = ItemGoes (names_of input) (tokens_from input at) old new (tokens_from input next)
+
+-- so are those from the word before the place on
+abbrev pub ItemGoesAfter : List ℕ → Input → ℕ → Declared → Declared → ℕ → Type 0
+ItemGoesAfter w input at old new next = AfterWord (names_of input) w (tokens_from input at) (λ t0. ItemGoes (names_of input) t0 old new (tokens_from input next))

@@ -2,14 +2,14 @@
 
 ghost use Rattle.std.specs.Prelude.{◌≡◌, ◌-◌, ◌<◌, ◌≤◌, ◌++◌, ◌∷◌, [], List, length, IfOk, IfErr, IfSome, IfNone, OnOk};
 ghost use Rattle.chor_base.specs.declared.rule.Rule.TheVariants.{P3};
-ghost use Rattle.token_grammar.specs.Symbols.{Nothing, Head, Reads, Halts, RefusesFirst, Leads};
+ghost use Rattle.token_grammar.specs.Symbols.{Nothing, Head, Halts, RefusesFirst};
 ghost use Rattle.chor_tree.specs.declared.tree.Node.{Node};
 ghost use Rattle.chor_tree.specs.Source.{block_in, blocks_of};
 ghost use Rattle.chor_parser.specs.Grammar.{MarkIs, StandsAt};
 ghost use Rattle.chor_parser.specs.Parts.{OrComma};
 ghost use Rattle.chor_parser.specs.Statements.{StatementFirst};
 ghost use Rattle.chor_parser.specs.Blocks.{BlockPart, LinesPart, LastPart, CallTail, IfTail, AllNamesPart, PassedSessionsPart, PassedSessionsMore, PassedPart, PassedMore};
-ghost use Rattle.chor_parser.specs.Reading.{names_of, tokens_from, with_lines, Grows};
+ghost use Rattle.chor_parser.specs.Reading.{names_of, tokens_from, with_lines, Grows, ReadsTo, LeadsTo};
 ghost use Rattle.chor_parser.specs.Growing.{Adds};
 
 use crate::expression::read_expression;
@@ -49,7 +49,7 @@ pub fn read_body(
     at: usize,
     tree: &mut Tree,
 ) -> Result<(NodeId, usize), Denied>
-    ensures reads { IfOk result (λ x. Reads (BlockPart 64 1024) Nothing (names_of input.now) (tokens_from input.now at) (block_in (blocks_of tree.new.nodes) x.0) (tokens_from input.now x.1)) }
+    ensures reads { IfOk result (λ x. ReadsTo (BlockPart 64 1024) Nothing input.now at (block_in (blocks_of tree.new.nodes) x.0) x.1) }
     ensures halts { IfErr result (Halts (BlockPart 64 1024) Nothing (names_of input.now) (tokens_from input.now at)) }
     ensures there { IfOk result (λ x. x.0.0 < length tree.new.nodes) }
     ensures grows { OnOk result (Grows tree.old.nodes tree.new.nodes) }
@@ -72,7 +72,7 @@ fn read_block(
     tree: &mut Tree,
     room: Room,
 ) -> Result<(NodeId, usize), Denied>
-    ensures reads { IfOk result (λ x. Reads (BlockPart room.blocks room.statements) Nothing (names_of input.now) (tokens_from input.now at) (block_in (blocks_of tree.new.nodes) x.0) (tokens_from input.now x.1)) }
+    ensures reads { IfOk result (λ x. ReadsTo (BlockPart room.blocks room.statements) Nothing input.now at (block_in (blocks_of tree.new.nodes) x.0) x.1) }
     ensures halts { IfErr result (Halts (BlockPart room.blocks room.statements) Nothing (names_of input.now) (tokens_from input.now at)) }
     ensures there { IfOk result (λ x. x.0.0 < length tree.new.nodes) }
     ensures grows { OnOk result (Grows tree.old.nodes tree.new.nodes) }
@@ -111,7 +111,7 @@ fn open_block(input: &Input, at: usize, room: Room) -> Result<usize, Denied>
 
 // { stmt ";" }
 fn read_lines(alloc: Global, input: &Input, at: usize, room: Room) -> Result<(Lines, usize), Denied>
-    ensures leads { IfOk result (λ x. Leads (LinesPart room.blocks room.statements) Nothing (names_of input.now) (tokens_from input.now at) (LinesPart room.blocks x.0.left) Nothing (tokens_from input.now x.1) (with_lines x.0.items.items)) }
+    ensures leads { IfOk result (λ x. LeadsTo (LinesPart room.blocks room.statements) input.now at (LinesPart room.blocks x.0.left) x.1 (with_lines x.0.items.items)) }
     ensures halts { IfErr result (Halts (LinesPart room.blocks room.statements) Nothing (names_of input.now) (tokens_from input.now at)) }
     ensures all { IfOk result (λ x. Head StatementFirst (names_of input.now) (tokens_from input.now x.1) → ⊥) }
     ensures shorter { IfOk result (λ x. length (tokens_from input.now x.1) ≤ length (tokens_from input.now at)) }
@@ -188,7 +188,7 @@ fn read_tail(
     tree: &mut Tree,
     room: Room,
 ) -> Result<(NodeId, usize), Denied>
-    ensures reads { IfOk result (λ x. Reads (LastPart room.blocks room.statements) Nothing (names_of input.now) (tokens_from input.now at) (block_in (blocks_of tree.new.nodes) x.0) (tokens_from input.now x.1)) }
+    ensures reads { IfOk result (λ x. ReadsTo (LastPart room.blocks room.statements) Nothing input.now at (block_in (blocks_of tree.new.nodes) x.0) x.1) }
     ensures halts { IfErr result (Halts (LastPart room.blocks room.statements) Nothing (names_of input.now) (tokens_from input.now at)) }
     ensures there { IfOk result (λ x. x.0.0 < length tree.new.nodes) }
     ensures grows { OnOk result (Grows tree.old.nodes tree.new.nodes) }
@@ -228,7 +228,7 @@ fn read_call(
     tree: &mut Tree,
     place: Place,
 ) -> Result<(NodeId, usize), Denied>
-    ensures reads { IfOk result (λ x. Reads (CallTail place) Nothing (names_of input.now) (tokens_from input.now at) (block_in (blocks_of tree.new.nodes) x.0) (tokens_from input.now x.1)) }
+    ensures reads { IfOk result (λ x. ReadsTo (CallTail place) Nothing input.now at (block_in (blocks_of tree.new.nodes) x.0) x.1) }
     ensures halts { IfErr result (Halts (CallTail place) Nothing (names_of input.now) (tokens_from input.now at)) }
     ensures there { IfOk result (λ x. x.0.0 < length tree.new.nodes) }
     ensures grows { OnOk result (Grows tree.old.nodes tree.new.nodes) }
@@ -256,7 +256,7 @@ struct Passed {
 
 // [ names [ ";" names ] ]
 fn read_passed(alloc: Global, input: &Input, at: usize) -> Result<(Passed, usize), Denied>
-    ensures reads { IfOk result (λ x. Reads PassedPart PassedMore (names_of input.now) (tokens_from input.now at) (x.0.processes, x.0.sessions) (tokens_from input.now x.1)) }
+    ensures reads { IfOk result (λ x. ReadsTo PassedPart PassedMore input.now at (x.0.processes, x.0.sessions) x.1) }
     ensures halts { IfErr result (Halts PassedPart PassedMore (names_of input.now) (tokens_from input.now at)) }
 {
     if !input.has_name(at) {
@@ -281,7 +281,7 @@ fn read_passed_sessions(
     input: &Input,
     at: usize,
 ) -> Result<(List<Named>, usize), Denied>
-    ensures reads { IfOk result (λ x. Reads PassedSessionsPart PassedSessionsMore (names_of input.now) (tokens_from input.now at) x.0 (tokens_from input.now x.1)) }
+    ensures reads { IfOk result (λ x. ReadsTo PassedSessionsPart PassedSessionsMore input.now at x.0 x.1) }
     ensures halts { IfErr result (Halts PassedSessionsPart PassedSessionsMore (names_of input.now) (tokens_from input.now at)) }
 {
     match input.after_mark(at, Mark::Semicolon) {
@@ -292,7 +292,7 @@ fn read_passed_sessions(
 
 // NAME { "," NAME }, without a limit
 fn read_all_names(alloc: Global, input: &Input, at: usize) -> Result<(List<Named>, usize), Denied>
-    ensures reads { IfOk result (λ x. Reads AllNamesPart (OrComma Nothing) (names_of input.now) (tokens_from input.now at) x.0 (tokens_from input.now x.1)) }
+    ensures reads { IfOk result (λ x. ReadsTo AllNamesPart (OrComma Nothing) input.now at x.0 x.1) }
     ensures halts { IfErr result (Halts AllNamesPart (OrComma Nothing) (names_of input.now) (tokens_from input.now at)) }
 {
     let (first, mut at) = input.take_name(at)?;
@@ -316,7 +316,7 @@ fn read_if(
     room: Room,
     place: Place,
 ) -> Result<(NodeId, usize), Denied>
-    ensures reads { IfOk result (λ x. Reads (IfTail room.blocks room.statements place) Nothing (names_of input.now) (tokens_from input.now at) (block_in (blocks_of tree.new.nodes) x.0) (tokens_from input.now x.1)) }
+    ensures reads { IfOk result (λ x. ReadsTo (IfTail room.blocks room.statements place) Nothing input.now at (block_in (blocks_of tree.new.nodes) x.0) x.1) }
     ensures halts { IfErr result (Halts (IfTail room.blocks room.statements place) Nothing (names_of input.now) (tokens_from input.now at)) }
     ensures there { IfOk result (λ x. x.0.0 < length tree.new.nodes) }
     ensures grows { OnOk result (Grows tree.old.nodes tree.new.nodes) }

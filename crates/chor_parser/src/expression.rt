@@ -2,9 +2,9 @@
 
 ghost use Rattle.std.specs.Prelude.{IfOk, IfErr};
 ghost use Rattle.chor_base.specs.Expr.{term_of};
-ghost use Rattle.token_grammar.specs.Symbols.{Reads, Halts};
+ghost use Rattle.token_grammar.specs.Symbols.{Halts};
 ghost use Rattle.token_grammar.specs.Expressions.{ExprPart, Operator};
-ghost use Rattle.chor_parser.specs.Reading.{names_of, tokens_from};
+ghost use Rattle.chor_parser.specs.Reading.{names_of, tokens_from, ReadsTo};
 
 use crate::input::Input;
 use chor_base::{Denied, Expr, Rule};
@@ -13,7 +13,7 @@ use std::alloc::Global;
 
 // expr
 pub fn read_expression(alloc: Global, input: &Input, at: usize) -> Result<(Expr, usize), Denied>
-    ensures reads { IfOk result (λ x. Reads ExprPart Operator (names_of input.now) (tokens_from input.now at) (term_of x.0) (tokens_from input.now x.1)) }
+    ensures reads { IfOk result (λ x. ReadsTo ExprPart Operator input.now at (term_of x.0) x.1) }
     ensures halts { IfErr result (Halts ExprPart Operator (names_of input.now) (tokens_from input.now at)) }
 {
     if at >= input.tokens.items.len() {

@@ -1,10 +1,10 @@
 //! Lists of names and of parts.
 
 ghost use Rattle.std.specs.Prelude.{IfOk, IfErr};
-ghost use Rattle.token_grammar.specs.Symbols.{Nothing, Reads, Halts};
+ghost use Rattle.token_grammar.specs.Symbols.{Nothing, Halts};
 ghost use Rattle.chor_parser.specs.Grammar.{PartIs};
 ghost use Rattle.chor_parser.specs.Parts.{OrComma, OrName, AnyListPart, NamesPart, AnyNamesPart, PartPart};
-ghost use Rattle.chor_parser.specs.Reading.{names_of, tokens_from};
+ghost use Rattle.chor_parser.specs.Reading.{names_of, tokens_from, ReadsTo};
 
 use crate::input::Input;
 use chor_base::{Denied, List};
@@ -19,7 +19,7 @@ pub fn read_names(
     at: usize,
     limit: usize,
 ) -> Result<(List<Named>, usize), Denied>
-    ensures reads { IfOk result (λ x. Reads (NamesPart limit) (OrComma Nothing) (names_of input.now) (tokens_from input.now at) x.0 (tokens_from input.now x.1)) }
+    ensures reads { IfOk result (λ x. ReadsTo (NamesPart limit) (OrComma Nothing) input.now at x.0 x.1) }
     ensures halts { IfErr result (Halts (NamesPart limit) (OrComma Nothing) (names_of input.now) (tokens_from input.now at)) }
 {
     input.room_for_name(at, 0, limit)?;
@@ -42,7 +42,7 @@ pub fn read_any_names(
     at: usize,
     limit: usize,
 ) -> Result<(List<Named>, usize), Denied>
-    ensures reads { IfOk result (λ x. Reads (AnyNamesPart limit) OrName (names_of input.now) (tokens_from input.now at) x.0 (tokens_from input.now x.1)) }
+    ensures reads { IfOk result (λ x. ReadsTo (AnyNamesPart limit) OrName input.now at x.0 x.1) }
     ensures halts { IfErr result (Halts (AnyNamesPart limit) OrName (names_of input.now) (tokens_from input.now at)) }
 {
     if input.has_name(at) {
@@ -54,7 +54,7 @@ pub fn read_any_names(
 
 // part = NAME "[" NAME "]"
 pub fn read_part(input: &Input, at: usize) -> Result<(Part, usize), Denied>
-    ensures reads { IfOk result (λ x. Reads PartPart Nothing (names_of input.now) (tokens_from input.now at) x.0 (tokens_from input.now x.1)) }
+    ensures reads { IfOk result (λ x. ReadsTo PartPart Nothing input.now at x.0 x.1) }
     ensures halts { IfErr result (Halts PartPart Nothing (names_of input.now) (tokens_from input.now at)) }
 {
     let (process, at) = input.take_name(at)?;
@@ -66,7 +66,7 @@ pub fn read_part(input: &Input, at: usize) -> Result<(Part, usize), Denied>
 
 // part { "," part }
 pub fn read_parts(alloc: Global, input: &Input, at: usize) -> Result<(List<Part>, usize), Denied>
-    ensures reads { IfOk result (λ x. Reads (AnyListPart PartIs) (OrComma Nothing) (names_of input.now) (tokens_from input.now at) x.0 (tokens_from input.now x.1)) }
+    ensures reads { IfOk result (λ x. ReadsTo (AnyListPart PartIs) (OrComma Nothing) input.now at x.0 x.1) }
     ensures halts { IfErr result (Halts (AnyListPart PartIs) (OrComma Nothing) (names_of input.now) (tokens_from input.now at)) }
 {
     let (first, mut at) = read_part(input, at)?;

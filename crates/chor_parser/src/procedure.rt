@@ -1,9 +1,9 @@
 //! The heads of procedures.
 
 ghost use Rattle.std.specs.Prelude.{IfOk, IfErr};
-ghost use Rattle.token_grammar.specs.Symbols.{Nothing, Reads, Halts};
+ghost use Rattle.token_grammar.specs.Symbols.{Nothing, Halts};
 ghost use Rattle.chor_parser.specs.Parts.{OrComma, AParen, OrSession, OrParams, VariablePart, VarsPart, VariablesPart, ProcParamPart, ProcParamsPart, HolderPart, HoldersPart, SessionParamPart, SessionParamsPart, SessionsPart, ParamsPart};
-ghost use Rattle.chor_parser.specs.Reading.{names_of, tokens_from};
+ghost use Rattle.chor_parser.specs.Reading.{names_of, tokens_from, ReadsTo};
 
 use crate::input::Input;
 use crate::limits::{PARAMETERS, VARIABLES};
@@ -26,7 +26,7 @@ pub fn read_parameters(
     input: &Input,
     at: usize,
 ) -> Result<(Parameters, usize), Denied>
-    ensures reads { IfOk result (λ x. Reads ParamsPart OrParams (names_of input.now) (tokens_from input.now at) (x.0.params, x.0.sessions) (tokens_from input.now x.1)) }
+    ensures reads { IfOk result (λ x. ReadsTo ParamsPart OrParams input.now at (x.0.params, x.0.sessions) x.1) }
     ensures halts { IfErr result (Halts ParamsPart OrParams (names_of input.now) (tokens_from input.now at)) }
 {
     if !input.has_name(at) {
@@ -47,7 +47,7 @@ fn read_process_params(
     input: &Input,
     at: usize,
 ) -> Result<(List<ProcParam>, usize), Denied>
-    ensures reads { IfOk result (λ x. Reads ProcParamsPart (OrComma AParen) (names_of input.now) (tokens_from input.now at) x.0 (tokens_from input.now x.1)) }
+    ensures reads { IfOk result (λ x. ReadsTo ProcParamsPart (OrComma AParen) input.now at x.0 x.1) }
     ensures halts { IfErr result (Halts ProcParamsPart (OrComma AParen) (names_of input.now) (tokens_from input.now at)) }
 {
     let (first, mut at) = read_process_param(alloc, input, at)?;
@@ -64,7 +64,7 @@ fn read_process_params(
 
 // parameter = NAME [ "(" NAME ":" sort { "," NAME ":" sort } ")" ]
 fn read_process_param(alloc: Global, input: &Input, at: usize) -> Result<(ProcParam, usize), Denied>
-    ensures reads { IfOk result (λ x. Reads ProcParamPart AParen (names_of input.now) (tokens_from input.now at) x.0 (tokens_from input.now x.1)) }
+    ensures reads { IfOk result (λ x. ReadsTo ProcParamPart AParen input.now at x.0 x.1) }
     ensures halts { IfErr result (Halts ProcParamPart AParen (names_of input.now) (tokens_from input.now at)) }
 {
     let (name, at) = input.take_name(at)?;
@@ -78,7 +78,7 @@ fn read_any_vars(
     input: &Input,
     at: usize,
 ) -> Result<(List<(Named, Sort)>, usize), Denied>
-    ensures reads { IfOk result (λ x. Reads VariablesPart AParen (names_of input.now) (tokens_from input.now at) x.0 (tokens_from input.now x.1)) }
+    ensures reads { IfOk result (λ x. ReadsTo VariablesPart AParen input.now at x.0 x.1) }
     ensures halts { IfErr result (Halts VariablesPart AParen (names_of input.now) (tokens_from input.now at)) }
 {
     let Some(after) = input.after_mark(at, Mark::OpenParen) else {
@@ -95,7 +95,7 @@ fn read_vars(
     input: &Input,
     at: usize,
 ) -> Result<(List<(Named, Sort)>, usize), Denied>
-    ensures reads { IfOk result (λ x. Reads VarsPart (OrComma Nothing) (names_of input.now) (tokens_from input.now at) x.0 (tokens_from input.now x.1)) }
+    ensures reads { IfOk result (λ x. ReadsTo VarsPart (OrComma Nothing) input.now at x.0 x.1) }
     ensures halts { IfErr result (Halts VarsPart (OrComma Nothing) (names_of input.now) (tokens_from input.now at)) }
 {
     let (first, mut at) = read_var(input, at)?;
@@ -112,7 +112,7 @@ fn read_vars(
 
 // NAME ":" sort
 fn read_var(input: &Input, at: usize) -> Result<((Named, Sort), usize), Denied>
-    ensures reads { IfOk result (λ x. Reads VariablePart Nothing (names_of input.now) (tokens_from input.now at) x.0 (tokens_from input.now x.1)) }
+    ensures reads { IfOk result (λ x. ReadsTo VariablePart Nothing input.now at x.0 x.1) }
     ensures halts { IfErr result (Halts VariablePart Nothing (names_of input.now) (tokens_from input.now at)) }
 {
     let (name, at) = input.take_name(at)?;
@@ -127,7 +127,7 @@ fn read_sessions(
     input: &Input,
     at: usize,
 ) -> Result<(List<SessionParam>, usize), Denied>
-    ensures reads { IfOk result (λ x. Reads SessionsPart OrSession (names_of input.now) (tokens_from input.now at) x.0 (tokens_from input.now x.1)) }
+    ensures reads { IfOk result (λ x. ReadsTo SessionsPart OrSession input.now at x.0 x.1) }
     ensures halts { IfErr result (Halts SessionsPart OrSession (names_of input.now) (tokens_from input.now at)) }
 {
     match input.after_mark(at, Mark::Semicolon) {
@@ -142,7 +142,7 @@ fn read_session_params(
     input: &Input,
     at: usize,
 ) -> Result<(List<SessionParam>, usize), Denied>
-    ensures reads { IfOk result (λ x. Reads SessionParamsPart (OrComma Nothing) (names_of input.now) (tokens_from input.now at) x.0 (tokens_from input.now x.1)) }
+    ensures reads { IfOk result (λ x. ReadsTo SessionParamsPart (OrComma Nothing) input.now at x.0 x.1) }
     ensures halts { IfErr result (Halts SessionParamsPart (OrComma Nothing) (names_of input.now) (tokens_from input.now at)) }
 {
     let (first, mut at) = read_session_param(alloc, input, at)?;
@@ -163,7 +163,7 @@ fn read_session_param(
     input: &Input,
     at: usize,
 ) -> Result<(SessionParam, usize), Denied>
-    ensures reads { IfOk result (λ x. Reads SessionParamPart Nothing (names_of input.now) (tokens_from input.now at) x.0 (tokens_from input.now x.1)) }
+    ensures reads { IfOk result (λ x. ReadsTo SessionParamPart Nothing input.now at x.0 x.1) }
     ensures halts { IfErr result (Halts SessionParamPart Nothing (names_of input.now) (tokens_from input.now at)) }
 {
     let (name, at) = input.take_name(at)?;
@@ -189,7 +189,7 @@ fn read_holders(
     input: &Input,
     at: usize,
 ) -> Result<(List<(Named, Named)>, usize), Denied>
-    ensures reads { IfOk result (λ x. Reads HoldersPart (OrComma Nothing) (names_of input.now) (tokens_from input.now at) x.0 (tokens_from input.now x.1)) }
+    ensures reads { IfOk result (λ x. ReadsTo HoldersPart (OrComma Nothing) input.now at x.0 x.1) }
     ensures halts { IfErr result (Halts HoldersPart (OrComma Nothing) (names_of input.now) (tokens_from input.now at)) }
 {
     let (first, mut at) = read_holder(input, at)?;
@@ -205,7 +205,7 @@ fn read_holders(
 
 // NAME "=" NAME
 fn read_holder(input: &Input, at: usize) -> Result<((Named, Named), usize), Denied>
-    ensures reads { IfOk result (λ x. Reads HolderPart Nothing (names_of input.now) (tokens_from input.now at) x.0 (tokens_from input.now x.1)) }
+    ensures reads { IfOk result (λ x. ReadsTo HolderPart Nothing input.now at x.0 x.1) }
     ensures halts { IfErr result (Halts HolderPart Nothing (names_of input.now) (tokens_from input.now at)) }
 {
     let (role, at) = input.take_name(at)?;

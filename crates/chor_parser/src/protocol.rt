@@ -3,10 +3,10 @@
 ghost use Rattle.std.specs.Prelude.{◌-◌, List, codes, IfOk, IfErr, IfSome, IfNone};
 ghost use Rattle.chor_base.specs.declared.value.Sort.{Sort};
 ghost use Rattle.chor_lexer.specs.declared.token.Token.{Token};
-ghost use Rattle.token_grammar.specs.Symbols.{Nothing, Reads, Halts};
+ghost use Rattle.token_grammar.specs.Symbols.{Nothing, Halts};
 ghost use Rattle.chor_parser.specs.Grammar.{SortIs};
 ghost use Rattle.chor_parser.specs.Parts.{AName, OrComma, OrBar, SortPart, PayloadPart, ArmPart, ArmsPart, StepPart, StatePart, StatesPart, ProtocolPart, ServedPart, ServicePart};
-ghost use Rattle.chor_parser.specs.Reading.{names_of, tokens_from, AfterWord, AfterColon};
+ghost use Rattle.chor_parser.specs.Reading.{names_of, tokens_from, ReadsTo, ReadsAfter, HaltsAfter, ReadsAfterColon, HaltsAfterColon};
 
 use crate::input::Input;
 use crate::limits::{LABELS, ROLES, STATES};
@@ -18,8 +18,8 @@ use std::alloc::Global;
 
 // protocol = "protocol" NAME "(" names ")" "{" state { state } "}", after its keyword
 pub fn read_protocol(alloc: Global, input: &Input, at: usize) -> Result<(Protocol, usize), Denied>
-    ensures reads { IfOk result (λ x. AfterWord (names_of input.now) (codes "protocol") (tokens_from input.now at) (λ t0. Reads ProtocolPart Nothing (names_of input.now) t0 x.0 (tokens_from input.now x.1))) }
-    ensures halts { IfErr result (λ d. AfterWord (names_of input.now) (codes "protocol") (tokens_from input.now at) (λ t0. Halts ProtocolPart Nothing (names_of input.now) t0 d)) }
+    ensures reads { IfOk result (λ x. ReadsAfter ProtocolPart (codes "protocol") input.now at x.0 x.1) }
+    ensures halts { IfErr result (λ d. HaltsAfter ProtocolPart (codes "protocol") input.now at d) }
 {
     let (name, at) = input.take_name(at)?;
     let at = input.take_mark(at, Mark::OpenParen)?;
@@ -40,7 +40,7 @@ pub fn read_protocol(alloc: Global, input: &Input, at: usize) -> Result<(Protoco
 
 // state { state }
 fn read_states(alloc: Global, input: &Input, at: usize) -> Result<(List<State>, usize), Denied>
-    ensures reads { IfOk result (λ x. Reads StatesPart AName (names_of input.now) (tokens_from input.now at) x.0 (tokens_from input.now x.1)) }
+    ensures reads { IfOk result (λ x. ReadsTo StatesPart AName input.now at x.0 x.1) }
     ensures halts { IfErr result (Halts StatesPart AName (names_of input.now) (tokens_from input.now at)) }
 {
     let (first, mut at) = read_state(alloc, input, at)?;
@@ -57,7 +57,7 @@ fn read_states(alloc: Global, input: &Input, at: usize) -> Result<(List<State>, 
 
 // state = NAME "=" step ";"
 fn read_state(alloc: Global, input: &Input, at: usize) -> Result<(State, usize), Denied>
-    ensures reads { IfOk result (λ x. Reads StatePart Nothing (names_of input.now) (tokens_from input.now at) x.0 (tokens_from input.now x.1)) }
+    ensures reads { IfOk result (λ x. ReadsTo StatePart Nothing input.now at x.0 x.1) }
     ensures halts { IfErr result (Halts StatePart Nothing (names_of input.now) (tokens_from input.now at)) }
 {
     let (name, at) = input.take_name(at)?;
@@ -69,7 +69,7 @@ fn read_state(alloc: Global, input: &Input, at: usize) -> Result<(State, usize),
 
 // step = "end" | NAME "->" NAME ":" payload "then" NAME | NAME "->" NAME "{" arm { "," arm } "}"
 fn read_step(alloc: Global, input: &Input, at: usize) -> Result<(ProtoStep, usize), Denied>
-    ensures reads { IfOk result (λ x. Reads StepPart Nothing (names_of input.now) (tokens_from input.now at) x.0 (tokens_from input.now x.1)) }
+    ensures reads { IfOk result (λ x. ReadsTo StepPart Nothing input.now at x.0 x.1) }
     ensures halts { IfErr result (Halts StepPart Nothing (names_of input.now) (tokens_from input.now at)) }
 {
     if let Some(at) = input.after_word(at, b"end") {
@@ -95,8 +95,8 @@ fn read_value_step(
     input: &Input,
     at: usize,
 ) -> Result<(ProtoStep, usize), Denied>
-    ensures reads { IfOk result (λ x. AfterColon (names_of input.now) from to (tokens_from input.now at) (λ t0. Reads StepPart Nothing (names_of input.now) t0 x.0 (tokens_from input.now x.1))) }
-    ensures halts { IfErr result (λ d. AfterColon (names_of input.now) from to (tokens_from input.now at) (λ t0. Halts StepPart Nothing (names_of input.now) t0 d)) }
+    ensures reads { IfOk result (λ x. ReadsAfterColon StepPart from to input.now at x.0 x.1) }
+    ensures halts { IfErr result (λ d. HaltsAfterColon StepPart from to input.now at d) }
 {
     let (payload, at) = read_payload(input, at)?;
     let at = input.take_word(at, b"then")?;
@@ -112,7 +112,7 @@ fn read_value_step(
 
 // arm { "," arm }
 fn read_arms(alloc: Global, input: &Input, at: usize) -> Result<(List<ProtoArm>, usize), Denied>
-    ensures reads { IfOk result (λ x. Reads (ArmsPart 64) (OrComma Nothing) (names_of input.now) (tokens_from input.now at) x.0 (tokens_from input.now x.1)) }
+    ensures reads { IfOk result (λ x. ReadsTo (ArmsPart 64) (OrComma Nothing) input.now at x.0 x.1) }
     ensures halts { IfErr result (Halts (ArmsPart 64) (OrComma Nothing) (names_of input.now) (tokens_from input.now at)) }
 {
     let (first, mut at) = read_arm(input, at)?;
@@ -129,7 +129,7 @@ fn read_arms(alloc: Global, input: &Input, at: usize) -> Result<(List<ProtoArm>,
 
 // arm = NAME "then" NAME
 fn read_arm(input: &Input, at: usize) -> Result<(ProtoArm, usize), Denied>
-    ensures reads { IfOk result (λ x. Reads ArmPart Nothing (names_of input.now) (tokens_from input.now at) x.0 (tokens_from input.now x.1)) }
+    ensures reads { IfOk result (λ x. ReadsTo ArmPart Nothing input.now at x.0 x.1) }
     ensures halts { IfErr result (Halts ArmPart Nothing (names_of input.now) (tokens_from input.now at)) }
 {
     let (label, at) = input.take_name(at)?;
@@ -140,7 +140,7 @@ fn read_arm(input: &Input, at: usize) -> Result<(ProtoArm, usize), Denied>
 
 // payload = sort | NAME "." NAME "@" NAME
 fn read_payload(input: &Input, at: usize) -> Result<(Payload, usize), Denied>
-    ensures reads { IfOk result (λ x. Reads PayloadPart Nothing (names_of input.now) (tokens_from input.now at) x.0 (tokens_from input.now x.1)) }
+    ensures reads { IfOk result (λ x. ReadsTo PayloadPart Nothing input.now at x.0 x.1) }
     ensures halts { IfErr result (Halts PayloadPart Nothing (names_of input.now) (tokens_from input.now at)) }
 {
     if let Some((sort, at)) = sort_at(input, at) {
@@ -187,8 +187,8 @@ pub fn take_sort(input: &Input, at: usize) -> Result<(Sort, usize), Denied>
 
 // service = "service" NAME ":" NAME "(" names [ "|" names ] ")" ";", after its keyword
 pub fn read_service(alloc: Global, input: &Input, at: usize) -> Result<(Service, usize), Denied>
-    ensures reads { IfOk result (λ x. AfterWord (names_of input.now) (codes "service") (tokens_from input.now at) (λ t0. Reads ServicePart Nothing (names_of input.now) t0 x.0 (tokens_from input.now x.1))) }
-    ensures halts { IfErr result (λ d. AfterWord (names_of input.now) (codes "service") (tokens_from input.now at) (λ t0. Halts ServicePart Nothing (names_of input.now) t0 d)) }
+    ensures reads { IfOk result (λ x. ReadsAfter ServicePart (codes "service") input.now at x.0 x.1) }
+    ensures halts { IfErr result (λ d. HaltsAfter ServicePart (codes "service") input.now at d) }
 {
     let (name, at) = input.take_name(at)?;
     let at = input.take_mark(at, Mark::Colon)?;
@@ -214,7 +214,7 @@ fn read_serve(
     at: usize,
     active: usize,
 ) -> Result<(List<Named>, usize), Denied>
-    ensures reads { IfOk result (λ x. Reads (ServedPart (16 - active)) OrBar (names_of input.now) (tokens_from input.now at) x.0 (tokens_from input.now x.1)) }
+    ensures reads { IfOk result (λ x. ReadsTo (ServedPart (16 - active)) OrBar input.now at x.0 x.1) }
     ensures halts { IfErr result (Halts (ServedPart (16 - active)) OrBar (names_of input.now) (tokens_from input.now at)) }
 {
     match input.after_mark(at, Mark::Bar) {

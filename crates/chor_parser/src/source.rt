@@ -3,11 +3,11 @@
 ghost use Rattle.std.specs.Prelude.{◌≡◌, ◌<◌, ◌∷◌, [], codes, length, IfOk, IfErr, OnOk, OnErr, IfSome, IfNone};
 ghost use Rattle.std.specs.List.{AllByRecursion};
 ghost use Rattle.chor_lexer.specs.Tokens.{IsKnown};
-ghost use Rattle.token_grammar.specs.Symbols.{Nothing, Head, Reads, Halts};
+ghost use Rattle.token_grammar.specs.Symbols.{Nothing, Head, Halts};
 ghost use Rattle.chor_tree.specs.Source.{block_in, blocks_of, procedure_of, source_of};
 ghost use Rattle.chor_parser.specs.Faults.{IsWithin, IsRefusal};
 ghost use Rattle.chor_parser.specs.Files.{ProcedurePart, AnItemPart, ItemFirst, ItemsPart, MainPart, main_of};
-ghost use Rattle.chor_parser.specs.Reading.{names_of, tokens_from, items_of, Grows, AreThere, AfterWord, ItemGoes};
+ghost use Rattle.chor_parser.specs.Reading.{names_of, tokens_from, items_of, Grows, AreThere, ReadsTo, ReadsAfter, HaltsAfter, ItemGoesTo, ItemGoesAfter};
 ghost use Rattle.chor_parser.specs.Known.{IsTextKnown};
 ghost use Rattle.chor_parser.specs.Growing.{Adds, AddsBodies, begins_of};
 
@@ -75,7 +75,7 @@ struct Declared {
 
 // { protocol | service | proc }
 fn read_items(alloc: Global, input: &Input) -> Result<(Declared, usize), Denied>
-    ensures reads { IfOk result (λ x. Reads ItemsPart ItemFirst (names_of input.now) (tokens_from input.now 0) (items_of x.0) (tokens_from input.now x.1)) }
+    ensures reads { IfOk result (λ x. ReadsTo ItemsPart ItemFirst input.now 0 (items_of x.0) x.1) }
     ensures halts { IfErr result (Halts ItemsPart ItemFirst (names_of input.now) (tokens_from input.now 0)) }
     ensures there { IfOk result (λ x. AreThere x.0.tree.nodes x.0.procs) }
     ensures adds { IfOk result (λ x. Adds [] x.0.tree.nodes (begins_of x.0.procs)) }
@@ -108,7 +108,7 @@ fn read_item(
     items: &mut Declared,
 ) -> Result<Option<usize>, Denied>
     requires { AreThere items.old.tree.nodes items.old.procs }
-    ensures some { IfOk result (λ found. IfSome found (λ next. ItemGoes (names_of input.now) (tokens_from input.now at) items.old items.new (tokens_from input.now next))) }
+    ensures some { IfOk result (λ found. IfSome found (λ next. ItemGoesTo input.now at items.old items.new next)) }
     ensures none { IfOk result (λ found. IfNone found (items.new ≡ items.old)) }
     ensures over { IfOk result (λ found. IfNone found (Head ItemFirst (names_of input.now) (tokens_from input.now at) → ⊥)) }
     ensures begun { OnErr result (Head ItemFirst (names_of input.now) (tokens_from input.now at)) }
@@ -139,8 +139,8 @@ fn add_protocol(
     items: &mut Declared,
 ) -> Result<usize, Denied>
     requires { AreThere items.old.tree.nodes items.old.procs }
-    ensures goes { IfOk result (λ next. AfterWord (names_of input.now) (codes "protocol") (tokens_from input.now at) (λ t0. ItemGoes (names_of input.now) t0 items.old items.new (tokens_from input.now next))) }
-    ensures halts { IfErr result (λ d. AfterWord (names_of input.now) (codes "protocol") (tokens_from input.now at) (λ t0. Halts AnItemPart Nothing (names_of input.now) t0 d)) }
+    ensures goes { IfOk result (λ next. ItemGoesAfter (codes "protocol") input.now at items.old items.new next) }
+    ensures halts { IfErr result (λ d. HaltsAfter AnItemPart (codes "protocol") input.now at d) }
     ensures there { OnOk result (AreThere items.new.tree.nodes items.new.procs) }
     ensures adds { OnOk result (AddsBodies items.old items.new) }
 {
@@ -157,8 +157,8 @@ fn add_service(
     items: &mut Declared,
 ) -> Result<usize, Denied>
     requires { AreThere items.old.tree.nodes items.old.procs }
-    ensures goes { IfOk result (λ next. AfterWord (names_of input.now) (codes "service") (tokens_from input.now at) (λ t0. ItemGoes (names_of input.now) t0 items.old items.new (tokens_from input.now next))) }
-    ensures halts { IfErr result (λ d. AfterWord (names_of input.now) (codes "service") (tokens_from input.now at) (λ t0. Halts AnItemPart Nothing (names_of input.now) t0 d)) }
+    ensures goes { IfOk result (λ next. ItemGoesAfter (codes "service") input.now at items.old items.new next) }
+    ensures halts { IfErr result (λ d. HaltsAfter AnItemPart (codes "service") input.now at d) }
     ensures there { OnOk result (AreThere items.new.tree.nodes items.new.procs) }
     ensures adds { OnOk result (AddsBodies items.old items.new) }
 {
@@ -175,8 +175,8 @@ fn add_procedure(
     items: &mut Declared,
 ) -> Result<usize, Denied>
     requires { AreThere items.old.tree.nodes items.old.procs }
-    ensures goes { IfOk result (λ next. AfterWord (names_of input.now) (codes "proc") (tokens_from input.now at) (λ t0. ItemGoes (names_of input.now) t0 items.old items.new (tokens_from input.now next))) }
-    ensures halts { IfErr result (λ d. AfterWord (names_of input.now) (codes "proc") (tokens_from input.now at) (λ t0. Halts AnItemPart Nothing (names_of input.now) t0 d)) }
+    ensures goes { IfOk result (λ next. ItemGoesAfter (codes "proc") input.now at items.old items.new next) }
+    ensures halts { IfErr result (λ d. HaltsAfter AnItemPart (codes "proc") input.now at d) }
     ensures there { OnOk result (AreThere items.new.tree.nodes items.new.procs) }
     ensures adds { OnOk result (AddsBodies items.old items.new) }
 {
@@ -192,8 +192,8 @@ fn read_procedure(
     at: usize,
     tree: &mut Tree,
 ) -> Result<(Proc, usize), Denied>
-    ensures reads { IfOk result (λ x. AfterWord (names_of input.now) (codes "proc") (tokens_from input.now at) (λ t0. Reads ProcedurePart Nothing (names_of input.now) t0 (procedure_of tree.new.nodes x.0) (tokens_from input.now x.1))) }
-    ensures halts { IfErr result (λ d. AfterWord (names_of input.now) (codes "proc") (tokens_from input.now at) (λ t0. Halts ProcedurePart Nothing (names_of input.now) t0 d)) }
+    ensures reads { IfOk result (λ x. ReadsAfter ProcedurePart (codes "proc") input.now at (procedure_of tree.new.nodes x.0) x.1) }
+    ensures halts { IfErr result (λ d. HaltsAfter ProcedurePart (codes "proc") input.now at d) }
     ensures there { IfOk result (λ x. x.0.body.0 < length tree.new.nodes) }
     ensures grows { OnOk result (Grows tree.old.nodes tree.new.nodes) }
     ensures adds { IfOk result (λ x. Adds tree.old.nodes tree.new.nodes (x.0.body ∷ [])) }
@@ -226,7 +226,7 @@ fn read_main(
     at: usize,
     tree: &mut Tree,
 ) -> Result<(Main, usize), Denied>
-    ensures reads { IfOk result (λ x. Reads MainPart Nothing (names_of input.now) (tokens_from input.now at) (main_of x.0.processes (block_in (blocks_of tree.new.nodes) x.0.body)) (tokens_from input.now x.1)) }
+    ensures reads { IfOk result (λ x. ReadsTo MainPart Nothing input.now at (main_of x.0.processes (block_in (blocks_of tree.new.nodes) x.0.body)) x.1) }
     ensures halts { IfErr result (Halts MainPart Nothing (names_of input.now) (tokens_from input.now at)) }
     ensures there { IfOk result (λ x. x.0.body.0 < length tree.new.nodes) }
     ensures grows { OnOk result (Grows tree.old.nodes tree.new.nodes) }

@@ -1,10 +1,10 @@
 //! Statements.
 
 ghost use Rattle.std.specs.Prelude.{◌≡◌, IfOk, IfErr};
-ghost use Rattle.token_grammar.specs.Symbols.{Nothing, Reads, Halts};
+ghost use Rattle.token_grammar.specs.Symbols.{Nothing, Halts};
 ghost use Rattle.token_grammar.specs.Expressions.{Operator};
 ghost use Rattle.chor_parser.specs.Statements.{NewRolesPart, RoleMore, StatementPart, StatementMore, StartTail, SendingTail, ValueTail, LabelTail, GiveTail, SettingTail, HostTail};
-ghost use Rattle.chor_parser.specs.Reading.{names_of, tokens_from, form_of, statement_of};
+ghost use Rattle.chor_parser.specs.Reading.{names_of, tokens_from, form_of, statement_of, ReadsTo};
 
 use crate::expression::read_expression;
 use crate::input::Input;
@@ -145,7 +145,7 @@ pub fn form_of(statement: Statement, next: NodeId) -> Form
 
 // stmt
 pub fn read_statement(alloc: Global, input: &Input, at: usize) -> Result<(Statement, usize), Denied>
-    ensures reads { IfOk result (λ x. Reads StatementPart StatementMore (names_of input.now) (tokens_from input.now at) (statement_of x.0) (tokens_from input.now x.1)) }
+    ensures reads { IfOk result (λ x. ReadsTo StatementPart StatementMore input.now at (statement_of x.0) x.1) }
     ensures halts { IfErr result (Halts StatementPart StatementMore (names_of input.now) (tokens_from input.now at)) }
 {
     if let Some(at) = input.after_word(at, b"start") {
@@ -168,7 +168,7 @@ pub fn read_statement(alloc: Global, input: &Input, at: usize) -> Result<(Statem
 
 // "start" NAME "(" NAME ")" ":" part { "," part } [ "new" part { "," part } ], after its keyword
 fn read_start(alloc: Global, input: &Input, at: usize) -> Result<(Statement, usize), Denied>
-    ensures reads { IfOk result (λ x. Reads StartTail RoleMore (names_of input.now) (tokens_from input.now at) (statement_of x.0) (tokens_from input.now x.1)) }
+    ensures reads { IfOk result (λ x. ReadsTo StartTail RoleMore input.now at (statement_of x.0) x.1) }
     ensures halts { IfErr result (Halts StartTail RoleMore (names_of input.now) (tokens_from input.now at)) }
 {
     let (channel, at) = input.take_name(at)?;
@@ -189,7 +189,7 @@ fn read_start(alloc: Global, input: &Input, at: usize) -> Result<(Statement, usi
 
 // [ "new" part { "," part } ]
 fn read_new_parts(alloc: Global, input: &Input, at: usize) -> Result<(List<Part>, usize), Denied>
-    ensures reads { IfOk result (λ x. Reads NewRolesPart RoleMore (names_of input.now) (tokens_from input.now at) x.0 (tokens_from input.now x.1)) }
+    ensures reads { IfOk result (λ x. ReadsTo NewRolesPart RoleMore input.now at x.0 x.1) }
     ensures halts { IfErr result (Halts NewRolesPart RoleMore (names_of input.now) (tokens_from input.now at)) }
 {
     match input.after_word(at, b"new") {
@@ -205,7 +205,7 @@ fn read_sending(
     input: &Input,
     at: usize,
 ) -> Result<(Statement, usize), Denied>
-    ensures reads { IfOk result (λ x. Reads (SendingTail process) Nothing (names_of input.now) (tokens_from input.now at) (statement_of x.0) (tokens_from input.now x.1)) }
+    ensures reads { IfOk result (λ x. ReadsTo (SendingTail process) Nothing input.now at (statement_of x.0) x.1) }
     ensures halts { IfErr result (Halts (SendingTail process) Nothing (names_of input.now) (tokens_from input.now at)) }
 {
     let (role, at) = input.take_name(at)?;
@@ -234,7 +234,7 @@ fn read_value(
     input: &Input,
     at: usize,
 ) -> Result<(Statement, usize), Denied>
-    ensures reads { IfOk result (λ x. Reads (ValueTail from) Nothing (names_of input.now) (tokens_from input.now at) (statement_of x.0) (tokens_from input.now x.1)) }
+    ensures reads { IfOk result (λ x. ReadsTo (ValueTail from) Nothing input.now at (statement_of x.0) x.1) }
     ensures halts { IfErr result (Halts (ValueTail from) Nothing (names_of input.now) (tokens_from input.now at)) }
 {
     let (expr, at) = read_expression(alloc, input, at)?;
@@ -262,7 +262,7 @@ fn read_label(
     input: &Input,
     at: usize,
 ) -> Result<(Statement, usize), Denied>
-    ensures reads { IfOk result (λ x. Reads (LabelTail from to session) Nothing (names_of input.now) (tokens_from input.now at) (statement_of x.0) (tokens_from input.now x.1)) }
+    ensures reads { IfOk result (λ x. ReadsTo (LabelTail from to session) Nothing input.now at (statement_of x.0) x.1) }
     ensures halts { IfErr result (Halts (LabelTail from to session) Nothing (names_of input.now) (tokens_from input.now at)) }
 {
     let (label, at) = input.take_name(at)?;
@@ -283,7 +283,7 @@ fn read_give(
     input: &Input,
     at: usize,
 ) -> Result<(Statement, usize), Denied>
-    ensures reads { IfOk result (λ x. Reads (GiveTail from to session) Nothing (names_of input.now) (tokens_from input.now at) (statement_of x.0) (tokens_from input.now x.1)) }
+    ensures reads { IfOk result (λ x. ReadsTo (GiveTail from to session) Nothing input.now at (statement_of x.0) x.1) }
     ensures halts { IfErr result (Halts (GiveTail from to session) Nothing (names_of input.now) (tokens_from input.now at)) }
 {
     let at = input.take_mark(at, Mark::OpenParen)?;
@@ -305,7 +305,7 @@ fn read_setting(
     input: &Input,
     at: usize,
 ) -> Result<(Statement, usize), Denied>
-    ensures reads { IfOk result (λ x. Reads (SettingTail process) Operator (names_of input.now) (tokens_from input.now at) (statement_of x.0) (tokens_from input.now x.1)) }
+    ensures reads { IfOk result (λ x. ReadsTo (SettingTail process) Operator input.now at (statement_of x.0) x.1) }
     ensures halts { IfErr result (Halts (SettingTail process) Operator (names_of input.now) (tokens_from input.now at)) }
 {
     let (var, at) = input.take_name(at)?;
@@ -331,7 +331,7 @@ fn read_host(
     input: &Input,
     at: usize,
 ) -> Result<(Statement, usize), Denied>
-    ensures reads { IfOk result (λ x. Reads (HostTail process var) Nothing (names_of input.now) (tokens_from input.now at) (statement_of x.0) (tokens_from input.now x.1)) }
+    ensures reads { IfOk result (λ x. ReadsTo (HostTail process var) Nothing input.now at (statement_of x.0) x.1) }
     ensures halts { IfErr result (Halts (HostTail process var) Nothing (names_of input.now) (tokens_from input.now at)) }
 {
     let (name, at) = input.take_name(at)?;

@@ -1,15 +1,20 @@
 -- Parts of the canonical text, as they are printed.
 use Rattle.std.specs.Prelude.{ℕ, zero, suc, List, [], ◌++◌, map, Option, Some, None, codes}
 use Rattle.std.specs.List.{flat_map}
-use Rattle.chor_base.specs.Expr.{term_of}
+use Rattle.chor_base.specs.declared.names.NameId.{NameId}
+use Rattle.chor_base.specs.Expr.{Term, term_of}
+use Rattle.chor_base.specs.Writing.{name_in}
 use Rattle.chor_tree.specs.declared.file.File.{File}
+use Rattle.chor_tree.specs.declared.file.Named.{Named}
 use Rattle.chor_tree.specs.declared.file.Proc.{Proc}
 use Rattle.chor_tree.specs.declared.file.Service.{Service}
 use Rattle.chor_tree.specs.Protocols.{Protocol}
 use Rattle.chor_tree.specs.declared.tree.NodeId.{NodeId}
+use Rattle.chor_tree.specs.declared.tree.Part.{Part}
 use Rattle.chor_tree.specs.declared.tree.Form.{Form}
 use Rattle.chor_tree.specs.declared.tree.Form.TheVariants.{Start, Value, Label, Give, Set, Host, Show, If, Call, End}
-use Rattle.chor_print.specs.Statements.{start_text, value_text, label_text, give_text, set_text, host_text, show_text}
+use Rattle.chor_print.specs.Pieces.{named_text, part_text}
+use Rattle.chor_print.specs.Statements.{term_text, start_text, value_text, label_text, give_text, set_text, host_text, show_text}
 use Rattle.chor_print.specs.Lines.{block_lines}
 use Rattle.chor_print.specs.Text.{ended, state_line, protocol_head, service_line, proc_head, main_head}
 
@@ -40,6 +45,18 @@ message_text f (Value from e to x k next) = value_text f from (term_of e) to x k
 message_text f (Label from to k l next) = label_text f from to k l
 message_text f (Give from to k given next) = give_text f from to k given
 message_text f _ = []
+
+-- who receives a value, in which variable and session
+abbrev pub receiver_text : List (List ℕ) → Part → NameId → Named → List ℕ
+receiver_text names to x k = part_text names to ++ codes "." ++ name_in names x ++ codes " : " ++ named_text names k
+
+-- between whom a message goes, in which session
+abbrev pub between_text : List (List ℕ) → Part → Part → Named → List ℕ
+between_text names from to k = part_text names from ++ codes " -> " ++ part_text names to ++ codes " : " ++ named_text names k
+
+-- the host function that is asked, with its arguments
+abbrev pub asked_text : File → Named → Term → Term → List ℕ
+asked_text f g left right = codes "host " ++ named_text f.names g ++ codes "(" ++ term_text f left ++ codes ", " ++ term_text f right ++ codes ")"
 
 -- what one process does by itself
 abbrev pub action_text : File → Form → List ℕ

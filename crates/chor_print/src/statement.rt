@@ -5,7 +5,7 @@ ghost use Rattle.chor_base.specs.Expr.{term_of};
 ghost use Rattle.chor_base.specs.Writing.{name_in};
 ghost use Rattle.chor_print.specs.Pieces.{named_text, part_text};
 ghost use Rattle.chor_print.specs.Statements.{term_text, if_text, call_text};
-ghost use Rattle.chor_print.specs.Parts.{statement_text, starting_text, message_text, action_text, next_of};
+ghost use Rattle.chor_print.specs.Parts.{statement_text, starting_text, message_text, action_text, receiver_text, between_text, asked_text, next_of};
 
 use crate::piece::{Piece, put_list, put_list_after};
 use chor_base::{Expr, List, Memory, NameId, put_bytes, put_name};
@@ -205,7 +205,7 @@ fn put_receiver(
     var: NameId,
     session: Named,
 ) -> Result<(), Memory>
-    ensures { OnOk result (out.new.items ≡ out.old.items ++ (part_text file.now.names to ++ codes "." ++ name_in file.now.names var ++ codes " : " ++ named_text file.now.names session)) }
+    ensures { OnOk result (out.new.items ≡ out.old.items ++ receiver_text file.now.names to var session) }
 {
     to.put(out, &file.names)?;
     put_bytes(out, b".".as_slice())?;
@@ -222,7 +222,7 @@ fn put_between(
     to: Part,
     session: Named,
 ) -> Result<(), Memory>
-    ensures { OnOk result (out.new.items ≡ out.old.items ++ (part_text file.now.names from ++ codes " -> " ++ part_text file.now.names to ++ codes " : " ++ named_text file.now.names session)) }
+    ensures { OnOk result (out.new.items ≡ out.old.items ++ between_text file.now.names from to session) }
 {
     from.put(out, &file.names)?;
     put_bytes(out, b" -> ".as_slice())?;
@@ -259,7 +259,7 @@ fn put_host(
     left: &Expr,
     right: &Expr,
 ) -> Result<(), Memory>
-    ensures { OnOk result (out.new.items ≡ out.old.items ++ (codes "host " ++ named_text file.now.names name ++ codes "(" ++ term_text file.now (term_of left.now) ++ codes ", " ++ term_text file.now (term_of right.now) ++ codes ")")) }
+    ensures { OnOk result (out.new.items ≡ out.old.items ++ asked_text file.now name (term_of left.now) (term_of right.now)) }
 {
     put_bytes(out, b"host ".as_slice())?;
     name.put(out, &file.names)?;

@@ -7,7 +7,7 @@ ghost use Rattle.endpoint_code.specs.Code.{children_of};
 ghost use Rattle.endpoint_code.specs.Trees.{Joins, code_at, node_tree, trees_of};
 ghost use Rattle.endpoint_code.specs.Heads.{head_of, next_of};
 ghost use Rattle.endpoint_text.specs.Text.{action_text, code_text, term_text, spaced, listed, body_text};
-ghost use Rattle.endpoint_text.specs.Parts.{head_text, node_arm};
+ghost use Rattle.endpoint_text.specs.Parts.{head_text, node_arm, node_text, operands_text};
 
 use crate::arms::{Arm, ascending_arms};
 use crate::words::{put_list, put_words};
@@ -79,7 +79,7 @@ fn put_actions<'a>(
     id: CodeId,
 ) -> Result<&'a CodeNode, Memory>
     requires { id.0 < length e.now.code.nodes }
-    ensures text { IfOk result (λ last. out.new.items ++ code_text e.now (node_tree (trees_of e.now.code.nodes) last.now) ≡ out.old.items ++ code_text e.now (code_at e.now.code.nodes id)) }
+    ensures text { IfOk result (λ last. out.new.items ++ node_text e.now last.now ≡ out.old.items ++ code_text e.now (code_at e.now.code.nodes id)) }
     ensures last { IfOk result (λ last. next_of last.now ≡ None) }
     ensures below { IfOk result (λ last. All (λ c. c.0 < id.0) (children_of last.now)) }
 {
@@ -197,7 +197,7 @@ fn put_operands(
     left: &Expr,
     right: &Expr,
 ) -> Result<(), Memory>
-    ensures { OnOk result (out.new.items ≡ out.old.items ++ (codes "(" ++ term_text e.now (term_of left.now) ++ codes ", " ++ term_text e.now (term_of right.now) ++ codes ")")) }
+    ensures { OnOk result (out.new.items ≡ out.old.items ++ operands_text e.now (term_of left.now) (term_of right.now)) }
 {
     put_bytes(out, b"(".as_slice())?;
     print_expr(alloc, left, &e.names, &e.texts, out)?;

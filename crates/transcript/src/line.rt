@@ -1,11 +1,13 @@
 //! One line of a transcript.
 
-ghost use Rattle.std.specs.Prelude.{◌≡◌, ◌++◌, ◌∷◌, [], OnOk, OnErr, IfSome, IfNone, slice_get, codes};
-ghost use Rattle.std.specs.Fmt.{decimal, signed_decimal};
-ghost use Rattle.chor_base.specs.Writing.{truth_text};
-ghost use Rattle.transcript.specs.Text.{Words, name_text, process_text, value_text, load_text, parts_text, spaced, numbers_text, said, event_text};
+ghost use Rattle.std.specs.Prelude.{◌≡◌, ◌++◌, OnOk, OnErr, IfSome, IfNone};
+ghost use Rattle.std.specs.Fmt.{signed_decimal};
+ghost use Rattle.chor_base.specs.declared.event.Event.TheVariants as event;
+ghost use Rattle.chor_base.specs.Writing.{};
+ghost use Rattle.transcript.specs.Text.{Words, process_text, value_text, load_text, parts_text, spaced, numbers_text, said, event_text};
 ghost use Rattle.transcript.specs.Phrases.{sending_verb, receiving_verb, verb_text, route_text, phrase_text, deed_text};
 ghost use Rattle.transcript.specs.Books.{words};
+ghost use Rattle.transcript.specs.Written.{host_event};
 
 use crate::book::Book;
 use crate::phrases::{Phrase, Verb};
@@ -243,7 +245,7 @@ fn put_start(
     sid: u32,
     parts: &[(NameId, u32)],
 ) -> Result<(), Memory>
-    ensures { OnOk result (line.new.items ≡ line.old.items ++ (codes " start " ++ name_text (words book.now) channel ++ codes " #" ++ decimal sid ++ parts_text (words book.now) parts.now)) }
+    ensures { OnOk result (line.new.items ≡ line.old.items ++ said (words book.now) (event.Start channel sid parts.now)) }
 {
     put_bytes(line, b" start ".as_slice())?;
     put_name(line, book.names, channel)?;
@@ -264,7 +266,7 @@ struct Asked {
 }
 
 fn put_asked(line: &mut Vec<u8>, alloc: Global, book: &Book, asked: Asked) -> Result<(), Memory>
-    ensures { OnOk result (line.new.items ≡ line.old.items ++ (codes " host " ++ process_text (words book.now) asked.pid ++ codes " " ++ name_text (words book.now) asked.var ++ codes " " ++ name_text (words book.now) asked.name ++ numbers_text asked.left asked.right asked.value)) }
+    ensures { OnOk result (line.new.items ≡ line.old.items ++ said (words book.now) (host_event asked)) }
 {
     put_bytes(line, b" host ".as_slice())?;
     put_process(line, alloc, book, asked.pid)?;

@@ -1,11 +1,10 @@
 //! Procedures and bodies.
 
-ghost use Rattle.std.specs.Prelude.{◌≡◌, ◌<◌, All, map, length, true, false};
+ghost use Rattle.std.specs.Prelude.{◌≡◌, ◌<◌, All, length, true, false};
 ghost use Rattle.chor_base.specs.declared.rule.Place.{Place};
 ghost use Rattle.chor_tree.specs.Children.{children_of};
-ghost use Rattle.chor_tree.specs.Source.{Ends, nowhere, block_in, block_of, blocks_of, procedure_of};
-ghost use Rattle.chor_tree.specs.Same.{all_same, same_block, same_procedure};
-ghost use Rattle.chor_tree.specs.Both.{words_of, texts_of};
+ghost use Rattle.chor_tree.specs.Source.{Ends, nowhere, block_in, block_of, blocks_of};
+ghost use Rattle.chor_tree.specs.Both.{blocks_same, procedure_same, procedures_same};
 ghost use Rattle.chor_tree.specs.Followers.{nodes_in};
 ghost use Rattle.chor_tree.specs.Forms.{is_end};
 
@@ -16,7 +15,7 @@ use crate::tree::{Form, NodeId, Tree};
 
 // Whether the procedures of both files are the same, in the same order.
 pub fn same_procs(both: &Both) -> bool
-    ensures { result ≡ all_same (same_procedure (words_of both.now) (texts_of both.now)) (map (procedure_of both.now.left.now.tree.nodes) both.now.left.now.procs) (map (procedure_of both.now.right.now.tree.nodes) both.now.right.now.procs) }
+    ensures { result ≡ procedures_same both.now }
 {
     let mut procs = both.left.procs.as_slice();
     let mut others = both.right.procs.as_slice();
@@ -34,7 +33,7 @@ pub fn same_procs(both: &Both) -> bool
 }
 
 fn same_proc(both: &Both, proc: &Proc, other: &Proc) -> bool
-    ensures { result ≡ same_procedure (words_of both.now) (texts_of both.now) (procedure_of both.now.left.now.tree.nodes proc.now) (procedure_of both.now.right.now.tree.nodes other.now) }
+    ensures { result ≡ procedure_same both.now proc.now other.now }
 {
     proc.name.says(&other.name, both)
         && proc.params.says(&other.params, both)
@@ -44,7 +43,7 @@ fn same_proc(both: &Both, proc: &Proc, other: &Proc) -> bool
 
 // Whether the blocks that begin at two nodes are the same. A node that isn't there is an end.
 pub fn same_bodies(both: &Both, id: NodeId, other: NodeId) -> bool
-    ensures { result ≡ same_block (words_of both.now) (texts_of both.now) (block_in (blocks_of both.now.left.now.tree.nodes) id) (block_in (blocks_of both.now.right.now.tree.nodes) other) }
+    ensures { result ≡ blocks_same both.now id other }
 {
     let is_there = has_node(&both.left.tree, id);
     let other_is_there = has_node(&both.right.tree, other);
@@ -60,7 +59,7 @@ pub fn same_bodies(both: &Both, id: NodeId, other: NodeId) -> bool
 fn same_blocks(both: &Both, id: NodeId, other: NodeId) -> bool
     requires there { id.0 < length both.now.left.now.tree.nodes }
     requires other { other.0 < length both.now.right.now.tree.nodes }
-    ensures { result ≡ same_block (words_of both.now) (texts_of both.now) (block_in (blocks_of both.now.left.now.tree.nodes) id) (block_in (blocks_of both.now.right.now.tree.nodes) other) }
+    ensures { result ≡ blocks_same both.now id other }
 {
     let mut left = id;
     let mut right = other;
