@@ -11,6 +11,8 @@
 //! the text of the lines with `+ ` that follow comes in its place. What stands after a line
 //! `=== source` is the source of the cases after it, and the lines of these cases are a file of
 //! events, whose name is `EVENTS`.
+//!
+//! The folder `worked` has copies of the files of `examples`, which are held against the worked texts.
 #![tactic(auto)]
 
 use crate::cases::answer_cases;
@@ -18,6 +20,7 @@ use crate::hosts::host_names;
 use crate::made::answer_made;
 use crate::programs::answer_programs;
 use crate::replays::answer_replays;
+use crate::worked_texts::answer_worked;
 use chor_base::{HostOp, Meaning, Memory};
 use chor_host::{HostFn, HostTable, host_gap, host_max, host_min};
 use std::fs;
@@ -29,6 +32,7 @@ mod hosts;
 mod made;
 mod programs;
 mod replays;
+mod worked_texts;
 
 fn main(rt: HostRuntime) -> anyhow::Result<()> {
     let names = host_names(rt.alloc())?;
@@ -53,7 +57,9 @@ fn answer_all(rt: &HostRuntime, hosts: &HostTable) -> anyhow::Result<()> {
     println!(rt; "##### programs")?;
     answer_programs(rt, rt.alloc(), hosts)?;
     println!(rt; "##### replays")?;
-    answer_replays(rt, rt.alloc(), hosts)
+    answer_replays(rt, rt.alloc(), hosts)?;
+    println!(rt; "##### worked")?;
+    answer_worked(rt)
 }
 
 fn answer_listed(rt: &HostRuntime, hosts: &HostTable) -> anyhow::Result<()> {

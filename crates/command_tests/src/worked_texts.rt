@@ -1,17 +1,13 @@
-//! Compares the folder `examples` with the worked texts: writes a line for each file that it reads
-//! there, and ends with 1 where the file isn't the worked text of its name.
-#![tactic(auto)]
+//! Compares files with the worked texts of their names.
 
 use chor_io::{DiskShelf, Fetched, Shelf};
 use std::alloc::Global;
-use std::io;
-use std::process::ExitCode;
 use worked::{endpoints, sources, transcripts};
 
 // How many bytes of a file are read at most.
 const LIMIT: u64 = 1 << 16;
 
-// The transcripts that stand in the folder.
+// The transcripts that stand in the folder of examples.
 const RUNS: [(&str, &[u8]); 5] = [
     ("hello.run", transcripts::HELLO),
     ("labels.run", transcripts::LABELS),
@@ -20,19 +16,19 @@ const RUNS: [(&str, &[u8]); 5] = [
     ("host_call.run", transcripts::HOST_CALL),
 ];
 
-fn main(rt: HostRuntime) -> io::Result<ExitCode> {
-    let mut shelf = DiskShelf::new(rt.alloc(), &rt);
-    let mut status = 0;
+/// Writes a line for each worked text: whether the file of its name below `worked` is that text.
+pub fn answer_worked(rt: &HostRuntime) -> anyhow::Result<()> {
+    let mut shelf = DiskShelf::new(rt.alloc(), rt);
     let texts = sources::EXAMPLES.iter().chain(&RUNS);
     for (name, text) in texts.chain(&endpoints::EXAMPLES) {
-        if holds(rt.alloc(), &mut shelf, name.as_bytes(), text) {
+        let path = format!(in rt.alloc(); "worked/{name}")?;
+        if holds(rt.alloc(), &mut shelf, path.as_bytes(), text) {
             println!(rt; "{name} is the worked text")?;
         } else {
             println!(rt; "{name} is another text")?;
-            status = 1;
         }
     }
-    Ok(ExitCode::from(status))
+    Ok(())
 }
 
 // Whether the file of this name can be read and has these bytes.
