@@ -29,6 +29,9 @@ keeps_both {old = old} k l = record { more = k.more ++ l.more; is = l.is ∙ ap 
     assoc [] ys zs = refl
     assoc (x ∷ xs) ys zs = ap (λ us. x ∷ us) (assoc xs ys zs)
 
+pub keeps_pushed : {mid new : List CodeNode} (n : CodeNode) → new ≡ mid ++ n ∷ [] → Keeps mid new
+keeps_pushed n e = record { more = n ∷ []; is = e }
+
 pub code_kept : {old new : List CodeNode} (id : CodeId) → Keeps old new → id.0 < length old → code_at new id ≡ code_at old id
 code_kept {old = old} {new = new} id k h = code_at-kept old new k.more id k.is h
 

@@ -11,7 +11,7 @@ use Rattle.endpoint_code.specs.Heads.{Acts, Decides, head_of, next_of}
 use Rattle.endpoint_code.proofs.Decides.{acting}
 use Rattle.branch_merge.specs.Meetings.{GoesOn, GoOn, Fork, TestsAs}
 
-one_child : (n : CodeNode) (p : CodeId) → next_of n ≡ Some p → children_of n ≡ p ∷ []
+pub one_child : (n : CodeNode) (p : CodeId) → next_of n ≡ Some p → children_of n ≡ p ∷ []
 one_child (Join c r k next) p h = cc
 one_child (Send k b e next) p h = cc
 one_child (Recv k a x next) p h = cc

@@ -25,6 +25,7 @@ use Rattle.branch_merge.proofs.Bounds.{apart_heads, least_does, none_does, least
 use Rattle.endpoint_code.specs.LeastAbove.{HasNoneAbove}
 use Rattle.endpoint_code.specs.Labels.{HasDistinctLabels, AreDistinctArms, ArmIsIn, has_label}
 use Rattle.branch_merge.proofs.ArmTables.{code_kept, kept_length}
+use Rattle.branch_merge.proofs.Meetings.{one_child}
 
 -- ---- what two nodes have in common, in their table
 
@@ -212,6 +213,9 @@ module _ {old : List CodeNode} {pair first second : Pair} (same : TestSame old p
         (least_tests (least_as refl refl (code_kept holds l x.inside) (two_of_least x.least))
         (least_as (sym (code_kept second.left k i.left)) (sym (code_kept second.right k i.right)) refl (two_of_least y.least))));
   }
+
+pub next_inside : (l : ℕ) (m : CodeNode) (p : CodeId) → next_of m ≡ Some p → p.0 < l → All (λ c. c.0 < l) (children_of m)
+next_inside l m p e h = subst (All (λ c. c.0 < l)) (sym (one_child m p e)) (All-cons (λ c. c.0 < l) p [] h (All-nil (λ c. c.0 < l)))
 
 pub fork_inside : (l : ℕ) (m : CodeNode) {e : Term} (first second : CodeId) → Forks m e first second → first.0 < l → second.0 < l → All (λ c. c.0 < l) (children_of m)
 fork_inside l m first second f h i =

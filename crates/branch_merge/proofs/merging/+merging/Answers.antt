@@ -4,8 +4,8 @@ use Rattle.endpoint_code.specs.declared.code.CodeId.{CodeId}
 use Rattle.endpoint_code.specs.Labels.{has_label}
 use Rattle.endpoint_code.specs.Trees.{trees_of}
 use Rattle.branch_merge.specs.Merging.{arms_at, IsMeetingAt, OfferSame}
-use Rattle.branch_merge.proofs.ArmTables.{keeps_both, kept_length, taken_out, other_holds}
-use Rattle.branch_merge.proofs.Merges.{inside_before, inside_later, distinct_later, same_merged, next_distinct, next_none, next_there, next_merged, first_distinct, second_distinct, first_none, second_none, is_test_there, forks_again, branches_merged, fork_inside, arms_none, arms_merged, children_inside, same_fault, takes_alone, takes_paired, stuck_there, other_distinct, id_same}
+use Rattle.branch_merge.proofs.ArmTables.{keeps_both, keeps_pushed, kept_length, taken_out, other_holds}
+use Rattle.branch_merge.proofs.Merges.{inside_before, inside_later, distinct_later, same_merged, next_distinct, next_none, next_there, next_merged, first_distinct, second_distinct, first_none, second_none, is_test_there, forks_again, branches_merged, next_inside, fork_inside, arms_none, arms_merged, children_inside, same_fault, takes_alone, takes_paired, stuck_there, other_distinct, id_same}
 use Rattle.branch_merge.proofs.ArmsLoop.{next_arm, arm_distinct, rest_distinct, loop_stuck, loop_more, made_more, made_inside, made_all}
 use Rattle.branch_merge.proofs.merging.+merging.Goals as goal
 
@@ -20,11 +20,20 @@ merge_next-merge-requires t c =
     let r = b.right in
     (omega arith, (i.left, (i.right, (d.0, d.1))))
 
+pub merge_next-node_at-requires : goal.merge_next-node_at-requires
+merge_next-node_at-requires t c = (inside_later c.in_ok-id.ensures.kept c.requires.inside).left
+
 pub merge_next-with_next-requires : goal.merge_next-with_next-requires
 merge_next-with_next-requires t c = next_there c.requires.same c.node_at.result.now c.requires.inside c.in_ok-id.ensures.kept c.node_at.ensures.tree
 
 pub merge_next-returns-in_err-id-clause-clash : goal.merge_next-returns-in_err-id-clause-clash
 merge_next-returns-in_err-id-clause-clash t c e = next_none c.requires.same (c.in_err-id.ensures.clash (same_fault CodeId c.from_residual.result _ _ c.from_residual.ensures.1 e))
+
+pub merge_next-push-requires : goal.merge_next-push-requires
+merge_next-push-requires t c = next_inside (length c.merge.new.code.nodes) c.in_ok-node.node c.in_ok-id.id c.in_ok-node.ensures.next c.in_ok-id.ensures.merged.inside
+
+pub merge_next-returns-clause-kept : goal.merge_next-returns-clause-kept
+merge_next-returns-clause-kept t c = keeps_both c.in_ok-id.ensures.kept (keeps_pushed c.in_ok-node.node c.in_ok-push.ensures.ok.1)
 
 pub merge_next-returns-clause-merged : goal.merge_next-returns-clause-merged
 merge_next-returns-clause-merged t c =
@@ -53,6 +62,9 @@ merge_branches-merge-requires-2 t c =
     let r = b.right in
     (omega arith, (j.left, (j.right, (d.0, d.1))))
 
+pub merge_branches-node_at-requires : goal.merge_branches-node_at-requires
+merge_branches-node_at-requires t c = (inside_later (keeps_both c.in_ok-holds.ensures.kept c.in_ok-fails.ensures.kept) c.requires.inside).left
+
 pub merge_branches-with_branches-requires : goal.merge_branches-with_branches-requires
 merge_branches-with_branches-requires t c =
     is_test_there c.requires.same c.node_at.result.now c.requires.inside (keeps_both c.in_ok-holds.ensures.kept c.in_ok-fails.ensures.kept) c.node_at.ensures.tree
@@ -65,6 +77,9 @@ merge_branches-push-requires t c =
     fork_inside (length c.merge-2.new.code.nodes) c.in_ok-node.node c.in_ok-holds.holds c.in_ok-fails.fails
     (forks_again c.requires.same c.node_at.result.now c.requires.inside k c.node_at.ensures.tree c.in_ok-node.node c.in_ok-holds.holds c.in_ok-fails.fails c.in_ok-node.ensures)
     (omega arith) c.in_ok-fails.ensures.merged.inside
+
+pub merge_branches-returns-clause-kept : goal.merge_branches-returns-clause-kept
+merge_branches-returns-clause-kept t c = keeps_both (keeps_both c.in_ok-holds.ensures.kept c.in_ok-fails.ensures.kept) (keeps_pushed c.in_ok-node.node c.in_ok-push.ensures.ok.1)
 
 pub merge_branches-returns-clause-merged : goal.merge_branches-returns-clause-merged
 merge_branches-returns-clause-merged t c =
@@ -192,3 +207,9 @@ merge_arms-returns-in_err-id-clause-clash t c e =
     let here : x.1.0 < length c.args.code.now.nodes = omega arith in
     let j = next_arm c.args.code.now.nodes c.args.qs.now c.loop-arm.arm-index none c.loop-arm-test.true v.joining in
     loop_stuck v.kept c.args.pair.right c.requires.inside.right x c.loop-arm.rest.items here v.rest j (c.in_err-id.ensures.clash (same_fault CodeId c.from_residual.result _ _ c.from_residual.ensures.1 e))
+
+pub merge_arms-returns-in_err-id-clause-kept : goal.merge_arms-returns-in_err-id-clause-kept
+merge_arms-returns-in_err-id-clause-kept t c = keeps_both c.loop-arm.invariant.kept c.in_err-id.ensures.kept
+
+pub merge_arms-returns-in_err-push-clause-kept : goal.merge_arms-returns-in_err-push-clause-kept
+merge_arms-returns-in_err-push-clause-kept t c = keeps_both c.loop-arm.invariant.kept c.in_ok-id.ensures.kept
