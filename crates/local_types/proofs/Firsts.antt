@@ -4,14 +4,21 @@ use Rattle.std.specs.Prelude.{◌⊎◌, ◌==◌, Some, IsSome, slice_get, slic
 use Rattle.std.proofs.lemmas.List.{take_all}
 use Rattle.std.proofs.lemmas.Option.{slice_get-get_or}
 use Rattle.std.proofs.lemmas.Bool.Decides.{nat_tests}
+use Rattle.chor_base.specs.declared.rule.Rule.{Rule}
 use Rattle.chor_base.specs.declared.rule.Denied.{Denied}
 use Rattle.chor_base.specs.declared.rule.Denied.TheVariants.{Refused, Memory}
+use Rattle.chor_base.specs.declared.names.NameId.{NameId}
 use Rattle.chor_tree.specs.declared.file.Named.{Named}
 use Rattle.chor_tree.specs.Protocols.{Protocol}
 use Rattle.global_types.specs.Moves.{IsIn}
-use Rattle.global_types.specs.Views.{HasNoViewFault}
-use Rattle.local_types.specs.Reading.{role_place, IsRefusal, HasFineRoles, IsFirstRole, IsFirstRefusal}
-use Rattle.local_types.proofs.Lists.{in_more}
+use Rattle.global_types.specs.Views.{IsViewFault, HasNoViewFault}
+use Rattle.local_types.specs.Reading.{role_place, IsRefusalBy, IsRefusal, HasFineRoles, IsFirstRole, IsFirstRefusal}
+use Rattle.state_sets.proofs.Lists.{in_more}
+
+-- a refusal by a fault of the role's view
+pub refusal_by : (rule : Rule) (p : Protocol) (r : NameId) (d : Denied) → IsRefusalBy rule p r d → IsViewFault p.states r rule → IsRefusal p r d
+refusal_by rule p r (Refused f) h fault = (subst (λ v. IsViewFault p.states r v) (sym h.0) fault, h.1, h.2)
+refusal_by rule p r Memory h fault = absurd h
 
 pub place_there : (roles : List Named) (n : Named) → IsIn n roles → IsSome (role_place roles n.name)
 place_there [] n h = absurd h

@@ -7,7 +7,7 @@ use Rattle.chor_base.specs.declared.names.NameId.{NameId}
 use Rattle.chor_tree.specs.declared.protocol.ProtoArm.{ProtoArm}
 use Rattle.global_types.specs.Moves.{IsIn}
 use Rattle.global_types.specs.Views.{labels_of}
-use Rattle.local_types.proofs.Lists.{in_more, in_map, in_map_back, in_of_at}
+use Rattle.state_sets.proofs.Lists.{in_more, in_map, in_map_back, in_of_at}
 use Rattle.std.proofs.lemmas.Option.{slice_get-get_or}
 
 abbrev label_of : ProtoArm → NameId

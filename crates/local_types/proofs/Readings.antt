@@ -9,16 +9,16 @@ use Rattle.chor_tree.specs.declared.protocol.State.{State}
 use Rattle.global_types.specs.Moves.{IsIn}
 use Rattle.global_types.specs.Paths.{Action, At}
 use Rattle.local_types.specs.declared.local_type.LocalState.{LocalState}
-use Rattle.local_types.specs.declared.table.Row.{Row}
+use Rattle.state_sets.specs.declared.table.Row.{Row}
 use Rattle.local_types.specs.Reading.{acts_of, LeadsTo, IsRead, AreSame, IsTypeOf, HasAscendingLabels, HasDistinctLabels}
-use Rattle.local_types.specs.Sets.{Has, IsSetFor}
+use Rattle.state_sets.specs.Sets.{Has, IsSetFor}
 use Rattle.local_types.specs.States.{IsStateOf, AreStatesOf}
-use Rattle.local_types.specs.Table.{Target, IsTable, HasAscendingArms, IsWhole}
-use Rattle.local_types.proofs.Sets.{set_alone}
-use Rattle.local_types.proofs.Lists.{in_of_at}
-use Rattle.local_types.proofs.Tables.{next_set}
-use Rattle.local_types.proofs.Verdicts.{seen, goes}
-use Rattle.local_types.proofs.Walks.{Reached, reached_front, view_is_reached, reached_is_view}
+use Rattle.state_sets.specs.Table.{Target, IsTable, HasAscendingArms, IsWhole}
+use Rattle.state_sets.proofs.Sets.{set_alone}
+use Rattle.state_sets.proofs.Lists.{in_of_at}
+use Rattle.state_sets.proofs.Tables.{next_set}
+use Rattle.state_sets.proofs.Verdicts.{seen, goes}
+use Rattle.state_sets.proofs.Walks.{Reached, reached_front, view_is_reached, reached_is_view}
 
 some_same : {A : Type 0} (x y : A) → Some x ≡ Some y → x ≡ y
 some_same x y e = cc

@@ -6,18 +6,20 @@ use Rattle.chor_base.specs.Writing.{name_in}
 use Rattle.chor_tree.specs.declared.protocol.Payload.{Payload}
 use Rattle.global_types.specs.Moves.{IsIn, content_of}
 use Rattle.global_types.specs.Paths.{Action, sends, receives, selects, offers}
-use Rattle.local_types.specs.declared.act.Act.{Act}
-use Rattle.local_types.specs.declared.act.Act.TheVariants.{Send, Recv, Pick, Branch}
+use Rattle.state_sets.specs.declared.act.Act.{Act}
+use Rattle.state_sets.specs.declared.act.Act.TheVariants.{Send, Recv, Pick, Branch}
 use Rattle.local_types.specs.declared.local_type.LocalState.TheVariants as state
-use Rattle.local_types.specs.declared.table.Arm.{Arm}
-use Rattle.local_types.specs.Moves.{action_of}
-use Rattle.local_types.specs.Graph.{AreApart}
-use Rattle.local_types.specs.Reading.{acts_of, nexts_of, Ascend, labels_in, label_words}
-use Rattle.local_types.specs.Table.{Counts, nexts, act_word, arm_acts, arm_words}
-use Rattle.local_types.specs.States.{IsKin, AreKin, labelled_act, labelled, IsStateOf}
-use Rattle.local_types.proofs.Counts.{counts_once}
-use Rattle.local_types.proofs.Pairs.{pairs_first, pairs_rest, pairs_cons}
-use Rattle.local_types.proofs.Lists.{in_left, in_right, in_either, in_map, in_map_back}
+use Rattle.state_sets.specs.declared.table.Arm.{Arm}
+use Rattle.state_sets.specs.Moves.{action_of}
+use Rattle.state_sets.specs.Graph.{AreApart}
+use Rattle.state_sets.specs.Ascending.{Ascend}
+use Rattle.local_types.specs.Reading.{acts_of, nexts_of, labels_in, label_words}
+use Rattle.state_sets.specs.Table.{Counts, nexts, act_word, arm_acts, arm_words}
+use Rattle.state_sets.specs.Kin.{IsKin, AreKin}
+use Rattle.local_types.specs.States.{labelled_act, labelled, IsStateOf}
+use Rattle.state_sets.proofs.Counts.{counts_once}
+use Rattle.state_sets.proofs.Pairs.{pairs_first, pairs_rest, pairs_cons}
+use Rattle.state_sets.proofs.Lists.{in_left, in_right, in_either, in_map, in_map_back}
 
 none_apart : AllPairs (λ k l. k ≢ l) (labels_in state.End)
 none_apart i j d less within = absurd (omega (arith, less, within))

@@ -21,13 +21,14 @@ use Rattle.global_types.specs.Moves.{IsIn, Content, content_of, Exchange, passes
 use Rattle.global_types.specs.Paths.{IsPath, Action, sends, receives, selects, offers, action_in, actions_of, IsView}
 use Rattle.local_types.specs.declared.local_type.LocalState.{LocalState}
 use Rattle.local_types.specs.declared.local_type.LocalState.TheVariants.{End, Send, Recv, Pick, Branch}
-use Rattle.local_types.specs.Reading.{acts_of, nexts_of, LeadsTo, AreInOrder, Ascend, labels_in, label_words, IsRoleType}
+use Rattle.state_sets.specs.Ascending.{Ascend}
+use Rattle.local_types.specs.Reading.{acts_of, nexts_of, LeadsTo, AreInOrder, labels_in, label_words, IsRoleType}
 use Rattle.local_types.specs.Numbers.{AreMatched, IsCarriedOver}
-use Rattle.local_types.specs.Table.{Counts}
+use Rattle.state_sets.specs.Table.{Counts}
 use Rattle.local_types.specs.Text.{payload_text, message_text, state_text, states_text, HasNamedLabels, HasOneText}
-use Rattle.local_types.proofs.Counts.{counts_append, counts_split}
-use Rattle.local_types.proofs.Lists.{in_left, in_right, in_either, in_map, in_map_back, in_of_at}
-use Rattle.local_types.proofs.Pairs.{pairs_first, pairs_rest}
+use Rattle.state_sets.proofs.Counts.{counts_append, counts_split}
+use Rattle.state_sets.proofs.Lists.{in_left, in_right, in_either, in_map, in_map_back, in_of_at}
+use Rattle.state_sets.proofs.Pairs.{pairs_first, pairs_rest}
 use Rattle.local_types.proofs.Numbers.{leads_append, carried_over}
 
 -- ---- lists

@@ -1,13 +1,5 @@
 pub mod Text
 pub mod Reading
 pub mod Numbers
-pub mod Sets
-pub mod Moves
-pub mod Graph
-pub mod Table
 pub mod States
-pub mod Starts
 pub mod Texts
-pub mod Places
-pub mod Numbering
-pub mod Order

@@ -1,8 +1,6 @@
 -- What a role's type says: the lists of actions that can be read from it.
-use Rattle.std.specs.Prelude.{false, take, Option, None, ◌==◌, if◌then◌else◌, ℕ, ◌<◌, ◌≡◌, ◌≢◌, ◌↔◌, List, [], ◌∷◌, map, Some, slice_get, AllPairs}
+use Rattle.std.specs.Prelude.{take, Option, None, ◌==◌, if◌then◌else◌, ℕ, ◌<◌, ◌≡◌, ◌≢◌, ◌↔◌, List, [], ◌∷◌, map, Some, slice_get, AllPairs}
 use Rattle.std.specs.List.{flat_map}
-use Rattle.std.specs.Ordering.{is_lt, nat_cmp}
-use Rattle.std.specs.Cmp.Lexicographic.{slice_cmp}
 use Rattle.chor_base.specs.Writing.{name_in}
 use Rattle.chor_base.specs.declared.names.NameId.{NameId}
 use Rattle.chor_base.specs.declared.rule.Place.{Place}
@@ -15,6 +13,7 @@ use Rattle.chor_tree.specs.declared.protocol.State.{State}
 use Rattle.global_types.specs.Moves.{IsIn, content_of}
 use Rattle.global_types.specs.Paths.{Action, sends, receives, selects, offers, IsView, At}
 use Rattle.global_types.specs.Views.{IsViewFault, HasNoViewFault}
+use Rattle.state_sets.specs.Ascending.{Ascend}
 use Rattle.local_types.specs.declared.local_type.LocalState.{LocalState}
 use Rattle.local_types.specs.declared.local_type.LocalState.TheVariants.{End, Send, Recv, Pick, Branch}
 
@@ -60,11 +59,6 @@ AreInOrder ns = (i n m : ℕ) → slice_get ns i ≡ Some n → 0 < m → m < n 
 -- The states are numbered as they are found: those after state 0 first, then those after state 1, and so on
 abbrev pub IsBreadthFirst : List LocalState → Type 0
 IsBreadthFirst ts = AreInOrder (flat_map nexts_of ts)
-
--- no word stands before a lesser one, as bytes are compared
-abbrev pub Ascend : List (List ℕ) → Type 0
-Ascend [] = Unit {0}
-Ascend (w ∷ ws) = ((v : List ℕ) → IsIn v ws → is_lt (slice_cmp nat_cmp v w) ≡ false) × Ascend ws
 
 -- the labels of a state, in their order
 abbrev pub labels_in : LocalState → List NameId

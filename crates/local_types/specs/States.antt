@@ -1,29 +1,19 @@
 -- A state of a role's type, as it is made from the arms of a row.
 use Rattle.std.specs.Prelude.{ℕ, ◌≡◌, ◌≢◌, ◌↔◌, List, [], ◌∷◌, ◌++◌, length, Some, slice_get, AllPairs}
 use Rattle.chor_base.specs.declared.names.NameId.{NameId}
-use Rattle.global_types.specs.Moves.{IsIn, content_of}
+use Rattle.global_types.specs.Moves.{IsIn}
 use Rattle.global_types.specs.Paths.{Action}
-use Rattle.local_types.specs.declared.act.Act.{Act}
-use Rattle.local_types.specs.declared.act.Act.TheVariants.{Send, Recv, Pick, Branch}
+use Rattle.state_sets.specs.declared.act.Act.{Act}
+use Rattle.state_sets.specs.declared.act.Act.TheVariants.{Send, Recv, Pick, Branch}
 use Rattle.local_types.specs.declared.local_type.LocalState.{LocalState}
 use Rattle.local_types.specs.declared.local_type.LocalState.TheVariants.{End}
-use Rattle.local_types.specs.declared.table.Arm.{Arm}
-use Rattle.local_types.specs.declared.table.Row.{Row}
-use Rattle.local_types.specs.Moves.{action_of}
-use Rattle.local_types.specs.Graph.{AreApart}
-use Rattle.local_types.specs.Reading.{acts_of, nexts_of, Ascend, labels_in, label_words}
-use Rattle.local_types.specs.Table.{Counts, nexts, arm_acts, arm_words}
-
--- two acts with the sets after them that one state can have: all is the same, but for labels
-abbrev pub IsKin : Act → ℕ → Act → ℕ → Type 0
-IsKin (Send b c) n (Send b' c') m = (b ≡ b') × (content_of c ≡ content_of c') × (n ≡ m)
-IsKin (Recv a c) n (Recv a' c') m = (a ≡ a') × (content_of c ≡ content_of c') × (n ≡ m)
-IsKin (Pick b l) n (Pick b' l') m = b ≡ b'
-IsKin (Branch a l) n (Branch a' l') m = a ≡ a'
-IsKin _ n _ m = ⊥
-
-abbrev pub AreKin : List Arm → Type 0
-AreKin arms = (x y : Arm) → IsIn x arms → IsIn y arms → IsKin x.act x.next y.act y.next
+use Rattle.state_sets.specs.declared.table.Arm.{Arm}
+use Rattle.state_sets.specs.declared.table.Row.{Row}
+use Rattle.state_sets.specs.Moves.{action_of}
+use Rattle.state_sets.specs.Graph.{AreApart}
+use Rattle.state_sets.specs.Ascending.{Ascend}
+use Rattle.local_types.specs.Reading.{acts_of, nexts_of, labels_in, label_words}
+use Rattle.state_sets.specs.Table.{Counts, nexts, arm_acts, arm_words}
 
 abbrev pub labelled_act : Act → ℕ → List (NameId × ℕ)
 labelled_act (Send b c) n = []

@@ -6,15 +6,14 @@ ghost use Rattle.chor_tree.specs.declared.protocol.State.{State};
 ghost use Rattle.chor_tree.specs.declared.protocol.ProtoStep.TheVariants as end_step;
 ghost use Rattle.global_types.specs.Moves.{IsIn};
 ghost use Rattle.global_types.specs.Views.{NamesAt, labels_of, SameLabels, IsAlike, IsApart};
-ghost use Rattle.local_types.specs.Sets.{Has, row_at, IsSetFor};
-ghost use Rattle.local_types.specs.Graph.{AreRowsFor};
-ghost use Rattle.local_types.specs.Table.{ApartAt, IsTorn};
+ghost use Rattle.state_sets.specs.Sets.{Has, row_at, IsSetFor};
+ghost use Rattle.state_sets.specs.Graph.{AreRowsFor};
+ghost use Rattle.state_sets.specs.Table.{ApartAt, IsTorn};
 
-use crate::act::same_payload;
-use crate::marks::{has, meets, no_marks, put};
 use chor_base::{Memory, NameId};
 use chor_tree::{Named, ProtoArm, ProtoStep, State};
 use global_types::is_named;
+use state_sets::{has, meets, no_marks, put, same_payload};
 use std::alloc::Global;
 
 // For each state those that it must not be confused with.

@@ -1,18 +1,10 @@
 //! Local types: what a role of a protocol does and sees, as a table of states.
 #![tactic(auto)]
 
-mod act;
 mod apart;
-mod graph;
 mod laws;
 mod local_type;
-mod marks;
-mod moves;
-mod numbering;
-mod order;
 mod print;
-mod starts;
-mod table;
 mod types;
 mod view;
 

@@ -1,24 +1,21 @@
 //! The type of a role, and the rules that its view keeps.
 
-ghost use Rattle.std.specs.Prelude.{◌≡◌, ℕ, List, IfOk, IfErr, OnOk, IsSome, Some, MatchBool, MatchOption, length};
-ghost use Rattle.global_types.specs.Views.{HasTooMany, HasNoViewFault};
-ghost use Rattle.local_types.specs.Sets.{IsSetFor, HasTwo};
-ghost use Rattle.local_types.specs.States.{AreKin, labelled, IsStateOf, AreStatesOf};
-ghost use Rattle.local_types.specs.declared.table.Row.{Row};
-ghost use Rattle.local_types.specs.Table.{IsLeft, IsTorn, HasTorn, HasAscendingArms, IsWhole, Circles};
+ghost use Rattle.std.specs.Prelude.{◌≡◌, ◌≤◌, ℕ, List, IfOk, IfErr, OnOk, IsSome, Some, MatchBool, length};
+ghost use Rattle.global_types.specs.Views.{HasNoViewFault};
+ghost use Rattle.state_sets.specs.Sets.{IsSetFor, HasTwo};
+ghost use Rattle.state_sets.specs.Kin.{AreKin};
+ghost use Rattle.local_types.specs.States.{labelled, IsStateOf, AreStatesOf};
+ghost use Rattle.state_sets.specs.declared.table.Row.{Row};
+ghost use Rattle.state_sets.specs.Table.{IsLeft, IsTorn, HasTorn, HasAscendingArms, IsWhole, Circles};
 ghost use Rattle.chor_tree.specs.Protocols.{Protocol};
 ghost use Rattle.global_types.specs.Moves.{IsIn};
 ghost use Rattle.local_types.specs.Reading.{IsTypeOf, IsBreadthFirst, HasAscendingLabels, HasDistinctLabels, role_place, IsRefusal, IsRefusalBy, HasFineRoles, IsFirstRole, IsFirstRefusal};
 
-use crate::act::Act;
 use crate::apart::{apart, has_clash, named};
-use crate::graph::{circling, groups, reach};
 use crate::local_type::{LocalState, LocalType};
-use crate::marks::{has_two, meets};
-use crate::moves::moves;
-use crate::table::{Arm, Row, rows};
 use chor_base::{Denied, List, Memory, NameId, Names, Place, Refusal, Rule};
 use chor_tree::{File, Named, Protocol, State};
+use state_sets::{Act, Arm, Row, Sight, has_two, meets, sight_of};
 use std::alloc::Global;
 
 /// The type of a role: what it does and sees in a protocol.
@@ -41,11 +38,14 @@ pub fn local(
     ensures fine { OnOk result (HasNoViewFault protocol.now.states role) }
     ensures refused { IfErr result (IsRefusal protocol.now role) }
 {
-    match sight_of(alloc, protocol, role, names)? {
+    match sight_of(alloc, protocol, role, names, MOST)? {
         Some(sight) => judged(alloc, protocol, role, &sight),
         None => Err(refused(protocol, role, Rule::V3)),
     }
 }
+
+// The most sets of states that a role may have to tell apart.
+const MOST: usize = 1024;
 
 // The type of a role that has no more than it can tell apart.
 fn judged(
@@ -55,6 +55,7 @@ fn judged(
     sight: &Sight,
 ) -> Result<LocalType, Denied>
     requires role { IsSome (role_place protocol.now.roles role) }
+    requires few { length sight.now.rows.items ≤ 1024 }
     requires whole { IsWhole protocol.now.states role (length protocol.now.states) sight.now.rows.items }
     requires circling { IsSetFor (length protocol.now.states) (Circles protocol.now.states role) sight.now.circling.items }
     ensures stands { IfOk result (λ t. IsTypeOf protocol.now.states role t.states) }
@@ -77,34 +78,6 @@ fn judged(
     Ok(LocalType {
         states: states_of(alloc, rows)?,
     })
-}
-
-// What a role can tell apart, and the states from which others may go in a circle without it.
-#[derive(Drop)]
-struct Sight {
-    rows: Vec<Row>,
-    circling: Vec<u8>,
-}
-
-// There is none where the role would have to tell too much apart.
-fn sight_of(
-    alloc: Global,
-    protocol: &Protocol,
-    role: NameId,
-    names: &Names,
-) -> Result<Option<Sight>, Memory>
-    ensures ascend { IfOk result (λ o. MatchOption o (Unit {0}) (λ s. HasAscendingArms names.now s.rows.items)) }
-    ensures seen { IfOk result (λ o. MatchOption o (HasTooMany protocol.now.states role) (λ s. IsWhole protocol.now.states role (length protocol.now.states) s.rows.items × IsSetFor (length protocol.now.states) (Circles protocol.now.states role) s.circling.items)) }
-{
-    let moves = moves(alloc, protocol, role)?;
-    let groups = groups(alloc, moves.as_slice(), names)?;
-    let count = protocol.states.len();
-    let reach = reach(alloc, count, moves.as_slice())?;
-    let circling = circling(alloc, count, moves.as_slice(), reach.as_slice())?;
-    match rows(alloc, groups.as_slice(), reach.as_slice())? {
-        Some(rows) => Ok(Some(Sight { rows, circling })),
-        None => Ok(None),
-    }
 }
 
 // The refusal of a role.

@@ -3,8 +3,8 @@ use Rattle.std.specs.Prelude.{Some, slice_get}
 use Rattle.std.proofs.lemmas.Option.{slice_get-get_or}
 use Rattle.chor_tree.specs.declared.protocol.State.{State}
 use Rattle.global_types.specs.Views.{IsApart}
-use Rattle.local_types.specs.Table.{ApartAt}
-use Rattle.local_types.proofs.Sets.{rows_more, set_same}
+use Rattle.state_sets.specs.Table.{ApartAt}
+use Rattle.state_sets.proofs.Sets.{rows_more, set_same}
 use Rattle.local_types.proofs.apart.apart.Goals as goal
 
 same_some : (s t : State) → Some s ≡ Some t → s ≡ t

@@ -1,6 +1,6 @@
 use Rattle.std.proofs.Common.{ℕ, ◌≡◌, ◌<◌, length}
-use Rattle.local_types.specs.Sets.{IsSetFor, row_at}
-use Rattle.local_types.specs.Table.{ApartAt}
+use Rattle.state_sets.specs.Sets.{IsSetFor, row_at}
+use Rattle.state_sets.specs.Table.{ApartAt}
 use Rattle.local_types.proofs.apart.apart.Given as goal
 
 abbrev pub invariant-loop-state : goal.invariant-loop-state

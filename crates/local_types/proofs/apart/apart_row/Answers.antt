@@ -3,7 +3,7 @@ use Rattle.std.specs.Prelude.{Some, slice_get}
 use Rattle.std.proofs.lemmas.Option.{slice_get-get_or, slice_get_within}
 use Rattle.chor_tree.specs.declared.protocol.State.{State}
 use Rattle.global_types.specs.Views.{IsApart}
-use Rattle.local_types.proofs.Sets.{picked_in, picked_out, picked_all}
+use Rattle.state_sets.proofs.Sets.{picked_in, picked_out, picked_all}
 use Rattle.local_types.proofs.Labels.{not_both}
 use Rattle.local_types.proofs.apart.apart_row.Goals as goal
 use Rattle.local_types.proofs.apart.apart_row.Goals.{then-is_apart, else-is_apart}

@@ -2,7 +2,7 @@ use Rattle.std.proofs.Common.{◌≡◌, ◌<◌, length}
 use Rattle.std.specs.Prelude.{Some, slice_get}
 use Rattle.chor_tree.specs.declared.protocol.State.{State}
 use Rattle.global_types.specs.Views.{IsApart}
-use Rattle.local_types.specs.Sets.{IsSetFor}
+use Rattle.state_sets.specs.Sets.{IsSetFor}
 use Rattle.local_types.proofs.apart.apart_row.Given as goal
 
 abbrev pub invariant-loop-number : goal.invariant-loop-number

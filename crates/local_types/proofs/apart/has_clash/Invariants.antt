@@ -1,6 +1,6 @@
 use Rattle.std.proofs.Common.{ℕ, ◌<◌}
-use Rattle.local_types.specs.Sets.{Has, row_at}
-use Rattle.local_types.specs.Table.{Meets}
+use Rattle.state_sets.specs.Sets.{Has, row_at}
+use Rattle.state_sets.specs.Table.{Meets}
 use Rattle.local_types.proofs.apart.has_clash.Given as goal
 
 abbrev pub invariant-loop-state : goal.invariant-loop-state

@@ -1,6 +1,6 @@
 use Rattle.std.proofs.Common.{◌<◌, length}
 use Rattle.global_types.specs.Views.{NamesAt}
-use Rattle.local_types.specs.Sets.{IsSetFor}
+use Rattle.state_sets.specs.Sets.{IsSetFor}
 use Rattle.local_types.proofs.apart.named.Given as goal
 
 abbrev pub invariant-loop-number : goal.invariant-loop-number

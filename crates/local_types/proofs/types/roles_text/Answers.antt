@@ -1,6 +1,6 @@
 use Rattle.std.proofs.Common.{◌∙◌, ap, refl}
 use Rattle.local_types.specs.Texts.{IsTypeText}
-use Rattle.local_types.proofs.Lists.{in_of_at}
+use Rattle.state_sets.proofs.Lists.{in_of_at}
 use Rattle.local_types.proofs.Firsts.{place_there, role_at, first_role, roles_more, roles_whole}
 use Rattle.local_types.proofs.RoleTexts.{texts_more, texts_whole}
 use Rattle.local_types.proofs.types.roles_text.Goals as goal

@@ -1,7 +1,7 @@
 use Rattle.std.proofs.Common.{List, ℕ, sym, subst}
-use Rattle.local_types.specs.declared.table.Row.{Row}
-use Rattle.local_types.specs.Sets.{HasTwo}
-use Rattle.local_types.proofs.Lists.{item_among, none_more, none_whole}
+use Rattle.state_sets.specs.declared.table.Row.{Row}
+use Rattle.state_sets.specs.Sets.{HasTwo}
+use Rattle.state_sets.proofs.Lists.{item_among, none_more, none_whole}
 use Rattle.local_types.proofs.view.are_crowded.Goals as goal
 
 pub returns-then-has_two : goal.returns-then-has_two

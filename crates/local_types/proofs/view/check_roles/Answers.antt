@@ -1,5 +1,5 @@
 use Rattle.std.proofs.Common.{◌∙◌, ap}
-use Rattle.local_types.proofs.Lists.{in_of_at}
+use Rattle.state_sets.proofs.Lists.{in_of_at}
 use Rattle.local_types.proofs.Firsts.{place_there, role_at, first_role, roles_more, roles_whole}
 use Rattle.local_types.proofs.view.check_roles.Goals as goal
 

@@ -1,7 +1,7 @@
 use Rattle.std.proofs.Common.{List, ℕ, sym, subst}
-use Rattle.local_types.specs.declared.table.Row.{Row}
-use Rattle.local_types.specs.Table.{IsTorn}
-use Rattle.local_types.proofs.Lists.{item_among, none_more, none_whole}
+use Rattle.state_sets.specs.declared.table.Row.{Row}
+use Rattle.state_sets.specs.Table.{IsTorn}
+use Rattle.state_sets.proofs.Lists.{item_among, none_more, none_whole}
 use Rattle.local_types.proofs.view.clashes.Goals as goal
 
 pub returns-then-has_clash : goal.returns-then-has_clash

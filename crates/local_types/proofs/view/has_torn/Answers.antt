@@ -1,9 +1,9 @@
 use Rattle.std.proofs.Common.{ℕ, List, sym, subst, length}
 use Rattle.std.specs.Prelude.{Vec}
 use Rattle.std.specs.declared.alloc.Global.{Global}
-use Rattle.local_types.specs.Graph.{AreRowsFor}
-use Rattle.local_types.specs.Table.{ApartAt}
-use Rattle.local_types.proofs.Torn.{not_crowded, judged_by}
+use Rattle.state_sets.specs.Graph.{AreRowsFor}
+use Rattle.state_sets.specs.Table.{ApartAt}
+use Rattle.state_sets.proofs.Torn.{not_crowded, judged_by}
 use Rattle.local_types.proofs.view.has_torn.Goals as goal
 
 pub returns-then-not-are_crowded : goal.returns-then-not-are_crowded

@@ -1,27 +1,22 @@
-use Rattle.std.proofs.Common.{Bool, ℕ, List, ◌≡◌, ◌∙◌, ap, sym, subst, length}
+use Rattle.std.proofs.Common.{Bool, ℕ, List, ◌≡◌, ◌≤◌, ◌∙◌, ap, sym, subst, length}
 use Rattle.std.specs.Prelude.{MatchBool}
 use Rattle.chor_base.specs.declared.names.NameId.{NameId}
-use Rattle.chor_base.specs.declared.rule.Rule.{Rule}
 use Rattle.chor_base.specs.declared.rule.Rule.TheVariants.{V1, V2}
-use Rattle.chor_base.specs.declared.rule.Denied.{Denied}
-use Rattle.chor_base.specs.declared.rule.Denied.TheVariants.{Refused, Memory}
-use Rattle.chor_tree.specs.Protocols.{Protocol}
 use Rattle.chor_tree.specs.declared.protocol.State.{State}
-use Rattle.global_types.specs.Views.{NamesAt, IsViewFault}
-use Rattle.local_types.specs.Reading.{IsRefusal, IsRefusalBy}
-use Rattle.local_types.specs.Sets.{IsSetFor}
-use Rattle.local_types.specs.Table.{HasAscendingArms, HasTorn, IsWhole, Circles}
-use Rattle.local_types.specs.declared.table.Row.{Row}
-use Rattle.local_types.proofs.Tables.{is_true, is_false}
-use Rattle.local_types.proofs.Verdicts.{few_sets, left_behind, not_left, torn, not_torn}
-use Rattle.local_types.proofs.Kin.{rows_kin}
-use Rattle.local_types.proofs.Counts.{breadth_first}
+use Rattle.global_types.specs.Views.{NamesAt}
+use Rattle.state_sets.specs.Sets.{IsSetFor}
+use Rattle.state_sets.specs.Table.{HasAscendingArms, HasTorn, IsWhole, Circles}
+use Rattle.state_sets.specs.declared.table.Row.{Row}
+use Rattle.state_sets.proofs.Tables.{is_true, is_false}
+use Rattle.state_sets.proofs.Verdicts.{few_sets, left_behind, not_left, torn, not_torn}
+use Rattle.state_sets.proofs.Kin.{rows_kin}
+use Rattle.local_types.proofs.Breadth.{breadth_first}
 use Rattle.local_types.proofs.Readings.{type_of, labels_ascend, labels_distinct}
+use Rattle.local_types.proofs.Firsts.{refusal_by}
 use Rattle.local_types.proofs.view.judged.Goals as goal
 
-refusal_by : (rule : Rule) (p : Protocol) (r : NameId) (d : Denied) → IsRefusalBy rule p r d → IsViewFault p.states r rule → IsRefusal p r d
-refusal_by rule p r (Refused f) h fault = (subst (λ v. IsViewFault p.states r v) (sym h.0) fault, h.1, h.2)
-refusal_by rule p r Memory h fault = absurd h
+few_handed : {rows handed : List Row} → length rows ≤ 1024 → handed ≡ rows → length handed ≤ 1024
+few_handed few e = subst (λ (l : List Row). length l ≤ 1024) (sym e) few
 
 named_handed : (ss seen : List State) (r : NameId) (marks handed : List ℕ) → seen ≡ ss → handed ≡ marks → IsSetFor (length seen) (NamesAt seen r) marks → IsSetFor (length ss) (NamesAt ss r) handed
 named_handed ss seen r marks handed e f was = subst (λ l. IsSetFor (length l) (NamesAt l r) handed) e (subst (λ m. IsSetFor (length seen) (NamesAt seen r) m) (sym f) was)
@@ -38,7 +33,7 @@ returns-then-leaves_behind-clause-refused c =
     let whole = subst (λ l. IsWhole ss r n l) (sym c.as_slice-rows.ensures.value) c.requires.whole in
     let circling = subst (λ m. IsSetFor n (Circles ss r) m) (sym c.as_slice.ensures.value) c.requires.circling in
     let names = named_handed ss c.as_slice-states.result.now r c.in_ok-named.named.items c.as_slice-2.result.now (c.as_slice-states.ensures ∙ ap (λ p. p.states) c.protocol.view_is) c.as_slice-2.ensures.value c.in_ok-named.ensures in
-    refusal_by V2 c.args.protocol.now r c.refused.result c.refused.ensures (few_sets ss r n rows whole, left_behind ss r n rows c.as_slice.result.now c.as_slice-2.result.now whole circling names c.if-leaves_behind.ensures)
+    refusal_by V2 c.args.protocol.now r c.refused.result c.refused.ensures (few_sets ss r n rows whole (few_handed c.requires.few c.as_slice-rows.ensures.value), left_behind ss r n rows c.as_slice.result.now c.as_slice-2.result.now whole circling names c.if-leaves_behind.ensures)
 
 pub returns-then-torn-clause-refused : goal.returns-then-torn-clause-refused
 returns-then-torn-clause-refused c =
@@ -50,7 +45,7 @@ returns-then-torn-clause-refused c =
     let circling = subst (λ m. IsSetFor n (Circles ss r) m) (sym c.as_slice.ensures.value) c.requires.circling in
     let names = named_handed ss c.as_slice-states.result.now r c.in_ok-named.named.items c.as_slice-2.result.now (c.as_slice-states.ensures ∙ ap (λ p. p.states) c.protocol.view_is) c.as_slice-2.ensures.value c.in_ok-named.ensures in
     refusal_by V1 c.args.protocol.now r c.refused-then-torn.result c.refused-then-torn.ensures
-    (few_sets ss r n rows whole, not_left ss r n rows c.as_slice.result.now c.as_slice-2.result.now whole circling names c.if-leaves_behind.ensures, torn ss r n rows whole (is_true c.in_ok-torn.torn (HasTorn ss r rows) (HasTorn ss r rows → ⊥) (torn_handed ss c.as_slice-states.result.now r rows c.in_ok-torn.torn (c.as_slice-states.ensures ∙ ap (λ p. p.states) c.protocol.view_is) c.in_ok-torn.ensures) c.if-torn.true))
+    (few_sets ss r n rows whole (few_handed c.requires.few c.as_slice-rows.ensures.value), not_left ss r n rows c.as_slice.result.now c.as_slice-2.result.now whole circling names c.if-leaves_behind.ensures, torn ss r n rows whole (is_true c.in_ok-torn.torn (HasTorn ss r rows) (HasTorn ss r rows → ⊥) (torn_handed ss c.as_slice-states.result.now r rows c.in_ok-torn.torn (c.as_slice-states.ensures ∙ ap (λ p. p.states) c.protocol.view_is) c.in_ok-torn.ensures) c.if-torn.true))
 
 pub returns-clause-fine : goal.returns-clause-fine
 returns-clause-fine c =
@@ -62,7 +57,7 @@ returns-clause-fine c =
     let circling = subst (λ m. IsSetFor n (Circles ss r) m) (sym c.as_slice.ensures.value) c.requires.circling in
     let names = named_handed ss c.as_slice-states.result.now r c.in_ok-named.named.items c.as_slice-2.result.now (c.as_slice-states.ensures ∙ ap (λ p. p.states) c.protocol.view_is) c.as_slice-2.ensures.value c.in_ok-named.ensures in
     record {
-      few = few_sets ss r n rows whole;
+      few = few_sets ss r n rows whole (few_handed c.requires.few c.as_slice-rows.ensures.value);
       kept = not_left ss r n rows c.as_slice.result.now c.as_slice-2.result.now whole circling names c.if-leaves_behind.ensures;
       clear = not_torn ss r n rows whole (is_false c.in_ok-torn.torn (HasTorn ss r rows) (HasTorn ss r rows → ⊥) (torn_handed ss c.as_slice-states.result.now r rows c.in_ok-torn.torn (c.as_slice-states.ensures ∙ ap (λ p. p.states) c.protocol.view_is) c.in_ok-torn.ensures) c.if-torn.false);
     }

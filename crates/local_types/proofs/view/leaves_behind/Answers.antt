@@ -1,6 +1,6 @@
-use Rattle.local_types.specs.declared.table.Row.{Row}
-use Rattle.local_types.specs.Table.{IsLeft}
-use Rattle.local_types.proofs.Lists.{item_among, none_more, none_whole}
+use Rattle.state_sets.specs.declared.table.Row.{Row}
+use Rattle.state_sets.specs.Table.{IsLeft}
+use Rattle.state_sets.proofs.Lists.{item_among, none_more, none_whole}
 use Rattle.local_types.proofs.view.leaves_behind.Goals as goal
 
 pub returns-then-is_left : goal.returns-then-is_left

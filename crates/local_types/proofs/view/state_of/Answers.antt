@@ -1,4 +1,4 @@
-use Rattle.local_types.proofs.Lists.{first_among}
+use Rattle.state_sets.proofs.Lists.{first_among}
 use Rattle.local_types.proofs.States.{state_send, state_recv, state_pick, state_branch}
 use Rattle.local_types.proofs.view.state_of.Goals as goal
 

@@ -1,7 +1,8 @@
 use Rattle.std.proofs.Common.{List, sym, subst}
-use Rattle.local_types.specs.declared.table.Arm.{Arm}
-use Rattle.local_types.specs.States.{AreKin, IsStateOf}
-use Rattle.local_types.proofs.Lists.{item_among}
+use Rattle.state_sets.specs.declared.table.Arm.{Arm}
+use Rattle.state_sets.specs.Kin.{AreKin}
+use Rattle.local_types.specs.States.{IsStateOf}
+use Rattle.state_sets.proofs.Lists.{item_among}
 use Rattle.local_types.proofs.Readings.{states_more}
 use Rattle.local_types.proofs.view.states_of.Goals as goal
 

@@ -1,7 +1,7 @@
 use Rattle.std.proofs.Common.{ℕ, ◌≡◌, length}
 use Rattle.std.specs.Prelude.{Some, slice_get}
 use Rattle.local_types.specs.declared.local_type.LocalState.{LocalState}
-use Rattle.local_types.specs.declared.table.Row.{Row}
+use Rattle.state_sets.specs.declared.table.Row.{Row}
 use Rattle.local_types.specs.States.{IsStateOf}
 use Rattle.local_types.proofs.view.states_of.Given as goal
 

@@ -1,6 +1,0 @@
-use Rattle.std.proofs.Common.{refl}
-use Rattle.local_types.proofs.Parts.{part_written}
-use Rattle.local_types.proofs.graph.add_to_part.Goals as goal
-
-pub returns : goal.returns
-returns c = part_written c.args.number c.args.item c.args.parts.now.items _ c.index_mut-part.result.now c.push.new.self c.requires c.index_mut-part.ensures.value c.in_ok-push.ensures.items refl

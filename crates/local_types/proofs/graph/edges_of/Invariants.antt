@@ -1,7 +1,0 @@
-use Rattle.std.proofs.Common.{take}
-use Rattle.local_types.specs.Moves.{action_of}
-use Rattle.local_types.specs.Graph.{AreEdges}
-use Rattle.local_types.proofs.graph.edges_of.Given as goal
-
-abbrev pub invariant-loop-item : goal.invariant-loop-item
-invariant-loop-item l = AreEdges (take l.item-index l.moves) (action_of l.act) l.edges.items

@@ -1,8 +1,0 @@
-use Rattle.std.proofs.Common.{take, ◌≡◌}
-use Rattle.global_types.specs.Moves.{IsIn}
-use Rattle.local_types.specs.declared.act.Act.{Act}
-use Rattle.local_types.specs.Moves.{action_of}
-use Rattle.local_types.proofs.graph.knows.Given as goal
-
-abbrev pub invariant-loop-known : goal.invariant-loop-known
-invariant-loop-known l = (b : Act) → IsIn b (take l.known-index l.acts) → action_of b ≡ action_of l.act → ⊥

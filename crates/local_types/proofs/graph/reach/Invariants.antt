@@ -1,5 +1,0 @@
-use Rattle.local_types.proofs.Silence.{IsWalked}
-use Rattle.local_types.proofs.graph.reach.Given as goal
-
-abbrev pub invariant-loop-state : goal.invariant-loop-state
-invariant-loop-state l = IsWalked l.moves l.count l.state l.rows.items

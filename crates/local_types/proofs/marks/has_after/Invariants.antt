@@ -1,6 +1,0 @@
-use Rattle.std.proofs.Common.{ℕ, ◌<◌, ◌≤◌}
-use Rattle.local_types.specs.Sets.{Has}
-use Rattle.local_types.proofs.marks.has_after.Given as goal
-
-abbrev pub invariant-loop-state : goal.invariant-loop-state
-invariant-loop-state l = (i : ℕ) → l.first ≤ i → i < l.state → Has l.marks i → ⊥

@@ -1,6 +1,0 @@
-use Rattle.std.proofs.Common.{ℕ, ◌<◌, length}
-use Rattle.local_types.specs.Sets.{Has, row_at, IsSetFor}
-use Rattle.local_types.proofs.marks.union.Given as goal
-
-abbrev pub invariant-loop-state : goal.invariant-loop-state
-invariant-loop-state l = IsSetFor (length l.marks) (λ i. (k : ℕ) × (k < l.state) × Has l.marks k × Has (row_at l.rows k) i) l.all.items

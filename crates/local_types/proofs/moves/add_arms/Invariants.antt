@@ -1,9 +1,0 @@
-use Rattle.std.proofs.Common.{◌≡◌, ◌++◌, drop}
-use Rattle.local_types.specs.Moves.{arms_by}
-use Rattle.local_types.specs.Places.{place_in}
-use Rattle.local_types.proofs.moves.add_arms.Given as goal
-
-abbrev pub invariant-loop-arm : goal.invariant-loop-arm
-invariant-loop-arm l =
-    l.moves.items ++ arms_by (place_in l.places.map) l.parties.role l.from l.parties.sender l.parties.receiver (drop l.arm-index l.arms)
-    ≡ l.initial.moves.items ++ arms_by (place_in l.places.map) l.parties.role l.from l.parties.sender l.parties.receiver l.arms

@@ -1,5 +1,0 @@
-use Rattle.local_types.proofs.Places.{ArePlacesSoFar}
-use Rattle.local_types.proofs.moves.places.Given as goal
-
-abbrev pub invariant-loop-number : goal.invariant-loop-number
-invariant-loop-number l = ArePlacesSoFar l.protocol.states l.number l.places.map

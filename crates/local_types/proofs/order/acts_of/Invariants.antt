@@ -1,6 +1,0 @@
-use Rattle.std.proofs.Common.{◌≡◌, ◌++◌, drop}
-use Rattle.local_types.specs.Order.{keyed_acts}
-use Rattle.local_types.proofs.order.acts_of.Given as goal
-
-abbrev pub invariant-loop-item : goal.invariant-loop-item
-invariant-loop-item l = l.acts.items ++ keyed_acts (drop l.item-index l.keyed) ≡ keyed_acts l.keyed

@@ -1,5 +1,0 @@
-use Rattle.local_types.proofs.Allowed.{StartsSoFar}
-use Rattle.local_types.proofs.starts.starts.Given as goal
-
-abbrev pub invariant-loop-number : goal.invariant-loop-number
-invariant-loop-number l = StartsSoFar l.groups l.count l.number l.starts.items

@@ -1,0 +1,22 @@
+use Rattle.std.proofs.Common.{◌∙◌, ap, rules}
+use Rattle.std.proofs.lemmas.List.Sorted.{IsPermutation-sym}
+use Rattle.state_sets.specs.declared.order.Keyed.{Keyed}
+use Rattle.state_sets.specs.Order.{keyed_acts, keyed_word}
+use Rattle.state_sets.proofs.Lists.{in_permuted}
+use Rattle.state_sets.proofs.Ascents.{ascend_from_sort}
+use Rattle.state_sets.proofs.Keys.{acts_ascend, order_kept}
+use Rattle.state_sets.proofs.order.by_labels.Goals as goal
+
+pub returns-clause-order : goal.returns-clause-order
+returns-clause-order c =
+    order_kept c.args.acts.now c.in_ok-sorted.sorted.items c.in_ok-keyed.keyed.items c.sort_by.new.self.items c.in_ok-keyed.ensures.acts c.in_ok-sort_by.ensures.permutation
+    (c.in_ok-sorted.ensures ∙ ap keyed_acts c.as_slice.ensures.value)
+
+pub returns-clause-ascend : goal.returns-clause-ascend
+returns-clause-ascend c =
+    let ks = c.in_ok-keyed.keyed.items in
+    let sorted = c.sort_by.new.self.items in
+    acts_ascend c.args.names.now sorted c.in_ok-sorted.sorted.items
+    (λ k m. c.in_ok-keyed.ensures.keys k (in_permuted k sorted ks (IsPermutation-sym ks sorted c.in_ok-sort_by.ensures.permutation) m))
+    (ascend_from_sort (λ (k : Keyed). keyed_word c.args.names.now k) _ c.in_ok-sort_by.ensures.sorted (λ a r q k. search rules))
+    (c.in_ok-sorted.ensures ∙ ap keyed_acts c.as_slice.ensures.value)

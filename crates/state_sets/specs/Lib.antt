@@ -1,0 +1,10 @@
+pub mod Sets
+pub mod Ascending
+pub mod Moves
+pub mod Graph
+pub mod Table
+pub mod Kin
+pub mod Starts
+pub mod Places
+pub mod Numbering
+pub mod Order
