@@ -11,7 +11,7 @@ use crate::value::Value;
 use std::alloc::Global;
 
 /// An operator of one operand.
-#[derive(Clone, Copy, Debug, PartialEq, Eq)]
+#[derive(Clone, Copy, PartialEq, Eq)]
 pub enum UnOp {
     /// 0 minus a number.
     Neg,
@@ -20,7 +20,7 @@ pub enum UnOp {
 }
 
 /// An operator of two operands.
-#[derive(Clone, Copy, Debug, PartialEq, Eq)]
+#[derive(Clone, Copy, PartialEq, Eq)]
 pub enum BinOp {
     Add,
     Sub,

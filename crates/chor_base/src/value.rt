@@ -6,7 +6,7 @@ ghost use Rattle.chor_base.specs.Sorts.{same_sort};
 use crate::names::NameId;
 
 /// What sort of value an expression or a variable has.
-#[derive(Clone, Copy, Debug, PartialEq, Eq)]
+#[derive(Clone, Copy, PartialEq, Eq)]
 pub enum Sort {
     Int,
     Bool,
@@ -26,7 +26,7 @@ impl Sort {
 }
 
 /// What a variable has.
-#[derive(Clone, Copy, Debug, PartialEq, Eq)]
+#[derive(Clone, Copy, PartialEq, Eq)]
 pub enum Value {
     /// A whole number of 64 bits with sign.
     Int(i64),
@@ -39,7 +39,7 @@ pub enum Value {
 }
 
 /// What a message carries.
-#[derive(Clone, Copy, Debug, PartialEq, Eq)]
+#[derive(Clone, Copy, PartialEq, Eq)]
 pub enum Load {
     /// A value; an endpoint that is handed over is `Value::Part`.
     Value(Value),

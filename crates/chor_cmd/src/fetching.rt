@@ -9,7 +9,7 @@ use chor_io::{Fetched, Shelf};
 use std::alloc::Global;
 
 /// Why a file wasn't read.
-#[derive(Clone, Copy, Debug, PartialEq, Eq)]
+#[derive(Clone, Copy, PartialEq, Eq)]
 pub enum Unread {
     /// The fetch failed.
     Failed,

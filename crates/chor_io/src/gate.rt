@@ -3,7 +3,7 @@
 use crate::outside::Gate;
 
 /// A gate that holds nobody back: it returns at once.
-#[derive(Clone, Copy, Debug, PartialEq, Eq)]
+#[derive(Clone, Copy, PartialEq, Eq)]
 pub struct OpenGate;
 
 impl Gate for OpenGate {

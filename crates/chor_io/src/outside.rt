@@ -4,7 +4,7 @@ ghost use Rattle.std.specs.Prelude.{◌≡◌, ◌≢◌, ◌≤◌, ◌<◌, �
 ghost use Rattle.chor_io.specs.Outside.{FetchGrows, FetchTells, PutTells, Risen, ShelfState, SinkState};
 
 /// What came of a fetch.
-#[derive(Clone, Copy, Debug, PartialEq, Eq)]
+#[derive(Clone, Copy, PartialEq, Eq)]
 pub enum Fetched {
     /// All bytes of the file were added.
     All,
@@ -17,7 +17,7 @@ pub enum Fetched {
 }
 
 /// What came of a write.
-#[derive(Clone, Copy, Debug, PartialEq, Eq)]
+#[derive(Clone, Copy, PartialEq, Eq)]
 pub enum Put {
     /// All bytes of the piece were written.
     All,

@@ -4,7 +4,7 @@ ghost use Rattle.std.specs.Prelude.{◌≡◌, ◌≢◌, ◌∷◌, [], MatchOp
 ghost use Rattle.chor_lexer.specs.Mark.{spelling};
 
 /// A token that is neither a word nor a number nor a text.
-#[derive(Clone, Copy, Debug, PartialEq, Eq)]
+#[derive(Clone, Copy, PartialEq, Eq)]
 pub enum Mark {
     /// `{`
     OpenBrace,

@@ -7,7 +7,7 @@ use crate::mark::Mark;
 use chor_base::{List, NameId, Place};
 
 /// What a token is.
-#[derive(Clone, Copy, Debug, PartialEq, Eq)]
+#[derive(Clone, Copy, PartialEq, Eq)]
 pub enum Kind {
     /// A keyword or a name, by its number.
     Word(NameId),
@@ -22,14 +22,13 @@ pub enum Kind {
 }
 
 /// A token and where it begins.
-#[derive(Clone, Copy, Debug, PartialEq, Eq)]
+#[derive(Clone, Copy, PartialEq, Eq)]
 pub struct Token {
     pub kind: Kind,
     pub place: Place,
 }
 
 /// The tokens of a file. The last one is `Last`, and no other is.
-#[derive(Debug)]
 pub struct Tokens {
     pub items: List<Token>,
     pub ghost ended: { IsTrue (is_ended items) },

@@ -22,7 +22,7 @@ use chor_tree::{Form, Named, Node, NodeId, Tree};
 use std::alloc::Global;
 
 // How many blocks may still be opened, and how many statements may still stand on the path.
-#[derive(Clone, Copy, Debug, PartialEq, Eq)]
+#[derive(Clone, Copy, PartialEq, Eq)]
 pub struct Room {
     blocks: usize,
     statements: usize,

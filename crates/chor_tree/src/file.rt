@@ -7,7 +7,7 @@ use crate::tree::{NodeId, Tree};
 use chor_base::{List, NameId, Names, Place, Sort, Texts};
 
 /// A name and where it stands in the file.
-#[derive(Clone, Copy, Debug, PartialEq, Eq)]
+#[derive(Clone, Copy, PartialEq, Eq)]
 pub struct Named {
     pub name: NameId,
     pub place: Place,

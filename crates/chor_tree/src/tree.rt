@@ -8,11 +8,11 @@ use chor_base::{Expr, List, Memory, NameId, Place};
 use std::alloc::Global;
 
 /// The number of a node in its tree.
-#[derive(Clone, Copy, Debug, PartialEq, Eq)]
+#[derive(Clone, Copy, PartialEq, Eq)]
 pub struct NodeId(pub u32);
 
 /// A process and a role, written `p[A]`.
-#[derive(Clone, Copy, Debug, PartialEq, Eq)]
+#[derive(Clone, Copy, PartialEq, Eq)]
 pub struct Part {
     pub process: Named,
     pub role: Named,

@@ -16,7 +16,7 @@ pub struct Words {
 }
 
 /// What the words ask for. A file is the index of its word.
-#[derive(Clone, Copy, Debug, PartialEq, Eq)]
+#[derive(Clone, Copy, PartialEq, Eq)]
 pub enum Command {
     /// `check FILE`: judges the file.
     Check(u32),

@@ -7,7 +7,7 @@ ghost use Rattle.delegation.specs.Checks.{all_differ};
 use chor_base::NameId;
 
 /// A role of a session, and the process that holds it.
-#[derive(Clone, Copy, Debug, PartialEq, Eq)]
+#[derive(Clone, Copy, PartialEq, Eq)]
 pub struct Held {
     pub session: NameId,
     pub role: NameId,

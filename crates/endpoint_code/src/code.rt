@@ -7,7 +7,7 @@ use chor_base::{Expr, List, Memory, NameId};
 use std::alloc::Global;
 
 /// The number of a node in its table.
-#[derive(Clone, Copy, Debug, PartialEq, Eq)]
+#[derive(Clone, Copy, PartialEq, Eq)]
 pub struct CodeId(pub u32);
 
 /// What a process does, and where it goes on.

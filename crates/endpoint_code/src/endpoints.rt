@@ -25,7 +25,7 @@ pub struct Procedure {
 
 /// The code of the processes that a channel's starts make for one service role. There the session
 /// has the channel's name.
-#[derive(Clone, Copy, Debug, PartialEq, Eq)]
+#[derive(Clone, Copy, PartialEq, Eq)]
 pub struct ServiceCode {
     pub channel: NameId,
     pub role: NameId,
@@ -33,7 +33,7 @@ pub struct ServiceCode {
 }
 
 /// A process that exists from the beginning.
-#[derive(Clone, Copy, Debug, PartialEq, Eq)]
+#[derive(Clone, Copy, PartialEq, Eq)]
 pub struct Process {
     pub name: NameId,
     pub body: CodeId,

@@ -3,7 +3,7 @@
 use chor_base::NameId;
 
 /// The next action of a process.
-#[derive(Clone, Copy, Debug, PartialEq, Eq)]
+#[derive(Clone, Copy, PartialEq, Eq)]
 pub enum Head {
     /// It joins a channel in a role.
     Join(NameId, NameId),

@@ -9,7 +9,7 @@ use chor_base::{NameId, Place};
 use endpoint_reader::{Arm, Channel, Named, Procedure, Process, Service};
 
 /// A name, and a second one where there is one.
-#[derive(Clone, Copy, Debug, PartialEq, Eq, Hash)]
+#[derive(Clone, Copy, PartialEq, Eq, Hash)]
 pub struct Key {
     pub name: NameId,
     pub second: Option<NameId>,
@@ -35,7 +35,7 @@ impl Key {
 }
 
 /// A key, and where its first name stands.
-#[derive(Clone, Copy, Debug, PartialEq, Eq)]
+#[derive(Clone, Copy, PartialEq, Eq)]
 pub struct Sign {
     pub key: Key,
     pub place: Place,

@@ -7,7 +7,7 @@ use chor_base::{NameId, Names, Place, Texts};
 use chor_lexer::Tokens;
 
 /// A name and where it stands.
-#[derive(Clone, Copy, Debug, PartialEq, Eq)]
+#[derive(Clone, Copy, PartialEq, Eq)]
 pub struct Named {
     pub name: NameId,
     pub place: Place,

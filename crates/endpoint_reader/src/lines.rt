@@ -14,7 +14,7 @@ use std::alloc::Global;
 pub struct LineId(pub u32);
 
 /// A label of a branch, and the line with which its body begins.
-#[derive(Clone, Copy, Debug, PartialEq, Eq)]
+#[derive(Clone, Copy, PartialEq, Eq)]
 pub struct Arm {
     pub label: Named,
     pub body: LineId,

@@ -17,14 +17,14 @@ use std::alloc::Global;
 const SESSIONS: usize = 8;
 
 /// Two names, one after another.
-#[derive(Clone, Copy, Debug, PartialEq, Eq)]
+#[derive(Clone, Copy, PartialEq, Eq)]
 pub struct Two {
     pub first: Named,
     pub second: Named,
 }
 
 /// Three names, one after another.
-#[derive(Clone, Copy, Debug, PartialEq, Eq)]
+#[derive(Clone, Copy, PartialEq, Eq)]
 pub struct Three {
     pub first: Named,
     pub second: Named,

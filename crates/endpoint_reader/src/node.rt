@@ -33,7 +33,7 @@ pub enum Action {
 }
 
 /// The word with which a node begins.
-#[derive(Clone, Copy, Debug, PartialEq, Eq)]
+#[derive(Clone, Copy, PartialEq, Eq)]
 pub enum NodeWord {
     Join,
     Send,

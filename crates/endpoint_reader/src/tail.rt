@@ -12,7 +12,7 @@ use crate::input::Input;
 use chor_base::Place;
 
 /// The word with which a tail begins; of a call, where it stands.
-#[derive(Clone, Copy, Debug, PartialEq, Eq)]
+#[derive(Clone, Copy, PartialEq, Eq)]
 pub enum TailWord {
     Branch,
     If,

@@ -23,7 +23,7 @@ pub struct Procedure {
 }
 
 /// What the starts of a channel make for one of its service roles.
-#[derive(Clone, Copy, Debug, PartialEq, Eq)]
+#[derive(Clone, Copy, PartialEq, Eq)]
 pub struct Service {
     pub channel: Named,
     pub role: Named,
@@ -31,7 +31,7 @@ pub struct Service {
 }
 
 /// A process that exists from the beginning.
-#[derive(Clone, Copy, Debug, PartialEq, Eq)]
+#[derive(Clone, Copy, PartialEq, Eq)]
 pub struct Process {
     pub name: Named,
     pub body: LineId,

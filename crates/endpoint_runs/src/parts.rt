@@ -12,7 +12,7 @@ use net_core::Network;
 use std::alloc::Global;
 
 /// Which run by the pick rule: the seed of its picks, and how many events it has at most.
-#[derive(Clone, Copy, Debug, PartialEq, Eq)]
+#[derive(Clone, Copy, PartialEq, Eq)]
 pub struct Schedule {
     pub seed: u64,
     pub steps: u64,

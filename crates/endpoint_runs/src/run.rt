@@ -14,7 +14,7 @@ use net_core::{Network, Picked};
 use std::alloc::Global;
 
 /// How a run is closed.
-#[derive(Clone, Copy, Debug, PartialEq, Eq)]
+#[derive(Clone, Copy, PartialEq, Eq)]
 pub enum Closed {
     /// Every process has ended.
     Ended,

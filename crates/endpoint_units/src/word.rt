@@ -9,7 +9,7 @@ ghost use Rattle.endpoint_units.specs.Words.{first_word, LacksUnit};
 use endpoint_reader::Input;
 
 /// The word with which a unit begins.
-#[derive(Clone, Copy, Debug, PartialEq, Eq)]
+#[derive(Clone, Copy, PartialEq, Eq)]
 pub enum UnitWord {
     Channel,
     Procedure,

@@ -5,7 +5,7 @@ ghost use Rattle.event_reader.specs.Bodies.{kind_text};
 ghost use Rattle.event_reader.specs.Readings.{IsReading};
 
 // What a message carries.
-#[derive(Clone, Copy, Debug, PartialEq, Eq)]
+#[derive(Clone, Copy, PartialEq, Eq)]
 pub enum Content {
     Value,
     Label,
@@ -13,7 +13,7 @@ pub enum Content {
 }
 
 // What happens.
-#[derive(Clone, Copy, Debug, PartialEq, Eq)]
+#[derive(Clone, Copy, PartialEq, Eq)]
 pub enum Kind {
     Start,
     Send(Content),

@@ -3,7 +3,7 @@
 use chor_base::Why;
 
 /// What became of a step of a process.
-#[derive(Clone, Copy, Debug, PartialEq, Eq)]
+#[derive(Clone, Copy, PartialEq, Eq)]
 pub enum Step {
     /// It made one event, now the last of the history.
     Did,
@@ -16,7 +16,7 @@ pub enum Step {
 }
 
 /// What became of an event that the network was to follow.
-#[derive(Clone, Copy, Debug, PartialEq, Eq)]
+#[derive(Clone, Copy, PartialEq, Eq)]
 pub enum Followed {
     /// It was made, and is now the last of the history.
     Did,
@@ -27,7 +27,7 @@ pub enum Followed {
 }
 
 /// How a scheduled run closed.
-#[derive(Clone, Copy, Debug, PartialEq, Eq)]
+#[derive(Clone, Copy, PartialEq, Eq)]
 pub enum Picked {
     /// Every process has ended.
     Ended,

@@ -7,7 +7,7 @@ use chor_base::{List, Memory, NameId};
 use std::alloc::Global;
 
 /// Two names of sessions, each of which stands in the place of the other.
-#[derive(Clone, Copy, Debug, PartialEq, Eq)]
+#[derive(Clone, Copy, PartialEq, Eq)]
 pub struct Exchange {
     pub one: NameId,
     pub other: NameId,

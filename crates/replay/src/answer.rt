@@ -7,7 +7,7 @@ use chor_base::Memory;
 use thiserror::Error;
 
 /// Events that are a run.
-#[derive(Clone, Copy, Debug, PartialEq, Eq)]
+#[derive(Clone, Copy, PartialEq, Eq)]
 pub struct Replayed {
     /// How many events there are.
     pub count: u64,

@@ -10,7 +10,7 @@ use chor_tree::{File, Form, NodeId};
 use std::alloc::Global;
 
 /// A start: its channel, and the node where it stands.
-#[derive(Clone, Copy, Debug, PartialEq, Eq)]
+#[derive(Clone, Copy, PartialEq, Eq)]
 pub struct StartNode {
     pub channel: NameId,
     pub node: NodeId,
@@ -98,7 +98,7 @@ fn put_start(form: &Form, id: NodeId, starts: &mut List<StartNode>) -> Result<()
 }
 
 // The nodes that follow a node.
-#[derive(Clone, Copy, Debug, PartialEq, Eq)]
+#[derive(Clone, Copy, PartialEq, Eq)]
 enum Followers {
     Nothing,
     Next(NodeId),

@@ -1,7 +1,7 @@
 //! Classes of rules.
 
 /// A class of rules that judges files.
-#[derive(Clone, Copy, Debug, PartialEq, Eq)]
+#[derive(Clone, Copy, PartialEq, Eq)]
 pub enum Class {
     /// The rules of names, N1 to N3.
     Names,
@@ -18,7 +18,7 @@ pub enum Class {
 }
 
 /// Which rules a source is judged by, beside those of tokens and of the grammar.
-#[derive(Clone, Copy, Debug, PartialEq, Eq)]
+#[derive(Clone, Copy, PartialEq, Eq)]
 pub enum Rules {
     /// No others.
     Grammar,

@@ -7,7 +7,7 @@ ghost use Rattle.transcript_lines.specs.Last.{HasCount, last_text};
 use event_reader::number_of;
 
 /// What the last line of a transcript says, with the number of events before it.
-#[derive(Clone, Copy, Debug, PartialEq, Eq)]
+#[derive(Clone, Copy, PartialEq, Eq)]
 pub enum Last {
     /// The run has ended.
     End(u64),

@@ -8,7 +8,7 @@ ghost use Rattle.tree_walks.specs.Following.{followers};
 use chor_tree::{Form, NodeId};
 
 /// What follows a node.
-#[derive(Clone, Copy, Debug, PartialEq, Eq)]
+#[derive(Clone, Copy, PartialEq, Eq)]
 pub enum Following {
     /// Nothing, after a tail.
     Nothing,

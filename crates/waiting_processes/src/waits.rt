@@ -7,7 +7,7 @@ use chor_base::NameId;
 use endpoint_machine::Head;
 
 /// What a process may wait for.
-#[derive(Clone, Copy, Debug, PartialEq, Eq, Hash)]
+#[derive(Clone, Copy, PartialEq, Eq, Hash)]
 pub enum Awaited {
     /// A load on the queue of a session from one role to another, or room on it.
     Queue(u32, NameId, NameId),

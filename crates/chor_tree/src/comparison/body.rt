@@ -114,7 +114,7 @@ fn is_end(form: &Form) -> bool
 }
 
 // The nodes that follow a node.
-#[derive(Clone, Copy, Debug, PartialEq, Eq)]
+#[derive(Clone, Copy, PartialEq, Eq)]
 pub enum Followers {
     Nothing,
     Next(NodeId),
