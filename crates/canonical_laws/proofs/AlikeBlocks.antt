@@ -8,8 +8,8 @@ use Rattle.chor_tree.specs.declared.file.Named.{Named}
 use Rattle.chor_tree.specs.declared.tree.Part.{Part}
 use Rattle.chor_tree.specs.Source.{Statement, Starts, Sends, Selects, Gives, Sets, Asks, Shows, Block, Then, Either, Calls, Ends}
 use Rattle.chor_tree.specs.Same.{Same, all_same, same_named, same_part, same_statement, same_block}
-use Rattle.chor_parser.specs.Grammar.{NewPartsAre, no_new, some_new, StatementIs, a_start, a_value, a_label, a_delegation, a_set, a_host_call, a_show, PassedSessionsAre, no_session_passed, sessions_passed, PassedAre, nothing_passed, processes_passed, BlockIs, a_block, LinesAre, a_line, a_tail, TailIs, an_end, a_call, a_conditional}
-use Rattle.chor_parser.specs.Limits.{KeepsStatement, KeepsBlock, KeepsLines, KeepsTail}
+use Rattle.source_grammar.specs.Grammar.{NewPartsAre, no_new, some_new, StatementIs, a_start, a_value, a_label, a_delegation, a_set, a_host_call, a_show, PassedSessionsAre, no_session_passed, sessions_passed, PassedAre, nothing_passed, processes_passed, BlockIs, a_block, LinesAre, a_line, a_tail, TailIs, an_end, a_call, a_conditional}
+use Rattle.source_grammar.specs.Limits.{KeepsStatement, KeepsBlock, KeepsLines, KeepsTail}
 use Rattle.canonical_laws.proofs.Alike.{Tables, alike_words, alike_texts, Alike, Renewed, Read, mark_passes, word_passes, name_renewed, stands_there, length_kept, room_kept, list_renewed}
 use Rattle.canonical_laws.proofs.AlikePieces.{names_renewed, part_renewed}
 use Rattle.canonical_laws.proofs.AlikeTerms.{term_renewed}

@@ -11,8 +11,8 @@ use Rattle.chor_tree.specs.declared.file.File.{File}
 use Rattle.chor_tree.specs.Source.{Source, source_of}
 use Rattle.chor_tree.specs.Same.{same_words, same_texts, same_source, same_files}
 use Rattle.chor_tree.proofs.SameLaws.{source_joined, words_joined, texts_joined}
-use Rattle.chor_parser.specs.Faults.{IsFirstFault}
-use Rattle.chor_parser.proofs.FirstFaults.{one_source_is, never_refused_is}
+use Rattle.source_grammar.specs.Faults.{IsFirstFault}
+use Rattle.source_grammar.proofs.FirstFaults.{one_source_is, never_refused_is}
 use Rattle.chor_print.specs.Text.{canonical_text}
 use Rattle.canonical_laws.specs.Anew.{SayTheSame, IsReadAnew}
 use Rattle.canonical_laws.specs.ReadsBack.{IsReadWith}

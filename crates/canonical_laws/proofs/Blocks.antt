@@ -11,10 +11,10 @@ use Rattle.chor_tree.specs.declared.file.Named.{Named}
 use Rattle.chor_tree.specs.declared.tree.Part.{Part}
 use Rattle.chor_tree.specs.Source.{Statement, Starts, Sends, Selects, Gives, Sets, Asks, Shows, Block, Then, Either, Calls, Ends}
 use Rattle.chor_tree.specs.Source as source
-use Rattle.chor_parser.specs.Grammar.{NewPartsAre, no_new, some_new, StatementIs, a_start, a_value, a_label, a_delegation, a_set, a_host_call, a_show, PassedSessionsAre, no_session_passed, sessions_passed, PassedAre, nothing_passed, processes_passed, BlockIs, a_block, LinesAre, a_line, a_tail, TailIs, an_end, a_call, a_conditional}
-use Rattle.chor_parser.specs.Limits.{KeepsStatement, KeepsBlock, KeepsLines, KeepsTail}
-use Rattle.chor_parser.specs.Statements.{StatementPart}
-use Rattle.chor_parser.specs.Blocks.{BlockPart, LinesPart, TailPart}
+use Rattle.source_grammar.specs.Grammar.{NewPartsAre, no_new, some_new, StatementIs, a_start, a_value, a_label, a_delegation, a_set, a_host_call, a_show, PassedSessionsAre, no_session_passed, sessions_passed, PassedAre, nothing_passed, processes_passed, BlockIs, a_block, LinesAre, a_line, a_tail, TailIs, an_end, a_call, a_conditional}
+use Rattle.source_grammar.specs.Limits.{KeepsStatement, KeepsBlock, KeepsLines, KeepsTail}
+use Rattle.source_grammar.specs.Statements.{StatementPart}
+use Rattle.source_grammar.specs.Blocks.{BlockPart, LinesPart, TailPart}
 use Rattle.canonical_laws.specs.Places.{bare_name, bare_part, bare_statement, bare_block}
 use Rattle.canonical_laws.specs.Symbols.{name_symbols, listed, listed_after, part_symbols, statement_symbols, lines_symbols, block_symbols}
 use Rattle.canonical_laws.specs.Terms.{AllInStatement, AllInBlock}

@@ -5,10 +5,10 @@ use Rattle.chor_lexer.specs.declared.token.Token.{Token}
 use Rattle.token_grammar.specs.Symbols.{nowhere}
 use Rattle.chor_tree.specs.declared.protocol.State.{State}
 use Rattle.chor_tree.specs.Source.{Items}
-use Rattle.chor_parser.specs.Grammar.{MoreAre, no_more, one_more, ListIs, a_list, StateIs, MoreStatesAre, no_state, one_state, StatesAre, some_states, ItemsAre, no_item, protocol_first, service_first, procedure_first}
-use Rattle.chor_parser.specs.Limits.{KeepsItems}
-use Rattle.chor_parser.specs.Parts.{ProtocolPart, ServicePart}
-use Rattle.chor_parser.specs.Files.{ProcedurePart}
+use Rattle.source_grammar.specs.Grammar.{MoreAre, no_more, one_more, ListIs, a_list, StateIs, MoreStatesAre, no_state, one_state, StatesAre, some_states, ItemsAre, no_item, protocol_first, service_first, procedure_first}
+use Rattle.source_grammar.specs.Limits.{KeepsItems}
+use Rattle.source_grammar.specs.Parts.{ProtocolPart, ServicePart}
+use Rattle.source_grammar.specs.Files.{ProcedurePart}
 
 -- some tokens derive the item
 pub record Derived {A : Type 0} (Item : List Token → A → List Token → Type 0) (x : A) : Type 0 where

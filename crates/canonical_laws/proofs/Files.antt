@@ -9,11 +9,11 @@ use Rattle.token_grammar.specs.Symbols.{nowhere}
 use Rattle.chor_tree.specs.declared.file.Service.{Service}
 use Rattle.chor_tree.specs.Protocols.{Protocol}
 use Rattle.chor_tree.specs.Source.{Procedure, Source}
-use Rattle.chor_parser.specs.Grammar.{ProcedureIs, a_procedure, no_item, protocol_first, service_first, procedure_first, FileIs, a_file}
-use Rattle.chor_parser.specs.Limits.{KeepsProcedure, KeepsAll}
-use Rattle.chor_parser.specs.Faults.{IsWithin}
-use Rattle.chor_parser.specs.Parts.{ProtocolPart, ServicePart}
-use Rattle.chor_parser.specs.Files.{ProcedurePart, ItemsPart}
+use Rattle.source_grammar.specs.Grammar.{ProcedureIs, a_procedure, no_item, protocol_first, service_first, procedure_first, FileIs, a_file}
+use Rattle.source_grammar.specs.Limits.{KeepsProcedure, KeepsAll}
+use Rattle.source_grammar.specs.Faults.{IsWithin}
+use Rattle.source_grammar.specs.Parts.{ProtocolPart, ServicePart}
+use Rattle.source_grammar.specs.Files.{ProcedurePart, ItemsPart}
 use Rattle.canonical_laws.specs.Places.{bare_procedure, bare_items}
 use Rattle.canonical_laws.specs.Symbols.{each, protocol_symbols, service_symbols, procedure_symbols, source_symbols}
 use Rattle.canonical_laws.specs.Terms.{AllInBlock, AllTerms}

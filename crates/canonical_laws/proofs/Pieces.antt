@@ -21,9 +21,9 @@ use Rattle.chor_tree.specs.declared.protocol.ProtoArm.{ProtoArm}
 use Rattle.chor_tree.specs.declared.protocol.Payload.{Payload}
 use Rattle.chor_tree.specs.declared.protocol.Payload.TheVariants as payload
 use Rattle.chor_tree.specs.declared.tree.Part.{Part}
-use Rattle.chor_parser.specs.Grammar.{NameIs, MoreAre, no_more, one_more, ListIs, a_list, NamesAre, AnyNamesAre, no_names, some_names, PartIs, a_part, SortIs, int, bool, text, PayloadIs, plain, endpoint, ArmIs, an_arm, StepIs, end_step, value_step, choice_step, StateIs, a_state, MoreStatesAre, no_state, one_state, StatesAre, some_states, ProtocolIs, a_protocol, ServedAre, none_served, some_served, ServiceIs, a_service, VariableIs, a_variable, VariablesAre, no_variables, some_variables, ProcParamIs, a_param, HolderIs, a_holder, SessionParamIs, a_session, SessionsAre, no_sessions, some_sessions, ParamsAre, no_params, some_params}
-use Rattle.chor_parser.specs.Limits.{KeepsMore, KeepsList, KeepsNames, KeepsAnyNames, KeepsStep, KeepsState, KeepsMoreStates, KeepsStates, KeepsProtocol, KeepsServed, KeepsService, KeepsVariables, KeepsParam, KeepsSessions, KeepsParams}
-use Rattle.chor_parser.specs.Parts.{NamesPart, AnyNamesPart, StepPart, StatePart, StatesPart, ProtocolPart, ServedPart, ServicePart, VariablesPart, ProcParamPart, SessionsPart, ParamsPart}
+use Rattle.source_grammar.specs.Grammar.{NameIs, MoreAre, no_more, one_more, ListIs, a_list, NamesAre, AnyNamesAre, no_names, some_names, PartIs, a_part, SortIs, int, bool, text, PayloadIs, plain, endpoint, ArmIs, an_arm, StepIs, end_step, value_step, choice_step, StateIs, a_state, MoreStatesAre, no_state, one_state, StatesAre, some_states, ProtocolIs, a_protocol, ServedAre, none_served, some_served, ServiceIs, a_service, VariableIs, a_variable, VariablesAre, no_variables, some_variables, ProcParamIs, a_param, HolderIs, a_holder, SessionParamIs, a_session, SessionsAre, no_sessions, some_sessions, ParamsAre, no_params, some_params}
+use Rattle.source_grammar.specs.Limits.{KeepsMore, KeepsList, KeepsNames, KeepsAnyNames, KeepsStep, KeepsState, KeepsMoreStates, KeepsStates, KeepsProtocol, KeepsServed, KeepsService, KeepsVariables, KeepsParam, KeepsSessions, KeepsParams}
+use Rattle.source_grammar.specs.Parts.{NamesPart, AnyNamesPart, StepPart, StatePart, StatesPart, ProtocolPart, ServedPart, ServicePart, VariablesPart, ProcParamPart, SessionsPart, ParamsPart}
 use Rattle.canonical_laws.specs.Places.{bare_name, bare_part, bare_payload, bare_arm, bare_step, bare_state, bare_protocol, bare_service, bare_variable, bare_process_param, bare_holder, bare_session_param}
 use Rattle.canonical_laws.specs.Symbols.{name_symbols, each, after_commas, listed, listed_after, part_symbols, sort_symbols, payload_symbols, arm_symbols, step_symbols, state_symbols, protocol_symbols, service_symbols, variable_symbols, variables_symbols, process_param_symbols, holder_symbols, session_param_symbols}
 use Rattle.canonical_laws.proofs.Tokens.{Spelled, Reads, Stands, room_kept, mark_reads, word_reads, name_begins, name_reads}

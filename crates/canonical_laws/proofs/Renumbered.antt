@@ -7,9 +7,9 @@ use Rattle.chor_lexer.specs.Spelling.{SpellAll}
 use Rattle.token_grammar.specs.Symbols.{nowhere}
 use Rattle.chor_tree.specs.Source.{Procedure, Items, Source}
 use Rattle.chor_tree.specs.Same.{Same, all_same, same_process_param, same_session_param, same_protocol, same_service, same_procedure}
-use Rattle.chor_parser.specs.Grammar.{ProcedureIs, a_procedure, ItemsAre, no_item, protocol_first, service_first, procedure_first, FileIs, a_file}
-use Rattle.chor_parser.specs.Limits.{KeepsProcedure, KeepsItems, KeepsAll}
-use Rattle.chor_parser.specs.Faults.{IsWithin}
+use Rattle.source_grammar.specs.Grammar.{ProcedureIs, a_procedure, ItemsAre, no_item, protocol_first, service_first, procedure_first, FileIs, a_file}
+use Rattle.source_grammar.specs.Limits.{KeepsProcedure, KeepsItems, KeepsAll}
+use Rattle.source_grammar.specs.Faults.{IsWithin}
 use Rattle.canonical_laws.specs.Anew.{SayTheSame}
 use Rattle.canonical_laws.proofs.Alike.{Tables, alike_words, alike_texts, Alike, Renewed, mark_passes, word_passes, name_renewed, end_there}
 use Rattle.canonical_laws.proofs.AlikePieces.{any_names_renewed, protocol_renewed, service_renewed, params_renewed}

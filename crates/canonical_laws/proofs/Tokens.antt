@@ -22,7 +22,7 @@ use Rattle.chor_lexer.proofs.Spelling.{name_of, symbols_read_back}
 use Rattle.token_grammar.specs.Symbols.{nowhere, AllowsFirst, Room}
 use Rattle.token_grammar.specs.Expressions.{KeepsLength, ExprPart}
 use Rattle.chor_tree.specs.declared.file.Named.{Named}
-use Rattle.chor_parser.specs.Grammar.{MarkIs, WordIs, NameIs, StandsAt, EndIs}
+use Rattle.source_grammar.specs.Grammar.{MarkIs, WordIs, NameIs, StandsAt, EndIs}
 use Rattle.canonical_laws.specs.Places.{bare_name}
 use Rattle.canonical_laws.proofs.Lengths.{expr_length}
 

@@ -17,7 +17,7 @@ use Rattle.chor_tree.specs.declared.protocol.ProtoStep.{ProtoStep}
 use Rattle.chor_tree.specs.declared.protocol.ProtoArm.{ProtoArm}
 use Rattle.chor_tree.specs.declared.protocol.Payload.{Payload}
 use Rattle.chor_tree.specs.declared.tree.Part.{Part}
-use Rattle.chor_parser.specs.Grammar.{NameIs, ListIs, NamesAre, AnyNamesAre, some_names, PartIs, a_part, PayloadIs, plain, endpoint, ArmIs, an_arm, StepIs, end_step, value_step, choice_step, StateIs, a_state, ProtocolIs, a_protocol, ServedAre, some_served, ServiceIs, a_service, VariableIs, a_variable, VariablesAre, some_variables, ProcParamIs, a_param, HolderIs, a_holder, SessionParamIs, a_session, SessionsAre, some_sessions, ParamsAre, no_params, some_params}
+use Rattle.source_grammar.specs.Grammar.{NameIs, ListIs, NamesAre, AnyNamesAre, some_names, PartIs, a_part, PayloadIs, plain, endpoint, ArmIs, an_arm, StepIs, end_step, value_step, choice_step, StateIs, a_state, ProtocolIs, a_protocol, ServedAre, some_served, ServiceIs, a_service, VariableIs, a_variable, VariablesAre, some_variables, ProcParamIs, a_param, HolderIs, a_holder, SessionParamIs, a_session, SessionsAre, some_sessions, ParamsAre, no_params, some_params}
 use Rattle.chor_print.specs.Pieces.{named_text, part_text, sort_text, payload_text, arm_text, variable_text, variables_text, process_param_text, holder_text, session_param_text, listed, listed_after}
 use Rattle.chor_print.specs.Text.{step_text, state_line}
 use Rattle.chor_print.specs.Parts.{lines_at, protocol_text, service_text}

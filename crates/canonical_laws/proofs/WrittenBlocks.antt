@@ -7,7 +7,7 @@ use Rattle.chor_lexer.specs.Spelling.{IsSource}
 use Rattle.chor_tree.specs.declared.file.Named.{Named}
 use Rattle.chor_tree.specs.declared.tree.Part.{Part}
 use Rattle.chor_tree.specs.Source.{Statement, Block}
-use Rattle.chor_parser.specs.Grammar.{NewPartsAre, some_new, StatementIs, a_start, a_value, a_label, a_delegation, a_set, a_host_call, a_show, PassedSessionsAre, sessions_passed, PassedAre, nothing_passed, processes_passed, BlockIs, a_block, LinesAre, a_line, a_tail, TailIs, an_end, a_call, a_conditional}
+use Rattle.source_grammar.specs.Grammar.{NewPartsAre, some_new, StatementIs, a_start, a_value, a_label, a_delegation, a_set, a_host_call, a_show, PassedSessionsAre, sessions_passed, PassedAre, nothing_passed, processes_passed, BlockIs, a_block, LinesAre, a_line, a_tail, TailIs, an_end, a_call, a_conditional}
 use Rattle.chor_print.specs.Pieces.{named_text, part_text, listed, listed_after}
 use Rattle.chor_print.specs.Parts.{lines_at}
 use Rattle.chor_print.proofs.Lines.{either_at}

@@ -13,11 +13,11 @@ use Rattle.chor_lexer.proofs.ReadBack.{HaveKinds, numbered}
 use Rattle.token_grammar.specs.Symbols.{nowhere}
 use Rattle.chor_tree.specs.declared.file.File.{File}
 use Rattle.chor_tree.specs.Source.{Procedure, Items, Source, Block, source_of}
-use Rattle.chor_parser.specs.Grammar.{NameIs, AnyNamesAre, ParamsAre, BlockIs, ProcedureIs, a_procedure, FileIs, a_file}
-use Rattle.chor_parser.specs.Limits.{KeepsAll}
-use Rattle.chor_parser.specs.Faults.{IsWithin}
-use Rattle.chor_parser.specs.Parts.{ProtocolPart, ServicePart}
-use Rattle.chor_parser.specs.Files.{ProcedurePart}
+use Rattle.source_grammar.specs.Grammar.{NameIs, AnyNamesAre, ParamsAre, BlockIs, ProcedureIs, a_procedure, FileIs, a_file}
+use Rattle.source_grammar.specs.Limits.{KeepsAll}
+use Rattle.source_grammar.specs.Faults.{IsWithin}
+use Rattle.source_grammar.specs.Parts.{ProtocolPart, ServicePart}
+use Rattle.source_grammar.specs.Files.{ProcedurePart}
 use Rattle.chor_print.specs.Text.{canonical_text}
 use Rattle.chor_print.specs.Parts.{body_text}
 use Rattle.canonical_laws.specs.ReadsBack.{DeriveSame, HasSymbols, IsReadFrom, ReadsBack}

@@ -4,7 +4,7 @@ use Rattle.chor_lexer.specs.declared.token.Token.{Token}
 use Rattle.chor_tree.specs.declared.file.File.{File}
 use Rattle.chor_tree.specs.Source.{Source, source_of}
 use Rattle.chor_tree.specs.Same.{same_words, same_texts, same_source}
-use Rattle.chor_parser.specs.Faults.{IsWithin}
+use Rattle.source_grammar.specs.Faults.{IsWithin}
 
 -- with the other tables the tokens derive, within the limits, a source that says what s says with the first
 pub record SayTheSame (names texts other_names other_texts : List (List ℕ)) (us : List Token) (s : Source) : Type 0 where

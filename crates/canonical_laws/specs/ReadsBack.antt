@@ -5,7 +5,7 @@ use Rattle.chor_lexer.specs.Lexeme.{Symbol, Lexeme}
 use Rattle.chor_lexer.specs.Tokens.{IsTokens, AreSpelled, AreTokensOf}
 use Rattle.chor_tree.specs.declared.file.File.{File}
 use Rattle.chor_tree.specs.Source.{Source, source_of}
-use Rattle.chor_parser.specs.Faults.{IsWithin}
+use Rattle.source_grammar.specs.Faults.{IsWithin}
 use Rattle.chor_print.specs.Text.{canonical_text}
 use Rattle.canonical_laws.specs.Places.{IsSame}
 

@@ -5,8 +5,8 @@ use Rattle.chor_lexer.specs.declared.token.Kind.{Kind}
 use Rattle.chor_lexer.specs.declared.token.Kind.TheVariants.{Last}
 use Rattle.chor_lexer.specs.declared.token.Token.{Token}
 use Rattle.chor_lexer.specs.Tokens.{is_last, is_ended}
-use Rattle.chor_parser.specs.Grammar.{EndIs}
-use Rattle.chor_parser.specs.Reading.{Ends}
+use Rattle.source_grammar.specs.Grammar.{EndIs}
+use Rattle.source_reader.specs.Reading.{Ends}
 
 -- nothing follows the end
 alone : (t : Token) (ts : List Token) → is_ended (t ∷ ts) ≡ true → t.kind ≡ Last → ts ≡ []

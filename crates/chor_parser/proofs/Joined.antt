@@ -1,7 +1,7 @@
 -- Items that are read one by one.
 use Rattle.std.specs.Prelude.{IfSome, IfNone, IsTrue}
 use Rattle.std.proofs.Common.{Option, Some, None, drop, ◌≡◌, ℕ, List, [], ◌∷◌, ◌++◌, map, ap, refl, sym, ◌∙◌, subst, append_assoc, codes, inl, inr}
-use Rattle.std.proofs.lemmas.List.{append-nil}
+use Rattle.std.proofs.lemmas.List.{append-nil, map-append}
 use Rattle.chor_base.specs.declared.rule.Denied.{Denied}
 use Rattle.chor_lexer.specs.declared.token.Token.{Token}
 use Rattle.chor_lexer.specs.Tokens.{is_ended}
@@ -10,23 +10,27 @@ use Rattle.chor_tree.specs.declared.file.Proc.{Proc}
 use Rattle.chor_tree.specs.declared.file.Service.{Service}
 use Rattle.chor_tree.specs.Protocols.{Protocol}
 use Rattle.chor_tree.specs.declared.tree.Node.{Node}
+use Rattle.chor_tree.specs.declared.tree.NodeId.{NodeId}
 use Rattle.token_grammar.specs.Symbols.{Nothing, Reads, Halts, Head, left, right, Times, Leads}
 use Rattle.token_grammar.proofs.Sequels.{past, reads_past, leads_on, leads_same}
 use Rattle.token_grammar.proofs.Choices.{same_leads}
 use Rattle.token_grammar.proofs.Repetitions.{times_done, times_step, times_now}
 use Rattle.chor_parser.specs.declared.source.Declared.{Declared}
 use Rattle.chor_tree.specs.Source.{Block, Procedure, Items, procedure_of}
-use Rattle.chor_parser.specs.Grammar.{WordIs}
-use Rattle.chor_parser.specs.Parts.{ProtocolPart, ServicePart}
-use Rattle.chor_parser.specs.Faults.{IsWithin}
-use Rattle.chor_parser.specs.Files.{SourcePart, main_of, ProcedurePart, AnItemPart, ItemFirst, ItemsPart}
-use Rattle.chor_parser.specs.Reading.{items_of, joined, Grows, AreThere, Ends, ItemGoes}
-use Rattle.chor_parser.proofs.Shorter.{protocol_shorter, service_shorter, procedure_shorter}
-use Rattle.chor_parser.proofs.Tables.{procedures_stay}
+use Rattle.source_grammar.specs.Grammar.{WordIs}
+use Rattle.source_grammar.specs.Parts.{ProtocolPart, ServicePart}
+use Rattle.source_grammar.specs.Faults.{IsWithin}
+use Rattle.source_grammar.specs.Files.{SourcePart, main_of, ProcedurePart, AnItemPart, ItemFirst, ItemsPart}
+use Rattle.source_reader.specs.Reading.{Ends}
+use Rattle.chor_parser.specs.Items.{items_of, joined, ItemGoes, AddsBodies}
+use Rattle.source_grammar.specs.Growing.{Grows, AreThere, Adds, begins_of}
+use Rattle.source_grammar.proofs.Shorter.{protocol_shorter, service_shorter, procedure_shorter}
+use Rattle.source_grammar.proofs.Tables.{procedures_stay}
+use Rattle.source_grammar.proofs.Growth.{adds_on}
 use Rattle.chor_parser.proofs.Ends.{end_is}
-use Rattle.chor_parser.proofs.FirstFaults.{within}
-use Rattle.chor_parser.proofs.Terminals.{word_head, words_apart}
-use Rattle.chor_parser.proofs.Files.{EachItem, gathered, items_alike, items_repeated, a_protocol_leads, a_service_leads, a_procedure_leads}
+use Rattle.source_grammar.proofs.FirstFaults.{within}
+use Rattle.source_grammar.proofs.Terminals.{word_head, words_apart}
+use Rattle.source_grammar.proofs.Files.{EachItem, gathered, items_alike, items_repeated, a_protocol_leads, a_service_leads, a_procedure_leads}
 
 abbrev items : List Protocol → List Service → List Procedure → Items
 items ps ss qs = record { protocols = ps; services = ss; procedures = qs }
@@ -108,6 +112,14 @@ none_at {P} o h e = subst (λ (k : Option ℕ). IfNone k P) e h
 
 pub same_items : {names : List (List ℕ)} {ts rest : List Token} {old : Declared} (new : Declared) → ItemsGo names ts old rest → new ≡ old → ItemsGo names ts new rest
 same_items {names} {ts} {rest} {old} new g e = subst (λ (d : Declared). ItemsGo names ts d rest) (sym e) g
+
+-- ---- their nodes
+
+-- with the procedures that were read after those before
+pub adds_bodies : {old new : Declared} → Adds [] old.tree.nodes (begins_of old.procs) → AddsBodies old new → Adds [] new.tree.nodes (begins_of new.procs)
+adds_bodies {old} {new} d e =
+    let same : begins_of old.procs ++ begins_of e.procs ≡ begins_of new.procs = sym (ap begins_of e.parts ∙ map-append (λ (p : Proc). p.body) old.procs e.procs) in
+    subst (λ (rs : List NodeId). Adds [] new.tree.nodes rs) same (adds_on d e.adds)
 
 -- ---- the whole file
 

@@ -5,22 +5,30 @@ ghost use Rattle.std.specs.List.{AllByRecursion};
 ghost use Rattle.chor_lexer.specs.Tokens.{IsKnown};
 ghost use Rattle.token_grammar.specs.Symbols.{Nothing, Head, Halts};
 ghost use Rattle.chor_tree.specs.Source.{block_in, blocks_of, procedure_of, source_of};
-ghost use Rattle.chor_parser.specs.Faults.{IsWithin, IsRefusal};
-ghost use Rattle.chor_parser.specs.Files.{ProcedurePart, AnItemPart, ItemFirst, ItemsPart, MainPart, main_of};
-ghost use Rattle.chor_parser.specs.Reading.{names_of, tokens_from, items_of, Grows, AreThere, ReadsTo, ReadsAfter, HaltsAfter, ItemGoesTo, ItemGoesAfter};
-ghost use Rattle.chor_parser.specs.Known.{IsTextKnown};
-ghost use Rattle.chor_parser.specs.Growing.{Adds, AddsBodies, begins_of};
+ghost use Rattle.source_grammar.specs.Faults.{IsWithin, IsRefusal};
+ghost use Rattle.source_grammar.specs.Blocks.{BlockPart};
+ghost use Rattle.source_grammar.specs.Files.{ProcedurePart, AnItemPart, ItemFirst, ItemsPart, MainPart, main_of};
+ghost use Rattle.source_grammar.specs.Growing.{Grows, AreThere, Adds, begins_of};
+ghost use Rattle.source_grammar.specs.Known.{IsTextKnown};
+ghost use Rattle.source_reader.specs.Reading.{names_of, tokens_from, ReadsTo, ReadsAfter, HaltsAfter};
+ghost use Rattle.chor_parser.specs.Items.{items_of, ItemGoesTo, ItemGoesAfter, AddsBodies};
 
-use crate::block::read_body;
-use crate::input::Input;
-use crate::limits::PROCESSES;
-use crate::lists::read_any_names;
-use crate::procedure::read_parameters;
-use crate::protocol::{read_protocol, read_service};
 use chor_base::{Denied, List, Names, Rule, Texts};
 use chor_lexer::{Mark, Tokens};
 use chor_tree::{File, Named, NodeId, Proc, Protocol, Service, Tree};
+use source_reader::{
+    Input, Room, read_any_names, read_block, read_parameters, read_protocol, read_service,
+};
 use std::alloc::Global;
+
+/// Processes of main.
+const PROCESSES: usize = 64;
+
+/// Blocks that are open at once.
+const OPEN_BLOCKS: usize = 64;
+
+/// Statements on one path of a body, its tail among them.
+const STATEMENTS: usize = 1024;
 
 /// The file that the tokens are, with the tables of names and texts that are given.
 ///
@@ -238,4 +246,24 @@ fn read_main(
     let at = input.take_mark(at, Mark::CloseParen)?;
     let (body, at) = read_body(alloc, input, at, tree)?;
     Ok((Main { processes, body }, at))
+}
+
+// The block that is a body.
+fn read_body(
+    alloc: Global,
+    input: &Input,
+    at: usize,
+    tree: &mut Tree,
+) -> Result<(NodeId, usize), Denied>
+    ensures reads { IfOk result (λ x. ReadsTo (BlockPart 64 1024) Nothing input.now at (block_in (blocks_of tree.new.nodes) x.0) x.1) }
+    ensures halts { IfErr result (Halts (BlockPart 64 1024) Nothing (names_of input.now) (tokens_from input.now at)) }
+    ensures there { IfOk result (λ x. x.0.0 < length tree.new.nodes) }
+    ensures grows { OnOk result (Grows tree.old.nodes tree.new.nodes) }
+    ensures adds { IfOk result (λ x. Adds tree.old.nodes tree.new.nodes (x.0 ∷ [])) }
+{
+    let room = Room {
+        blocks: OPEN_BLOCKS,
+        statements: STATEMENTS,
+    };
+    read_block(alloc, input, at, tree, room)
 }

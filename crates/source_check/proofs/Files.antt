@@ -11,11 +11,11 @@ use Rattle.chor_lexer.specs.Tokens.{AreTokensOf}
 use Rattle.chor_lexer.proofs.Cuts.{not_both}
 use Rattle.chor_lexer.proofs.Faults.{one_refusal}
 use Rattle.chor_tree.specs.Source.{source_of}
-use Rattle.chor_parser.specs.Faults.{IsFirstFault, IsRefusal, IsWithin}
+use Rattle.source_grammar.specs.Faults.{IsFirstFault, IsRefusal, IsWithin}
 use Rattle.source_check.specs.Source.{IsFileOf, IsNoSource, tokens, grammar, IsDenialOfTokens}
 use Rattle.source_check.proofs.OneReading.{one_list}
-use Rattle.chor_parser.proofs.FirstFaults.{one_source_is, never_refused_is}
-use Rattle.chor_parser.proofs.Verdicts.{one_fault_is}
+use Rattle.source_grammar.proofs.FirstFaults.{one_source_is, never_refused_is}
+use Rattle.source_grammar.proofs.Verdicts.{one_fault_is}
 use Rattle.source_check.proofs.WholeTokens.{whole_tokens}
 
 -- bytes that are made of tokens aren't refused by a rule of tokens

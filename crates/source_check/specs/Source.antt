@@ -10,7 +10,7 @@ use Rattle.chor_lexer.specs.declared.token.Token.{Token}
 use Rattle.chor_lexer.specs.Tokens.{AreTokensOf}
 use Rattle.chor_lexer.specs.Refusal.{Refuses}
 use Rattle.chor_tree.specs.Source.{source_of}
-use Rattle.chor_parser.specs.Faults.{IsFirstFault, IsWithin}
+use Rattle.source_grammar.specs.Faults.{IsFirstFault, IsWithin}
 use Rattle.source_check.specs.declared.rules.Class.{Class}
 use Rattle.source_check.specs.declared.rules.Rules.{Rules}
 use Rattle.source_check.specs.Classes.{classes_of, IsFaultless, Breaks}

@@ -12,9 +12,9 @@ use Rattle.chor_tree.specs.declared.tree.Node.{Node}
 use Rattle.chor_tree.specs.declared.tree.NodeId.{NodeId}
 use Rattle.chor_tree.specs.Children.{children_of, IsClosed}
 use Rattle.chor_tree.specs.Source.{Statement, Starts, Sends, Selects, Gives, Sets, Asks, Shows, Block, Then, Either, Calls, Ends, Procedure, block_in, block_of, blocks_of, procedure_of}
-use Rattle.chor_parser.specs.Growing.{Adds, begins_of}
-use Rattle.chor_parser.proofs.Growth.{adds_none, adds_on, adds_node}
-use Rattle.chor_parser.proofs.Tables.{block_stays, block_pushed}
+use Rattle.source_grammar.specs.Growing.{Adds, begins_of}
+use Rattle.source_grammar.proofs.Growth.{adds_none, adds_on, adds_node}
+use Rattle.source_grammar.proofs.Tables.{block_stays, block_pushed}
 use Rattle.source_laws.proofs.Terms.{expr_of, same_term}
 
 -- a statement before a node

@@ -14,13 +14,12 @@ use Rattle.chor_tree.specs.declared.tree.Node.{Node}
 use Rattle.chor_tree.specs.Children.{IsClosed}
 use Rattle.chor_tree.specs.Kept.{Contents}
 use Rattle.chor_tree.specs.Source.{Source, procedure_of}
-use Rattle.chor_parser.specs.Faults.{IsWithin, IsFirstFault}
-use Rattle.chor_parser.specs.Growing.{begins_of}
-use Rattle.chor_parser.specs.Reading.{AreThere}
-use Rattle.chor_parser.proofs.KeptFiles.{source_in, nodes_are, file_kept}
-use Rattle.chor_parser.proofs.KnownTexts.{texts_known}
-use Rattle.chor_parser.proofs.Tables.{procedures_stay}
-use Rattle.chor_parser.proofs.Verdicts.{one_or_the_other_is}
+use Rattle.source_grammar.specs.Faults.{IsWithin, IsFirstFault}
+use Rattle.source_grammar.specs.Growing.{begins_of, AreThere}
+use Rattle.source_grammar.proofs.KeptFiles.{source_in, nodes_are, file_kept}
+use Rattle.source_grammar.proofs.KnownTexts.{texts_known}
+use Rattle.source_grammar.proofs.Tables.{procedures_stay}
+use Rattle.source_grammar.proofs.Verdicts.{one_or_the_other_is}
 use Rattle.canonical_laws.proofs.Fresh.{fresh}
 use Rattle.source_check.specs.Source.{IsFileOf, tokens, grammar}
 use Rattle.source_check.proofs.WholeTokens.{whole_tokens}

@@ -11,8 +11,8 @@ use Rattle.token_grammar.specs.Expressions.{KeepsLength}
 use Rattle.chor_tree.specs.declared.file.Named.{Named}
 use Rattle.chor_tree.specs.declared.tree.Part.{Part}
 use Rattle.chor_tree.specs.Source.{Statement, Block}
-use Rattle.chor_parser.specs.Grammar.{NameIs, NamesAre, AnyNamesAre, no_names, some_names, PartIs, a_part, StatementIs, a_start, a_value, a_label, a_delegation, a_set, a_host_call, a_show, PassedSessionsAre, no_session_passed, sessions_passed, PassedAre, nothing_passed, processes_passed, BlockIs, a_block, LinesAre, a_line, a_tail, TailIs, an_end, a_call, a_conditional}
-use Rattle.chor_parser.specs.Limits.{KeepsStatement, KeepsBlock, KeepsLines, KeepsTail}
+use Rattle.source_grammar.specs.Grammar.{NameIs, NamesAre, AnyNamesAre, no_names, some_names, PartIs, a_part, StatementIs, a_start, a_value, a_label, a_delegation, a_set, a_host_call, a_show, PassedSessionsAre, no_session_passed, sessions_passed, PassedAre, nothing_passed, processes_passed, BlockIs, a_block, LinesAre, a_line, a_tail, TailIs, an_end, a_call, a_conditional}
+use Rattle.source_grammar.specs.Limits.{KeepsStatement, KeepsBlock, KeepsLines, KeepsTail}
 use Rattle.canonical_laws.specs.Terms.{AllInStatement, AllInBlock}
 use Rattle.canonical_laws.proofs.Cutting.{AreWords}
 use Rattle.canonical_laws.proofs.Derived.{list_derived}

@@ -11,8 +11,8 @@ use Rattle.chor_lexer.specs.Grammar.{ExprIs}
 use Rattle.chor_lexer.specs.Spelling.{expr_symbols}
 use Rattle.token_grammar.specs.Symbols.{nowhere, AllowsFirst, Room}
 use Rattle.token_grammar.specs.Expressions.{KeepsLength}
-use Rattle.chor_parser.specs.Grammar.{MoreAre, no_more, one_more, ListIs, a_list}
-use Rattle.chor_parser.specs.Limits.{KeepsMore, KeepsList}
+use Rattle.source_grammar.specs.Grammar.{MoreAre, no_more, one_more, ListIs, a_list}
+use Rattle.source_grammar.specs.Limits.{KeepsMore, KeepsList}
 use Rattle.canonical_laws.proofs.Derived.{Derived}
 use Rattle.canonical_laws.proofs.Lengths.{expr_length}
 use Rattle.canonical_laws.proofs.Tokens.{Stands}

@@ -10,11 +10,11 @@ use Rattle.chor_tree.specs.declared.file.Service.{Service}
 use Rattle.chor_tree.specs.declared.file.ProcParam.{ProcParam}
 use Rattle.chor_tree.specs.declared.file.SessionParam.{SessionParam}
 use Rattle.chor_tree.specs.Source.{Procedure, Source}
-use Rattle.chor_parser.specs.Grammar.{NameIs, ListIs, a_list, NamesAre, AnyNamesAre, no_names, some_names, ServedAre, none_served, some_served, ServiceIs, a_service, ProcParamIs, a_param, SessionParamIs, a_session, SessionsAre, no_sessions, some_sessions, ParamsAre, no_params, some_params, ProcedureIs, a_procedure, FileIs, a_file}
-use Rattle.chor_parser.specs.Limits.{KeepsNames, KeepsAnyNames, KeepsServed, KeepsService, KeepsSessions, KeepsParams, KeepsProcedure, KeepsAll}
-use Rattle.chor_parser.specs.Faults.{IsWithin}
-use Rattle.chor_parser.specs.Parts.{ServicePart}
-use Rattle.chor_parser.specs.Files.{ProcedurePart}
+use Rattle.source_grammar.specs.Grammar.{NameIs, ListIs, a_list, NamesAre, AnyNamesAre, no_names, some_names, ServedAre, none_served, some_served, ServiceIs, a_service, ProcParamIs, a_param, SessionParamIs, a_session, SessionsAre, no_sessions, some_sessions, ParamsAre, no_params, some_params, ProcedureIs, a_procedure, FileIs, a_file}
+use Rattle.source_grammar.specs.Limits.{KeepsNames, KeepsAnyNames, KeepsServed, KeepsService, KeepsSessions, KeepsParams, KeepsProcedure, KeepsAll}
+use Rattle.source_grammar.specs.Faults.{IsWithin}
+use Rattle.source_grammar.specs.Parts.{ServicePart}
+use Rattle.source_grammar.specs.Files.{ProcedurePart}
 use Rattle.canonical_laws.specs.Terms.{AllInBlock, AllTerms}
 use Rattle.canonical_laws.proofs.Cutting.{AreWords}
 use Rattle.canonical_laws.proofs.Derived.{Derived, list_derived, gathered}

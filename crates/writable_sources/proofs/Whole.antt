@@ -7,7 +7,7 @@ use Rattle.chor_tree.specs.declared.file.File.{File}
 use Rattle.chor_tree.specs.declared.file.Service.{Service}
 use Rattle.chor_tree.specs.declared.tree.NodeId.{NodeId}
 use Rattle.chor_tree.specs.Source.{body_of, procedure_of, source_of}
-use Rattle.chor_parser.specs.Faults.{IsWithin}
+use Rattle.source_grammar.specs.Faults.{IsWithin}
 use Rattle.chor_lexer.proofs.DistinctTables.{distinct_names, distinct_texts}
 use Rattle.endpoint_code.specs.declared.endpoints.Endpoints.{Endpoints}
 use Rattle.printed_tokens.specs.Spelled.{AreSpelled, IsChannelSpelled, IsProcedureSpelled, IsServiceSpelled, IsProcessSpelled}

@@ -7,7 +7,7 @@ use Rattle.chor_lexer.specs.Tokens.{AreTokensOf}
 use Rattle.chor_tree.specs.declared.file.Proc.{Proc}
 use Rattle.chor_tree.specs.Source.{Source}
 use Rattle.chor_tree.specs.declared.file.File.{File}
-use Rattle.chor_parser.specs.Faults.{IsWithin}
+use Rattle.source_grammar.specs.Faults.{IsWithin}
 use Rattle.chor_semantics.specs.Choreography.{Choreography}
 use Rattle.endpoint_code.specs.declared.endpoints.Endpoints.{Endpoints}
 use Rattle.endpoint_code.specs.Labels.{HasDistinctLabels}

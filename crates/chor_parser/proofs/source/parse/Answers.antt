@@ -1,12 +1,12 @@
 use Rattle.std.proofs.lemmas.Result.{err_from_is_err_and}
 use Rattle.token_grammar.proofs.Sequels.{now, later, then_reads}
-use Rattle.chor_parser.proofs.Terminals.{holds_if, fails_if}
-use Rattle.chor_parser.proofs.Files.{items_part, items_end, main_part}
+use Rattle.source_grammar.proofs.Terminals.{holds_if, fails_if}
+use Rattle.source_grammar.proofs.Files.{items_part, items_end, main_part}
 use Rattle.chor_parser.proofs.Joined.{file_within}
-use Rattle.chor_parser.proofs.FirstFaults.{refusal_is, unended, whole}
+use Rattle.source_grammar.proofs.FirstFaults.{refusal_is, unended, whole}
 use Rattle.chor_tree.specs.Kept.{Contents}
-use Rattle.chor_parser.proofs.Tables.{all_there}
-use Rattle.chor_parser.proofs.KeptFiles.{nodes_are, file_kept}
+use Rattle.source_grammar.proofs.Tables.{all_there}
+use Rattle.source_grammar.proofs.KeptFiles.{nodes_are, file_kept}
 use Rattle.chor_parser.proofs.source.parse.Goals as goal
 
 pub returns-in_err-items-clause-denied : goal.returns-in_err-items-clause-denied

@@ -1,6 +1,6 @@
 use Rattle.std.proofs.lemmas.Result.{err_from_is_err_and}
-use Rattle.chor_parser.proofs.Terminals.{no_word_head}
-use Rattle.chor_parser.proofs.Files.{no_item_head}
+use Rattle.source_grammar.proofs.Terminals.{no_word_head}
+use Rattle.source_grammar.proofs.Files.{no_item_head}
 use Rattle.chor_parser.proofs.Joined.{begins_protocol, begins_service, begins_procedure}
 use Rattle.chor_parser.proofs.source.read_item.Goals as goal
 

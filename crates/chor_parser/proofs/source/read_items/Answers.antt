@@ -1,7 +1,8 @@
 use Rattle.std.proofs.lemmas.Result.{err_from_is_err_and}
 use Rattle.chor_parser.proofs.Joined.{none_so_far, one_so_far, item_stops, all_items, item_at, none_at, same_items}
-use Rattle.chor_parser.proofs.Tables.{none_there}
-use Rattle.chor_parser.proofs.Growth.{adds_nothing, adds_bodies}
+use Rattle.source_grammar.proofs.Tables.{none_there}
+use Rattle.source_grammar.proofs.Growth.{adds_nothing}
+use Rattle.chor_parser.proofs.Joined.{adds_bodies}
 use Rattle.chor_parser.proofs.source.read_items.Goals as goal
 
 pub items-init : goal.items-init

@@ -1,6 +1,6 @@
 use Rattle.std.proofs.Common.{length, []}
-use Rattle.chor_parser.specs.Reading.{names_of, tokens_from, AreThere}
-use Rattle.chor_parser.specs.Growing.{Adds, begins_of}
+use Rattle.source_reader.specs.Reading.{names_of, tokens_from}
+use Rattle.source_grammar.specs.Growing.{AreThere, Adds, begins_of}
 use Rattle.chor_parser.proofs.Joined.{ItemsGo}
 use Rattle.chor_parser.proofs.source.read_items.Given as goal
 

@@ -1,8 +1,8 @@
 use Rattle.std.proofs.lemmas.Result.{err_from_is_err_and}
 use Rattle.token_grammar.proofs.Sequels.{past, reads_past, leads, now}
-use Rattle.chor_parser.proofs.Terminals.{after_mark, after_word, at_once, main_keyword}
-use Rattle.chor_parser.proofs.Protocols.{mark_then, any_names_part}
-use Rattle.chor_parser.proofs.Files.{body_part, main_tail, names_tail, names_end}
+use Rattle.source_grammar.proofs.Terminals.{after_mark, after_word, at_once, main_keyword}
+use Rattle.source_grammar.proofs.Protocols.{mark_then, any_names_part}
+use Rattle.source_grammar.proofs.Files.{body_part, main_tail, names_tail, names_end}
 use Rattle.chor_parser.proofs.source.read_main.Goals as goal
 
 pub returns-in_err-at-clause-halts : goal.returns-in_err-at-clause-halts

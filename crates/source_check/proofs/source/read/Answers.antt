@@ -1,4 +1,4 @@
-use Rattle.chor_parser.proofs.KnownTexts.{texts_known}
+use Rattle.source_grammar.proofs.KnownTexts.{texts_known}
 use Rattle.source_check.proofs.source.read.Goals as goal
 
 pub parse-requires : goal.parse-requires

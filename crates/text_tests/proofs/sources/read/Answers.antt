@@ -1,4 +1,4 @@
-use Rattle.chor_parser.proofs.KnownTexts.{texts_known}
+use Rattle.source_grammar.proofs.KnownTexts.{texts_known}
 use Rattle.text_tests.proofs.sources.read.Goals as goal
 
 pub parse-file-requires : goal.parse-file-requires

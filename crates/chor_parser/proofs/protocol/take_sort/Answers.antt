@@ -1,5 +1,0 @@
-use Rattle.chor_parser.proofs.Readers.{sort_halts}
-use Rattle.chor_parser.proofs.protocol.take_sort.Goals as goal
-
-pub returns-in-None-clause-halts : goal.returns-in-None-clause-halts
-returns-in-None-clause-halts c = sort_halts c.in-None.ensures.none c.refused.ensures

@@ -1,0 +1,50 @@
+-- Procedures, what stands before main, and main as parts of the grammar.
+use Rattle.std.specs.Prelude.{List, ◌∷◌, codes}
+use Rattle.chor_lexer.specs.declared.mark.Mark.TheVariants.{OpenParen, CloseParen}
+use Rattle.chor_tree.specs.declared.file.Named.{Named}
+use Rattle.chor_tree.specs.declared.file.Service.{Service}
+use Rattle.chor_tree.specs.Protocols.{Protocol}
+use Rattle.token_grammar.specs.Symbols.{Part, Further, Then, Choice, left, right, OneOf}
+use Rattle.chor_tree.specs.Source.{Block, Procedure, Items}
+use Rattle.source_grammar.specs.Grammar.{ProcedureIs, ItemsAre}
+use Rattle.source_grammar.specs.Limits.{KeepsProcedure, KeepsItems}
+use Rattle.source_grammar.specs.Parts.{MarkPart, WordPart, AWord, Or, AnyNamesPart, ProtocolPart, ServicePart}
+use Rattle.source_grammar.specs.Blocks.{BlockPart}
+
+abbrev pub ProcedurePart : Part Procedure
+ProcedurePart Q names ts p rest = (d : ProcedureIs names ts p rest) × KeepsProcedure Q d
+
+-- protocol | service | proc
+abbrev pub Item : Type 0
+Item = Choice Protocol (Choice Service Procedure)
+
+abbrev pub AnItemPart : Part Item
+AnItemPart = OneOf ProtocolPart (OneOf ServicePart ProcedurePart)
+
+-- the words with which one begins
+abbrev pub ItemFirst : Further
+ItemFirst = Or (AWord (codes "protocol")) (Or (AWord (codes "service")) (AWord (codes "proc")))
+
+-- { protocol | service | proc }
+abbrev pub ItemsPart : Part Items
+ItemsPart Q names ts is rest = (d : ItemsAre names ts is rest) × KeepsItems Q d
+
+-- one more before the others
+abbrev pub with_item : Item → Items → Items
+with_item (left p) is = record is { protocols = p ∷ is.protocols }
+with_item (right (left s)) is = record is { services = s ∷ is.services }
+with_item (right (right p)) is = record is { procedures = p ∷ is.procedures }
+
+-- "main" "(" [ names ] ")" block
+abbrev pub Main : Type 0
+Main = Unit {0} × (Unit {0} × (List Named × (Unit {0} × Block)))
+
+abbrev pub MainPart : Part Main
+MainPart = Then (WordPart (codes "main")) (Then (MarkPart OpenParen) (Then (AnyNamesPart 64) (Then (MarkPart CloseParen) (BlockPart 64 1024))))
+
+abbrev pub main_of : List Named → Block → Main
+main_of ps b = (tt, (tt, (ps, (tt, b))))
+
+-- a whole source but for its end
+abbrev pub SourcePart : Part (Items × Main)
+SourcePart = Then ItemsPart MainPart

@@ -1,0 +1,10 @@
+pub mod Grammar
+pub mod Limits
+pub mod Parts
+pub mod Statements
+pub mod Blocks
+pub mod Files
+pub mod Faults
+pub mod Known
+pub mod Growing
+pub mod Paths

@@ -1,0 +1,128 @@
+-- The limits of a source (this project's own), judged on how its tokens derive it. `Q` says by which rule, and at which place, a
+-- limit may be exceeded: where it allows none, all limits are kept.
+use Rattle.std.specs.Prelude.{◌-◌, ℕ, List, length}
+use Rattle.chor_base.specs.declared.rule.Place.{Place}
+use Rattle.chor_base.specs.declared.rule.Rule.{Rule}
+use Rattle.chor_base.specs.declared.rule.Rule.TheVariants.{P2, P3}
+use Rattle.chor_base.specs.declared.value.Sort.{Sort}
+use Rattle.chor_lexer.specs.declared.token.Token.{Token}
+use Rattle.token_grammar.specs.Symbols.{Room}
+use Rattle.token_grammar.specs.Expressions.{KeepsLength}
+use Rattle.chor_tree.specs.declared.file.Named.{Named}
+use Rattle.chor_tree.specs.declared.file.Service.{Service}
+use Rattle.chor_tree.specs.declared.file.ProcParam.{ProcParam}
+use Rattle.chor_tree.specs.declared.file.SessionParam.{SessionParam}
+use Rattle.chor_tree.specs.Protocols.{Protocol}
+use Rattle.chor_tree.specs.declared.protocol.State.{State}
+use Rattle.chor_tree.specs.declared.protocol.ProtoStep.{ProtoStep}
+use Rattle.chor_tree.specs.Source.{Statement, Block, Procedure, Items, Source}
+use Rattle.source_grammar.specs.Grammar.{MoreAre, no_more, one_more, ListIs, a_list, NamesAre, AnyNamesAre, no_names, some_names, StepIs, end_step, value_step, choice_step, StateIs, a_state, MoreStatesAre, no_state, one_state, StatesAre, some_states, ProtocolIs, a_protocol, ServedAre, none_served, some_served, ServiceIs, a_service, VariablesAre, no_variables, some_variables, ProcParamIs, a_param, SessionsAre, no_sessions, some_sessions, ParamsAre, no_params, some_params, StatementIs, a_start, a_value, a_label, a_delegation, a_set, a_host_call, a_show, BlockIs, a_block, LinesAre, a_line, a_tail, TailIs, an_end, a_call, a_conditional, ProcedureIs, a_procedure, ItemsAre, no_item, protocol_first, service_first, procedure_first, FileIs, a_file}
+
+-- ---- lists of which each item keeps its own limits, as K says
+
+-- { "," item }, n more of them
+abbrev pub KeepsMore : {A : Type 0} {Item : List Token → A → List Token → Type 0} → (Rule → Place → Type 0) → ((ts : List Token) (x : A) (rest : List Token) → Item ts x rest → Type 0) → ℕ → {ts : List Token} {xs : List A} {rest : List Token} → MoreAre Item ts xs rest → Type 0
+KeepsMore Q K n no_more = Unit {0}
+KeepsMore Q K n (one_more {t1 = t1} c i m) = Room Q P3 n t1 × K _ _ _ i × KeepsMore Q K (n - 1) m
+
+-- item { "," item }, n of them
+abbrev pub KeepsList : {A : Type 0} {Item : List Token → A → List Token → Type 0} → (Rule → Place → Type 0) → ((ts : List Token) (x : A) (rest : List Token) → Item ts x rest → Type 0) → ℕ → {ts : List Token} {xs : List A} {rest : List Token} → ListIs Item ts xs rest → Type 0
+KeepsList Q K n (a_list {t0 = t0} i m) = Room Q P3 n t0 × K _ _ _ i × KeepsMore Q K (n - 1) m
+
+abbrev pub KeepsNames : (Rule → Place → Type 0) → ℕ → {names : List (List ℕ)} {ts : List Token} {xs : List Named} {rest : List Token} → NamesAre names ts xs rest → Type 0
+KeepsNames Q n d = KeepsList Q (λ ts x rest i. Unit {0}) n d
+
+abbrev pub KeepsAnyNames : (Rule → Place → Type 0) → ℕ → {names : List (List ℕ)} {ts : List Token} {xs : List Named} {rest : List Token} → AnyNamesAre names ts xs rest → Type 0
+KeepsAnyNames Q n no_names = Unit {0}
+KeepsAnyNames Q n (some_names d) = KeepsNames Q n d
+
+-- ---- protocols: 16 roles, 256 states, 64 labels of a choice
+
+abbrev pub KeepsStep : (Rule → Place → Type 0) → {names : List (List ℕ)} {ts : List Token} {s : ProtoStep} {rest : List Token} → StepIs names ts s rest → Type 0
+KeepsStep Q (end_step e) = Unit {0}
+KeepsStep Q (value_step a r b c p t n) = Unit {0}
+KeepsStep Q (choice_step a r b o arms c) = KeepsList Q (λ ts x rest i. Unit {0}) 64 arms
+
+abbrev pub KeepsState : (Rule → Place → Type 0) → {names : List (List ℕ)} {ts : List Token} {s : State} {rest : List Token} → StateIs names ts s rest → Type 0
+KeepsState Q (a_state n e s m) = KeepsStep Q s
+
+abbrev pub KeepsMoreStates : {names : List (List ℕ)} → (Rule → Place → Type 0) → ℕ → {ts : List Token} {ss : List State} {rest : List Token} → MoreStatesAre names ts ss rest → Type 0
+KeepsMoreStates Q n no_state = Unit {0}
+KeepsMoreStates Q n (one_state {t0 = t0} s m) = Room Q P3 n t0 × KeepsState Q s × KeepsMoreStates Q (n - 1) m
+
+abbrev pub KeepsStates : (Rule → Place → Type 0) → {names : List (List ℕ)} {ts : List Token} {ss : List State} {rest : List Token} → StatesAre names ts ss rest → Type 0
+KeepsStates Q (some_states s m) = KeepsState Q s × KeepsMoreStates Q 255 m
+
+abbrev pub KeepsProtocol : (Rule → Place → Type 0) → {names : List (List ℕ)} {ts : List Token} {p : Protocol} {rest : List Token} → ProtocolIs names ts p rest → Type 0
+KeepsProtocol Q (a_protocol w n o roles c b states e) = KeepsNames Q 16 roles × KeepsStates Q states
+
+-- ---- services: 16 roles in both lists together
+
+abbrev pub KeepsServed : (Rule → Place → Type 0) → ℕ → {names : List (List ℕ)} {ts : List Token} {ns : List Named} {rest : List Token} → ServedAre names ts ns rest → Type 0
+KeepsServed Q n none_served = Unit {0}
+KeepsServed Q n (some_served b ns) = KeepsNames Q n ns
+
+abbrev pub KeepsService : (Rule → Place → Type 0) → {names : List (List ℕ)} {ts : List Token} {s : Service} {rest : List Token} → ServiceIs names ts s rest → Type 0
+KeepsService Q (a_service {active = active} w n c p o roles served e m) = KeepsNames Q 16 roles × KeepsServed Q (16 - length active) served
+
+-- ---- heads of procedures: 8 process parameters of 16 variables, 8 session parameters
+
+abbrev pub KeepsVariables : (Rule → Place → Type 0) → {names : List (List ℕ)} {ts : List Token} {vs : List (Named × Sort)} {rest : List Token} → VariablesAre names ts vs rest → Type 0
+KeepsVariables Q no_variables = Unit {0}
+KeepsVariables Q (some_variables o vs c) = KeepsList Q (λ ts x rest i. Unit {0}) 16 vs
+
+abbrev pub KeepsParam : (Rule → Place → Type 0) → {names : List (List ℕ)} (ts : List Token) (p : ProcParam) (rest : List Token) → ProcParamIs names ts p rest → Type 0
+KeepsParam Q ts p rest (a_param n vs) = KeepsVariables Q vs
+
+abbrev pub KeepsSessions : (Rule → Place → Type 0) → {names : List (List ℕ)} {ts : List Token} {ss : List SessionParam} {rest : List Token} → SessionsAre names ts ss rest → Type 0
+KeepsSessions Q no_sessions = Unit {0}
+KeepsSessions Q (some_sessions m ss) = KeepsList Q (λ ts x rest i. Unit {0}) 8 ss
+
+abbrev pub KeepsParams : (Rule → Place → Type 0) → {names : List (List ℕ)} {ts : List Token} {ps : List ProcParam} {ss : List SessionParam} {rest : List Token} → ParamsAre names ts ps ss rest → Type 0
+KeepsParams Q no_params = Unit {0}
+KeepsParams Q (some_params ps ss) = KeepsList Q (KeepsParam Q) 8 ps × KeepsSessions Q ss
+
+-- ---- statements
+
+abbrev pub KeepsStatement : (Rule → Place → Type 0) → {names : List (List ℕ)} {ts : List Token} {s : Statement} {rest : List Token} → StatementIs names ts s rest → Type 0
+KeepsStatement Q (a_start w c o k e m active serve) = Unit {0}
+KeepsStatement Q (a_value {t2 = t2} {t3 = t3} a d e r b f x m k) = KeepsLength Q t2 t3
+KeepsStatement Q (a_label a r b c k d l) = Unit {0}
+KeepsStatement Q (a_delegation a r b c k o h e) = Unit {0}
+KeepsStatement Q (a_set {t4 = t4} {t5 = t5} p d x b e) = KeepsLength Q t4 t5
+KeepsStatement Q (a_host_call {t7 = t7} {t8 = t8} {t9 = t9} {t10 = t10} p d x b w f o l c r e) = KeepsLength Q t7 t8 × KeepsLength Q t9 t10
+KeepsStatement Q (a_show {t2 = t2} {t3 = t3} p w e) = KeepsLength Q t2 t3
+
+-- ---- blocks: so many may be open, and so many statements, the tail among them, may stand on each path
+
+abbrev mutual
+  pub KeepsBlock : {names : List (List ℕ)} → (Rule → Place → Type 0) → ℕ → ℕ → {ts : List Token} {b : Block} {rest : List Token} → BlockIs names ts b rest → Type 0
+  KeepsBlock Q blocks path (a_block {t0 = t0} o lines c) = Room Q P2 blocks t0 × KeepsLines Q (blocks - 1) path lines
+
+  pub KeepsLines : {names : List (List ℕ)} → (Rule → Place → Type 0) → ℕ → ℕ → {ts : List Token} {b : Block} {rest : List Token} → LinesAre names ts b rest → Type 0
+  KeepsLines Q blocks path (a_line {t0 = t0} at s m more) = Room Q P3 path t0 × KeepsStatement Q s × KeepsLines Q blocks (path - 1) more
+  KeepsLines Q blocks path (a_tail {t0 = t0} t) = Room Q P3 path t0 × KeepsTail Q blocks (path - 1) t
+
+  pub KeepsTail : {names : List (List ℕ)} → (Rule → Place → Type 0) → ℕ → ℕ → {ts : List Token} {b : Block} {rest : List Token} → TailIs names ts b rest → Type 0
+  KeepsTail Q blocks path (an_end at w) = Unit {0}
+  KeepsTail Q blocks path (a_call at w f o passed c) = Unit {0}
+  KeepsTail Q blocks path (a_conditional {t3 = t3} {t4 = t4} at w q d e first v second) = KeepsLength Q t3 t4 × KeepsBlock Q blocks path first × KeepsBlock Q blocks path second
+
+-- ---- files: 64 processes of main, 64 blocks, 1,024 statements
+
+abbrev pub KeepsProcedure : (Rule → Place → Type 0) → {names : List (List ℕ)} {ts : List Token} {p : Procedure} {rest : List Token} → ProcedureIs names ts p rest → Type 0
+KeepsProcedure Q (a_procedure w n o params c body) = KeepsParams Q params × KeepsBlock Q 64 1024 body
+
+abbrev pub KeepsItems : (Rule → Place → Type 0) → {names : List (List ℕ)} {ts : List Token} {is : Items} {rest : List Token} → ItemsAre names ts is rest → Type 0
+KeepsItems Q no_item = Unit {0}
+KeepsItems Q (protocol_first p is) = KeepsProtocol Q p × KeepsItems Q is
+KeepsItems Q (service_first s is) = KeepsService Q s × KeepsItems Q is
+KeepsItems Q (procedure_first p is) = KeepsProcedure Q p × KeepsItems Q is
+
+-- a whole source exceeds no limit but where Q allows it
+abbrev pub Keeps : (Rule → Place → Type 0) → {names : List (List ℕ)} {ts : List Token} {s : Source} → FileIs names ts s → Type 0
+Keeps Q (a_file is w o processes c body e) = KeepsItems Q is × KeepsAnyNames Q 64 processes × KeepsBlock Q 64 1024 body
+
+-- it exceeds no limit
+abbrev pub KeepsAll : {names : List (List ℕ)} {ts : List Token} {s : Source} → FileIs names ts s → Type 0
+KeepsAll d = Keeps (λ rule p. ⊥) d

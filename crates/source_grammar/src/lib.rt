@@ -1,0 +1,6 @@
+//! The grammar of sources, and what holds of all tokens.
+#![tactic(auto)]
+
+mod laws;
+
+pub use laws::{never_refused, one_fault, one_or_the_other, one_source, one_way};

@@ -1,0 +1,4 @@
+pub mod Readers
+pub mod Coming
+pub mod Lines
+pub mod Blocks

@@ -1,0 +1,13 @@
+use Rattle.std.proofs.Common.{◌-◌, length}
+use Rattle.token_grammar.specs.Symbols.{Nothing}
+use Rattle.source_grammar.specs.Grammar.{SessionParamIs}
+use Rattle.source_grammar.specs.Parts.{ItemPart, Unlimited, SessionParamsPart}
+use Rattle.source_reader.specs.Reading.{names_of, tokens_from}
+use Rattle.source_grammar.proofs.ItemLists.{Comes, Roomy}
+use Rattle.source_reader.proofs.procedure.read_session_params.Given as goal
+
+abbrev pub invariant-loop-after : goal.invariant-loop-after
+invariant-loop-after l = Comes SessionParamsPart (Roomy (ItemPart SessionParamIs (Unlimited SessionParamIs))) Nothing (names_of l.input) (tokens_from l.input l.fn.at) (8 - length l.sessions) l.sessions (tokens_from l.input l.at)
+
+abbrev pub decreases-loop-after : goal.decreases-loop-after
+decreases-loop-after l = length (tokens_from l.input l.at)
