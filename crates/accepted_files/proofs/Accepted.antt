@@ -18,10 +18,10 @@ use Rattle.well_formed.specs.Asked.{IsAnswered}
 use Rattle.well_formed.specs.Linear.{ParameterSets}
 use Rattle.linearity.specs.OrderFaults.{main_of, IsLinearFile}
 use Rattle.linearity.proofs.Judged.{none_is_linear}
-use Rattle.greatest_sets.proofs.Exist.{greatest_there}
+use Rattle.accepted_files.proofs.Exist.{greatest_there}
 use Rattle.typed_sources.specs.Laws.{IsAccepted}
 use Rattle.typed_sources.proofs.Resolved.{found_in}
-use Rattle.both_ways.specs.Premises.{IsUnhindered}
+use Rattle.correspondence.specs.Premises.{IsUnhindered}
 use Rattle.projection.specs.Codes.{proc_named}
 use Rattle.projection.specs.Projects.{Projects, parameters_of, body_at}
 use Rattle.projection_follows.specs.Premises.{EachGuarded, ProceduresChecked, MainChecked, IsProjectionOf}

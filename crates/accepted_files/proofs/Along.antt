@@ -30,7 +30,7 @@ use Rattle.typing_rules.specs.After.{with_value, with_state, with_endpoint, with
 use Rattle.typed_sources.proofs.Checked.{first_passes, asked, holder_is, some_is}
 use Rattle.typed_sources.proofs.Moved.{passed_other, passed_this, holds_one}
 use Rattle.typed_sources.proofs.Opened.{IsNamedStart, holder_other, holder_new}
-use Rattle.source_blocks.specs.Blocks.{node_of, choreography_of}
+use Rattle.chor_semantics.specs.Blocks.{node_of, choreography_of}
 use Rattle.typed_sources.proofs.Sources.{NamesKept, IsNamedCall, IsFaultless, scope_with}
 use Rattle.projection.specs.Codes.{is_named, role_in, proc_named, param_for}
 use Rattle.projection_follows.specs.Roles.{Roles, with_role, HoldsRole, GivesAway, roles_sent, roles_gained, TakesPart, HoldsPassed, HoldsPassedFor, HoldsAtCall, HoldsRoles}

@@ -15,8 +15,8 @@ use Rattle.endpoint_code.specs.Network.{channel_of as channel_in}
 use Rattle.well_formed.specs.WellFormed.{names_in_scope}
 use Rattle.well_formed.proofs.References.{same_name, clash, or_rights}
 use Rattle.typed_sources.specs.Laws.{IsAccepted}
-use Rattle.source_blocks.specs.Blocks.{choreography_of}
-use Rattle.source_blocks.proofs.Blocks.{choreography_at}
+use Rattle.chor_semantics.specs.Blocks.{choreography_of}
+use Rattle.chor_semantics.proofs.Blocks.{choreography_at}
 use Rattle.typed_sources.proofs.Sources.{scope_with}
 use Rattle.projection.specs.Projects.{body_at}
 use Rattle.projection_follows.specs.Roles.{sessions_of}

@@ -28,8 +28,8 @@ use Rattle.typed_sources.proofs.Checked.{first_passes, asked, some_is}
 use Rattle.typed_sources.proofs.Opened.{IsNamedStart, holder_other, holder_new, not_is}
 use Rattle.typed_sources.proofs.Arguments.{owners_of, holder_elsewhere, no_owner}
 use Rattle.typed_sources.specs.Laws.{IsAccepted}
-use Rattle.source_blocks.specs.Blocks.{node_of, choreography_of}
-use Rattle.source_blocks.proofs.Blocks.{choreography_at}
+use Rattle.chor_semantics.specs.Blocks.{node_of, choreography_of}
+use Rattle.chor_semantics.proofs.Blocks.{choreography_at}
 use Rattle.typed_sources.proofs.Sources.{NamesKept, IsFaultless, scope_with}
 use Rattle.typed_sources.proofs.Resolved.{both_empty, found_in}
 use Rattle.typed_sources.proofs.Accepted.{main_faultless, procedures_keep, head_fine}

@@ -15,12 +15,12 @@ use Rattle.endpoint_code.specs.NetworkRuns.{IsNetworkRun, has_ended, all_ended}
 use Rattle.well_formed.specs.Linear.{ParameterSets}
 use Rattle.well_formed.specs.Holders.{ListedHolders}
 use Rattle.typed_sources.proofs.Checked.{some_is}
-use Rattle.both_ways.specs.Premises.{Realizes}
-use Rattle.both_ways.proofs.FromSources.{all_bodies, bodies_renamed}
-use Rattle.both_ways.proofs.First.{first_corresponds}
-use Rattle.both_ways.proofs.Runs.{leads_too}
-use Rattle.both_ways.proofs.Capacity.{run_within}
-use Rattle.both_ways.proofs.Ended.{ended_terminated}
+use Rattle.correspondence.specs.Premises.{Realizes}
+use Rattle.correspondence.proofs.FromSources.{all_bodies, bodies_renamed}
+use Rattle.correspondence.proofs.First.{first_corresponds}
+use Rattle.correspondence.proofs.Runs.{leads_too}
+use Rattle.correspondence.proofs.Capacity.{run_within}
+use Rattle.correspondence.proofs.Ended.{ended_terminated}
 
 each_ended : (e : Endpoints) (ms : List Machine) → all_ended e ms ≡ true → (p : ℕ) (m : Machine) → slice_get ms p ≡ Some m → has_ended e m ≡ true
 each_ended e [] h p m i = absurd cc

@@ -9,3 +9,7 @@ pub mod Accepted
 pub mod Ended
 pub mod Happens
 pub mod Closed
+pub mod Exist
+pub mod Clear
+pub mod Example
+pub mod There

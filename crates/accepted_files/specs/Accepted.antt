@@ -12,12 +12,12 @@ use Rattle.endpoint_code.specs.NetworkRuns.{IsNetworkRun, all_ended}
 use Rattle.well_formed.specs.Asked.{IsAnswered}
 use Rattle.well_formed.specs.Linear.{ParameterSets}
 use Rattle.typing_rules.specs.Guarded.{IsGuarded}
-use Rattle.typed_runs.specs.History.{SessionsConform, SessionsEnd}
+use Rattle.typed_sources.specs.History.{SessionsConform, SessionsEnd}
 use Rattle.typed_sources.specs.Stands.{kind_in, states_in}
 use Rattle.typed_sources.specs.Laws.{IsAccepted}
 use Rattle.linearity.specs.OrderFaults.{IsOrderFault}
 use Rattle.projection.specs.Projects.{Projects}
-use Rattle.both_ways.specs.Laws.{CannotStep, HasEndedEmpty}
+use Rattle.correspondence.specs.Laws.{CannotStep, HasEndedEmpty}
 use Rattle.projection_follows.specs.Premises.{IsProjectionOf}
 use Rattle.file_trees.specs.Lists.{lists_of}
 

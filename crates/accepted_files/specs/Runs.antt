@@ -8,7 +8,7 @@ use Rattle.endpoint_code.specs.declared.endpoints.Endpoints.{Endpoints}
 use Rattle.endpoint_code.specs.Network.{NetworkState, first_state}
 use Rattle.endpoint_code.specs.Scheduled.{Close, IsScheduled}
 use Rattle.well_formed.specs.Asked.{IsAnswered}
-use Rattle.typed_runs.specs.History.{SessionsConform}
+use Rattle.typed_sources.specs.History.{SessionsConform}
 use Rattle.typed_sources.specs.Stands.{kind_in, states_in}
 use Rattle.projection.specs.Projects.{Projects}
 pub use Rattle.accepted_files.specs.Accepted.{IsChecked}

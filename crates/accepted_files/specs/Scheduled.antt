@@ -9,7 +9,7 @@ use Rattle.endpoint_code.specs.Network.{NetworkState, first_state}
 use Rattle.endpoint_code.specs.NetworkRuns.{all_ended, none_can_step}
 use Rattle.endpoint_code.specs.Scheduled.{Close, Ended, Limit, Stuck, IsScheduled}
 use Rattle.well_formed.specs.Asked.{IsAnswered}
-use Rattle.both_ways.specs.Laws.{CannotStep, HasEndedEmpty}
+use Rattle.correspondence.specs.Laws.{CannotStep, HasEndedEmpty}
 use Rattle.projection.specs.Projects.{Projects}
 use Rattle.accepted_files.specs.Accepted.{IsChecked}
 

@@ -2,10 +2,16 @@
 //! its projection's network, and from the scheduled run of that network to runs of the choreography.
 #![tactic(auto)]
 
+mod greatest;
+mod worked;
+
 ghost use Rattle.accepted_files.specs.Roles.{EverybodyHoldsItsRoles};
 ghost use Rattle.accepted_files.specs.Accepted.{CheckedIsProjection, NetworkRunsAreRuns, RunsAreNetworkRuns, NetworkRunsConform, EndedNetworkEnds, NeverStuck};
 ghost use Rattle.accepted_files.specs.Scheduled.{NothingHappens, ScheduledRunsClose};
 ghost use Rattle.accepted_files.specs.Runs.{ScheduledRunsAreRuns};
+
+pub use greatest::{faultless_is_linear, greatest_sets_exist};
+pub use worked::service_started_twice_is_checked;
 
 /// In a file without faults of names, protocols and types everybody holds its roles: the processes
 /// of main, the parameters of procedures, and the new processes of each start.

@@ -12,12 +12,12 @@ use Rattle.endpoint_code.specs.Network.{NetworkState, first_state}
 use Rattle.endpoint_code.specs.NetworkRuns.{IsNetworkRun, all_ended}
 use Rattle.well_formed.specs.Linear.{ParameterSets}
 use Rattle.well_formed.specs.Holders.{ListedHolders}
-use Rattle.both_ways.specs.Premises.{Realizes}
-use Rattle.both_ways.proofs.FromSources.{all_bodies, bodies_renamed}
-use Rattle.both_ways.proofs.First.{first_corresponds}
-use Rattle.both_ways.proofs.BothWays.{leads_back}
-use Rattle.both_ways.proofs.Capacity.{run_has_room}
-use Rattle.both_ways.proofs.Ended.{terminated_ended}
+use Rattle.correspondence.specs.Premises.{Realizes}
+use Rattle.correspondence.proofs.FromSources.{all_bodies, bodies_renamed}
+use Rattle.correspondence.proofs.First.{first_corresponds}
+use Rattle.correspondence.proofs.BothWays.{leads_back}
+use Rattle.correspondence.proofs.Capacity.{run_has_room}
+use Rattle.correspondence.proofs.Ended.{terminated_ended}
 use Rattle.projection.specs.Projects.{Projects}
 use Rattle.projection_follows.proofs.Realizes.{realizes}
 use Rattle.file_trees.specs.Lists.{lists_of}

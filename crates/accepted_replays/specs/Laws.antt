@@ -5,7 +5,7 @@ use Rattle.chor_base.specs.Meaning.{Hosts}
 use Rattle.chor_tree.specs.declared.file.File.{File}
 use Rattle.chor_semantics.specs.Runs.{IsRun, IsEndedRun}
 use Rattle.endpoint_code.specs.declared.endpoints.Endpoints.{Endpoints}
-use Rattle.typed_runs.specs.History.{SessionsConform, SessionsEnd}
+use Rattle.typed_sources.specs.History.{SessionsConform, SessionsEnd}
 use Rattle.typed_sources.specs.Stands.{kind_in, states_in}
 use Rattle.projection.specs.Projects.{Projects}
 use Rattle.accepted_files.specs.Accepted.{IsChecked}

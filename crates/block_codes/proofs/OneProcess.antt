@@ -14,7 +14,7 @@ use Rattle.endpoint_code.specs.declared.code.CodeId.{CodeId}
 use Rattle.endpoint_code.specs.declared.code.CodeNode.{CodeNode}
 use Rattle.endpoint_code.specs.Trees.{code_at}
 use Rattle.branch_merge.proofs.ArmTables.{keeps_both}
-use Rattle.source_blocks.specs.Blocks.{choreography_of}
+use Rattle.chor_semantics.specs.Blocks.{choreography_of}
 use Rattle.projection.specs.Codes.{IsCodeOf}
 use Rattle.projection.specs.Making.{part_at, Puts}
 use Rattle.projection.specs.MergeFaults.{Site, made_by, sites_in, sites_at, HasClash, here}

@@ -22,7 +22,7 @@ use Rattle.endpoint_code.specs.Trees.{CodeTree, code_at}
 use Rattle.endpoint_code.proofs.AboveOrder.{above_trans}
 use Rattle.branch_merge.specs.Merged.{Keeps}
 use Rattle.branch_merge.proofs.ArmTables.{keeps_both, code_kept, kept_length}
-use Rattle.source_blocks.specs.Blocks.{node_of, choreography_of}
+use Rattle.chor_semantics.specs.Blocks.{node_of, choreography_of}
 use Rattle.projection.specs.Codes.{part_in, IsCodeOf, decides as decides_there, merges}
 use Rattle.projection.specs.Making.{part_tree, part_at}
 use Rattle.projection.specs.MergeFaults.{Site, sites_in, sites_at, HasClash, IsFirstOf, here, later}

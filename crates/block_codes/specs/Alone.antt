@@ -8,7 +8,7 @@ use Rattle.endpoint_code.specs.declared.code.CodeId.{CodeId}
 use Rattle.endpoint_code.specs.declared.code.CodeNode.{CodeNode}
 use Rattle.endpoint_code.specs.Trees.{code_at}
 use Rattle.branch_merge.specs.Merged.{Keeps}
-use Rattle.source_blocks.specs.Blocks.{choreography_of}
+use Rattle.chor_semantics.specs.Blocks.{choreography_of}
 use Rattle.projection.specs.Codes.{IsCodeOf}
 use Rattle.projection.specs.MergeFaults.{Site, sites_at, HasClash}
 

@@ -17,7 +17,7 @@ use Rattle.chor_tree.specs.Source.{Statement, Block, Then, body_of, block_in, bl
 use Rattle.chor_semantics.specs.Choreography.{Node, Content, Communicates, Named as Unbound}
 use Rattle.chor_semantics.specs.Sources.{name_ref}
 use Rattle.endpoint_code.specs.Trees.{CodeTree, Ends}
-use Rattle.source_blocks.specs.Blocks.{node_of, choreography_of}
+use Rattle.chor_semantics.specs.Blocks.{node_of, choreography_of}
 use Rattle.projection.specs.Codes.{part_in, proc_named, call_code, IsCodeOf}
 use Rattle.projection.specs.Making.{part_at}
 use Rattle.projection.specs.MergeFaults.{made_by, sites_in}

@@ -1,3 +1,4 @@
 pub mod Determined
 pub mod Tables
 pub mod Walks
+pub mod Blocks

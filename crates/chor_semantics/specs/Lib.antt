@@ -3,3 +3,4 @@ pub mod Sources
 pub mod Steps
 pub mod Runs
 pub mod Examples
+pub mod Blocks

@@ -1,13 +1,16 @@
 //! What choreographies mean: their steps and their runs.
 #![tactic(auto)]
 
+mod block;
+pub mod examples;
+
 ghost use Rattle.std.specs.Prelude.{◌≡◌, List};
 ghost use Rattle.chor_base.specs.declared.event.Event.{Event};
 ghost use Rattle.chor_base.specs.Meaning.{Hosts};
 ghost use Rattle.chor_semantics.specs.Sources.{Procedure, Configuration};
 ghost use Rattle.chor_semantics.specs.Steps.{Steps};
 
-pub mod examples;
+pub use block::blocks_are_choreographies;
 
 /// A configuration and an event have one next configuration at most.
 pub fn one_next()

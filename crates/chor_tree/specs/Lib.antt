@@ -8,3 +8,4 @@ pub mod Both
 pub mod Forms
 pub mod Followers
 pub mod Protocols
+pub mod Following

@@ -6,9 +6,11 @@ mod file;
 mod laws;
 mod protocol;
 mod tree;
+mod walks;
 
 pub use comparison::same;
 pub use file::{File, Named, Proc, ProcParam, Service, SessionParam};
 pub use laws::same_is_an_equivalence;
 pub use protocol::{Payload, ProtoArm, ProtoStep, Protocol, State};
 pub use tree::{Form, Node, NodeId, Part, Tree};
+pub use walks::{Following, what_follows};

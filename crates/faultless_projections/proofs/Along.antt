@@ -31,7 +31,7 @@ use Rattle.typing_rules.specs.Checks.{sort_at, value_checks, label_checks, endpo
 use Rattle.typing_rules.specs.After.{with_value, with_state, with_endpoint, with_sort, after_statement}
 use Rattle.typed_sources.proofs.Checked.{first_passes, asked, holder_is}
 use Rattle.typed_sources.proofs.Opened.{IsNamedStart, eq_flip, holder_other, holder_new}
-use Rattle.source_blocks.specs.Blocks.{node_of, choreography_of}
+use Rattle.chor_semantics.specs.Blocks.{node_of, choreography_of}
 use Rattle.typed_sources.proofs.Sources.{NamesKept, IsNamedCall, IsFaultless, scope_with}
 use Rattle.projection.specs.Codes.{is_named, name_of, role_in, proc_named, param_for}
 use Rattle.typed_sources.proofs.Scopes.{among_front}
@@ -40,7 +40,7 @@ use Rattle.file_trees.proofs.Channels.{channel_from}
 use Rattle.file_trees.proofs.Named.{IsNewStart, SessionsKept, AreNamed}
 use Rattle.file_trees.proofs.Scopes.{none_of}
 use Rattle.accepted_files.proofs.Parts.{active_role, proc_same, passed_holds, listed_role}
-use Rattle.held_sessions.specs.Held.{Held, with_held, GivesHeld, GainsNew, held_after, Exchanges, JoinsNew, HoldsListed, PassesFor, PassesAtCall, UsesHeld}
+use Rattle.faultless_projections.specs.Held.{Held, with_held, GivesHeld, GainsNew, held_after, Exchanges, JoinsNew, HoldsListed, PassesFor, PassesAtCall, UsesHeld}
 use Rattle.faultless_projections.proofs.Knows.{HasRole, Knows, AreThere, DiffersThere, start_roles, parts_apart}
 use Rattle.faultless_projections.proofs.Passed.{KnowsPassed, sent, gained, neither, none_held}
 use Rattle.faultless_projections.proofs.Names.{distinct_names, has_part, front_part, role_there, part_holder}

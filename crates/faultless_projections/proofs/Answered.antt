@@ -25,8 +25,8 @@ use Rattle.chor_tree.specs.Source.{Block, block_in, block_of, blocks_of, body_of
 use Rattle.chor_tree.proofs.Blocks.{block_at}
 use Rattle.chor_semantics.specs.Sources.{Procedure, procedure_from, tree_in, trees_of}
 use Rattle.chor_semantics.specs.Steps.{procedure_named}
-use Rattle.source_blocks.specs.Blocks.{choreography_of}
-use Rattle.source_blocks.proofs.Blocks.{block_choreography}
+use Rattle.chor_semantics.specs.Blocks.{choreography_of}
+use Rattle.chor_semantics.proofs.Blocks.{block_choreography}
 use Rattle.well_formed.specs.Asked.{CanAnswer, AllAsked, IsAnswered}
 use Rattle.typed_sources.proofs.Calls.{all_of}
 use Rattle.typed_sources.proofs.Resolved.{no_items, both_empty}

@@ -20,8 +20,8 @@ use Rattle.chor_tree.specs.Names.{fault_at, Scope, node_faults, unknown_process,
 use Rattle.chor_tree.specs.Source.{Block, block_in, block_of, blocks_of}
 use Rattle.chor_tree.proofs.Blocks.{block_at, block_past}
 use Rattle.chor_semantics.specs.Choreography.{Choreography}
-use Rattle.source_blocks.specs.Blocks.{choreography_of}
-use Rattle.source_blocks.proofs.Blocks.{block_choreography}
+use Rattle.chor_semantics.specs.Blocks.{choreography_of}
+use Rattle.chor_semantics.proofs.Blocks.{block_choreography}
 use Rattle.projection.specs.Projects.{body_at}
 use Rattle.faultless_projections.proofs.AskedCodes.{Known}
 

@@ -20,8 +20,8 @@ use Rattle.well_formed.proofs.References.{same_name, true_eq, or_left, or_rights
 use Rattle.delegation.specs.Checks.{all_differ}
 use Rattle.typing_rules.specs.Environment.{at_main, at_procedure}
 use Rattle.typed_sources.specs.Laws.{IsAccepted}
-use Rattle.source_blocks.specs.Blocks.{choreography_of}
-use Rattle.source_blocks.proofs.Blocks.{choreography_at}
+use Rattle.chor_semantics.specs.Blocks.{choreography_of}
+use Rattle.chor_semantics.proofs.Blocks.{choreography_at}
 use Rattle.typed_sources.proofs.Resolved.{both_empty, each_empty, found_in, is_named_there}
 use Rattle.typed_sources.proofs.ProcedureHeads.{no_fault_at, not_true, is_known, all_apart, names_append, names_map}
 use Rattle.typed_sources.proofs.Accepted.{declared, channels_fine, procedures_fine, main_faultless, procedures_keep}
@@ -31,7 +31,7 @@ use Rattle.file_trees.proofs.Files.{each_first, main_named, procedure_named, par
 use Rattle.file_trees.proofs.Roles.{once_apart}
 use Rattle.accepted_files.proofs.StartedChannels.{named_so, main_starts, body_starts}
 use Rattle.projection.specs.Projects.{Projects, starts_in, starts_in_procs, starts_of, body_at, is_some_start, channel_from}
-use Rattle.held_sessions.specs.Held.{UsesHeld, StartUses}
+use Rattle.faultless_projections.specs.Held.{UsesHeld, StartUses}
 use Rattle.faultless_projections.proofs.Knows.{Knows, AreThere, DiffersThere}
 use Rattle.faultless_projections.proofs.Along.{block_uses}
 use Rattle.faultless_projections.proofs.Lists.{append_all, each_all}

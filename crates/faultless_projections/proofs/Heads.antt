@@ -19,7 +19,7 @@ use Rattle.typed_sources.proofs.Opened.{eq_flip}
 use Rattle.typed_sources.proofs.Arguments.{owners_of, holder_elsewhere}
 use Rattle.typed_sources.proofs.Opened.{not_is}
 use Rattle.projection.specs.Codes.{holds, sessions_for}
-use Rattle.held_sessions.specs.Held.{Held}
+use Rattle.faultless_projections.specs.Held.{Held}
 use Rattle.faultless_projections.proofs.Knows.{HasRole, Knows}
 
 abbrev entries : NameId → List (Written × Written) → List Entry

@@ -19,7 +19,7 @@ use Rattle.delegation.specs.Owners.{holder_of}
 use Rattle.delegation.specs.Checks.{all_differ}
 use Rattle.typing_rules.specs.Environment.{Environment}
 use Rattle.typed_sources.proofs.ProcedureHeads.{no_fault_at, not_true}
-use Rattle.held_sessions.specs.Held.{Held}
+use Rattle.faultless_projections.specs.Held.{Held}
 use Rattle.file_trees.proofs.Channels.{channel_from, StartsIn}
 use Rattle.file_trees.proofs.Scopes.{same_names}
 

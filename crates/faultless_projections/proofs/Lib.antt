@@ -14,3 +14,6 @@ pub mod Starts
 pub mod Heads
 pub mod Files
 pub mod Whole
+pub mod Codes
+pub mod Renamed
+pub mod Services

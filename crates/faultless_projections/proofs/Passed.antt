@@ -12,7 +12,7 @@ use Rattle.delegation.specs.Owners.{holder_of, holds_some, passed}
 use Rattle.typing_rules.specs.Environment.{Environment}
 use Rattle.typed_sources.proofs.Checked.{some_is}
 use Rattle.typed_sources.proofs.Moved.{passed_other, passed_this, holds_one}
-use Rattle.held_sessions.specs.Held.{Held, with_held}
+use Rattle.faultless_projections.specs.Held.{Held, with_held}
 use Rattle.file_trees.proofs.Owned.{KeepsOwners}
 use Rattle.faultless_projections.proofs.Knows.{HasRole, Knows}
 

@@ -20,7 +20,7 @@ use Rattle.typing_rules.specs.Checks.{statement_checks}
 use Rattle.typing_rules.specs.After.{after_statement}
 use Rattle.typed_sources.proofs.Checked.{some_is}
 use Rattle.typed_sources.proofs.Opened.{IsNamedStart, among_more, eq_flip, holder_other, holder_new}
-use Rattle.source_blocks.specs.Blocks.{node_of, choreography_of}
+use Rattle.chor_semantics.specs.Blocks.{node_of, choreography_of}
 use Rattle.typed_sources.proofs.Sources.{IsFaultless, scope_with}
 use Rattle.projection.specs.Projects.{start_at, starts_in, serving}
 use Rattle.projection.specs.Renamed.{AreOther}
@@ -29,7 +29,7 @@ use Rattle.file_trees.proofs.Owned.{KeepsOwners, statement_owned}
 use Rattle.file_trees.proofs.Named.{IsNewStart, AreNamed}
 use Rattle.file_trees.proofs.Scopes.{none_of}
 use Rattle.projection_follows.specs.FreeSessions.{IsFree}
-use Rattle.held_sessions.specs.Held.{UsesHeld, only_in, StartUses}
+use Rattle.faultless_projections.specs.Held.{UsesHeld, only_in, StartUses}
 use Rattle.faultless_projections.proofs.Lists.{append_all}
 use Rattle.faultless_projections.proofs.Names.{behind_part, part_holder}
 use Rattle.faultless_projections.proofs.Knows.{HasRole, Knows, AreThere, DiffersThere, start_roles, parts_apart}

@@ -37,8 +37,8 @@ use Rattle.projection_follows.proofs.NoCall.{no_call_first}
 use Rattle.projection_follows.proofs.Units.{HasUnits}
 use Rattle.merged_codes.specs.Scoped.{IsScopedCode}
 use Rattle.merged_codes.proofs.ScopedTables.{tree_tells}
-use Rattle.held_sessions.proofs.Codes.{code_scoped}
-use Rattle.held_sessions.proofs.Services.{service_scoped}
+use Rattle.faultless_projections.proofs.Codes.{code_scoped}
+use Rattle.faultless_projections.proofs.Services.{service_scoped}
 use Rattle.faultless_projections.proofs.Names.{distinct_names, distinct_roles}
 use Rattle.faultless_projections.proofs.Lists.{zip_all, append_all, each_all, map_all, filter_all, filter_passed, both_all, change, each_param, filter_distinct, sessions_distinct, channel_names, pairs_apart, HasNames, units_apart, each_found, roles_apart, HasRole, services_single, IsProvided, all_provided, provided_by, IsServedIn, all_served}
 use Rattle.faultless_projections.proofs.Heads.{listing}

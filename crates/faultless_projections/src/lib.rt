@@ -2,7 +2,11 @@
 //! known; those that a file without fault of names asks have answers.
 #![tactic(auto)]
 
+mod held;
+
 ghost use Rattle.faultless_projections.specs.Laws.{AskedFunctionsAnswer, ProjectionAsksKnown, ProjectionIsFaultless};
+
+pub use held::{codes_are_scoped, services_are_scoped};
 
 /// Where no host function that a file asks is unknown, and each has an exact meaning, each of them
 /// has an answer to any two numbers.

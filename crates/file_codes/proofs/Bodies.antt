@@ -18,7 +18,7 @@ use Rattle.endpoint_code.specs.declared.endpoints.Process.{Process}
 use Rattle.endpoint_code.specs.Trees.{code_at}
 use Rattle.branch_merge.specs.Merged.{Keeps}
 use Rattle.branch_merge.proofs.ArmTables.{keeps_all, keeps_both, code_kept, kept_length}
-use Rattle.source_blocks.proofs.Blocks.{block_choreography}
+use Rattle.chor_semantics.proofs.Blocks.{block_choreography}
 use Rattle.chor_semantics.specs.Choreography.{Choreography}
 use Rattle.projection.specs.Codes.{sessions_for, IsCodeOf}
 use Rattle.projection.specs.Projects.{body_at, parameters_of, names_of}

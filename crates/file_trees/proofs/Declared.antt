@@ -23,8 +23,8 @@ use Rattle.typed_sources.specs.Stands.{holder_at}
 use Rattle.typed_sources.proofs.Arguments.{named, owners_of, standings_of, holder_elsewhere, no_owner}
 use Rattle.typed_sources.proofs.Begins.{IsProper}
 use Rattle.typed_sources.specs.Laws.{IsAccepted}
-use Rattle.source_blocks.specs.Blocks.{choreography_of}
-use Rattle.source_blocks.proofs.Blocks.{choreography_at}
+use Rattle.chor_semantics.specs.Blocks.{choreography_of}
+use Rattle.chor_semantics.proofs.Blocks.{choreography_at}
 use Rattle.typed_sources.proofs.Resolved.{both_empty, each_empty, found_in}
 use Rattle.typed_sources.proofs.ProcedureHeads.{is_known}
 use Rattle.typed_sources.proofs.Sources.{ProceduresFit}

@@ -34,7 +34,7 @@ use Rattle.typed_sources.proofs.Checked.{first_passes, asked, holder_is, has_ste
 use Rattle.typed_sources.proofs.Moved.{at_is}
 use Rattle.typed_sources.proofs.Statements.{ProtocolsFit, is_own}
 use Rattle.typed_sources.proofs.Opened.{IsNamedStart}
-use Rattle.source_blocks.specs.Blocks.{node_of, choreography_of}
+use Rattle.chor_semantics.specs.Blocks.{node_of, choreography_of}
 use Rattle.typed_sources.proofs.Sources.{IsIn, NamesKept, IsNamedCall, IsFaultless, scope_with, named_same}
 use Rattle.typed_sources.proofs.ProcedureHeads.{no_fault_at, not_true}
 use Rattle.file_trees.proofs.Owned.{KeepsOwners, two_parties, statement_owned}

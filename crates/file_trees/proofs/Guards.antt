@@ -22,8 +22,8 @@ use Rattle.typing_rules.specs.After.{after_statement}
 use Rattle.typed_sources.proofs.Opened.{AreNew}
 use Rattle.typed_sources.proofs.Arguments.{named}
 use Rattle.typed_sources.specs.Laws.{IsAccepted}
-use Rattle.source_blocks.specs.Blocks.{node_of, choreography_of}
-use Rattle.source_blocks.proofs.Blocks.{choreography_at}
+use Rattle.chor_semantics.specs.Blocks.{node_of, choreography_of}
+use Rattle.chor_semantics.proofs.Blocks.{choreography_at}
 use Rattle.typed_sources.proofs.Sources.{NamesKept, IsFaultless, scope_with}
 use Rattle.typed_sources.proofs.Accepted.{procedures_keep}
 use Rattle.typed_sources.proofs.Scopes.{among_front}

@@ -33,7 +33,7 @@ use Rattle.typed_sources.proofs.Moved.{at_same, at_is, passed_other, passed_this
 use Rattle.typed_sources.proofs.Opened.{IsNamedStart, eq_flip, holder_other, holder_new, parts_same, first_of_parts}
 use Rattle.typed_sources.proofs.Arguments.{named}
 use Rattle.typed_sources.proofs.Calls.{all_of}
-use Rattle.source_blocks.specs.Blocks.{node_of, choreography_of}
+use Rattle.chor_semantics.specs.Blocks.{node_of, choreography_of}
 use Rattle.typed_sources.proofs.Sources.{NamesKept, IsNamedCall, IsFaultless, IsIn, scope_with}
 use Rattle.file_trees.specs.Lists.{one_more, place_of, listed_for, place_for, listed_in, listed_by, lists_of}
 use Rattle.typed_sources.proofs.Opened.{not_is}

@@ -12,7 +12,7 @@ use Rattle.well_formed.specs.WellFormed.{Scope as RunScope, AreNoDeeper, AllNew,
 use Rattle.well_formed.proofs.References.{same_name, clash, true_eq, or_rights}
 use Rattle.typed_sources.proofs.Opened.{AreNew, among_more}
 use Rattle.typed_sources.proofs.Arguments.{named}
-use Rattle.source_blocks.specs.Blocks.{node_of}
+use Rattle.chor_semantics.specs.Blocks.{node_of}
 use Rattle.typed_sources.proofs.Sources.{scope_with}
 use Rattle.file_trees.proofs.References.{named_eq, among_named, no_deeper, among_entered, no_deeper_entered}
 

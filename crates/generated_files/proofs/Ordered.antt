@@ -14,8 +14,8 @@ use Rattle.chor_gen.specs.Words.{beginning}
 use Rattle.chor_gen.specs.Generated.{call, is_odd, body_of_round, start_round, start_fork, p_sends, q_sends, r_sends, tells, is_less}
 use Rattle.chor_semantics.specs.Choreography.{Named}
 use Rattle.chor_semantics.specs.Sources.{procedure_from, procedures_of}
-use Rattle.source_blocks.specs.Blocks.{choreography_of}
-use Rattle.source_blocks.proofs.Blocks.{block_choreography}
+use Rattle.chor_semantics.specs.Blocks.{choreography_of}
+use Rattle.chor_semantics.proofs.Blocks.{block_choreography}
 use Rattle.well_formed.specs.Linear.{Members, ParameterSets, everyone, given}
 use Rattle.linearity.specs.Linear.{AreOrdered, ArePassed, set_of, MeetsCalls, IsGreatest}
 use Rattle.linearity.specs.OrderFaults.{IsUnorderedStart, here, after, first, second, IsUnorderedIn, in_main, in_a_procedure, main_of, IsOrderFault}

@@ -17,8 +17,8 @@ use Rattle.chor_semantics.specs.Choreography.{Named, Choreography, put}
 use Rattle.endpoint_code.specs.Trees.{CodeTree, Does, Sends, Receives, Ends as Stops}
 use Rattle.endpoint_code.specs.Above.{IsAbove}
 use Rattle.endpoint_code.proofs.AboveOrder.{above_self}
-use Rattle.source_blocks.specs.Blocks.{choreography_of}
-use Rattle.source_blocks.proofs.Blocks.{block_choreography}
+use Rattle.chor_semantics.specs.Blocks.{choreography_of}
+use Rattle.chor_semantics.proofs.Blocks.{block_choreography}
 use Rattle.projection.specs.Codes.{param_for, call_as, call_code, proc_named, IsCodeOf}
 use Rattle.projection.specs.MergeFaults.{services_of, HasServiceClash}
 use Rattle.projection.specs.Projects.{Started, starts_in, body_at, starts_in_procs, starts_of, session_as, IsStartCode, is_some_start}

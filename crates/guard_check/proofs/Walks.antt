@@ -23,7 +23,7 @@ use Rattle.chor_tree.specs.Forms.{head_of}
 use Rattle.chor_tree.specs.Names.{is_among}
 use Rattle.chor_tree.specs.Source.{Block, Ends, nowhere as no_place, place_of, tails_of, block_of, blocks_of, body_of}
 use Rattle.chor_tree.proofs.Blocks.{tails_same}
-use Rattle.tree_walks.proofs.Nodes.{place_same, block_is, no_block}
+use Rattle.chor_tree.proofs.Nodes.{place_same, block_is, no_block}
 use Rattle.typing_rules.specs.Guarded.{named_by, passed_by, IsUnguardedCall, IsGuardFault}
 use Rattle.typing_rules.specs.Guarded.IsUnguardedCall.{here, further}
 use Rattle.guard_check.specs.InBodies.{IsUnguardedIn, IsUnguardedInProcedures}

@@ -8,9 +8,8 @@ ghost use Rattle.guard_check.specs.InBodies.{IsUnguardedIn};
 use crate::nodes::passes;
 use crate::unnamed::unnamed_after;
 use chor_base::{Fault, List, Memory, NameId, Rule, earlier};
-use chor_tree::{File, Node, NodeId};
+use chor_tree::{File, Following, Node, NodeId, what_follows};
 use std::alloc::Global;
-use tree_walks::{Following, what_follows};
 
 // The first call from a node on that passes one of these processes where nothing before it names
 // that.

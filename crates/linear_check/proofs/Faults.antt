@@ -17,7 +17,7 @@ use Rattle.chor_tree.specs.Children.{children_of}
 use Rattle.chor_tree.specs.Forms.{head_of}
 use Rattle.chor_tree.specs.Source.{Block, Then, Either, Calls, Ends, nowhere as no_place, place_of, tails_of, block_of, blocks_of, body_of}
 use Rattle.chor_tree.proofs.Blocks.{tails_same}
-use Rattle.tree_walks.proofs.Nodes.{place_same, block_is, no_block}
+use Rattle.chor_tree.proofs.Nodes.{place_same, block_is, no_block}
 use Rattle.well_formed.specs.Linear.{Members}
 use Rattle.linearity.specs.OrderFaults.{IsUnorderedStart, here, after, first, second}
 use Rattle.linear_check.specs.declared.heard.Heard.{Heard}

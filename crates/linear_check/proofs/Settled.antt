@@ -16,8 +16,8 @@ use Rattle.chor_tree.specs.declared.file.ProcParam.{ProcParam}
 use Rattle.chor_tree.specs.Source.{body_of}
 use Rattle.chor_semantics.specs.Choreography.{Ref, Named}
 use Rattle.chor_semantics.specs.Sources.{procedure_from, procedures_of}
-use Rattle.source_blocks.specs.Blocks.{choreography_of}
-use Rattle.source_blocks.proofs.Blocks.{block_choreography}
+use Rattle.chor_semantics.specs.Blocks.{choreography_of}
+use Rattle.chor_semantics.proofs.Blocks.{block_choreography}
 use Rattle.well_formed.specs.Linear.{ParameterSets, everyone, given}
 use Rattle.linearity.specs.Linear.{set_of, AreWithin}
 use Rattle.linearity.specs.Taken.{taken, AreUpper}

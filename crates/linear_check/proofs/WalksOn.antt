@@ -14,9 +14,9 @@ use Rattle.chor_tree.specs.declared.tree.Form.TheVariants.{Start, Value, Label, 
 use Rattle.chor_tree.specs.Children.{children_of}
 use Rattle.chor_tree.specs.Forms.{head_of}
 use Rattle.chor_tree.specs.Source.{Block, block_in, block_of, blocks_of, body_of}
-use Rattle.tree_walks.proofs.Nodes.{block_is, no_block}
+use Rattle.chor_tree.proofs.Nodes.{block_is, no_block}
 use Rattle.chor_semantics.specs.Sources.{name_ref}
-use Rattle.source_blocks.specs.Blocks.{choreography_of}
+use Rattle.chor_semantics.specs.Blocks.{choreography_of}
 use Rattle.well_formed.specs.Linear.{Members, ParameterSets}
 use Rattle.linearity.specs.Taken.{is_passed, taken}
 use Rattle.linear_check.specs.declared.heard.Heard.{Heard}

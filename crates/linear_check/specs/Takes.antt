@@ -3,7 +3,7 @@ use Rattle.std.specs.Prelude.{ℕ, zero, suc, ◌≡◌, ◌<◌, ◌==◌, ◌&
 use Rattle.chor_base.specs.declared.names.NameId.{NameId}
 use Rattle.chor_tree.specs.declared.file.Named.{Named}
 use Rattle.chor_tree.specs.Source.{Block, Then, Either, Calls, Ends}
-use Rattle.source_blocks.specs.Blocks.{choreography_of}
+use Rattle.chor_semantics.specs.Blocks.{choreography_of}
 use Rattle.well_formed.specs.Linear.{Members}
 use Rattle.linearity.specs.Taken.{taken}
 use Rattle.linear_check.specs.declared.heard.Heard.{Heard}

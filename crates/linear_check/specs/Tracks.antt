@@ -4,7 +4,7 @@ use Rattle.chor_base.specs.declared.names.NameId.{NameId}
 use Rattle.chor_base.specs.declared.fault.Fault.{Fault}
 use Rattle.chor_tree.specs.Source.{Block, Then, Either, Calls, Ends}
 use Rattle.chor_semantics.specs.Choreography.{Named}
-use Rattle.source_blocks.specs.Blocks.{node_of}
+use Rattle.chor_semantics.specs.Blocks.{node_of}
 use Rattle.well_formed.specs.Linear.{Members, members_after, joins_from}
 use Rattle.linearity.specs.OrderFaults.{IsUnorderedStart}
 use Rattle.linear_check.specs.declared.heard.Heard.{Heard}

@@ -11,9 +11,8 @@ use crate::group::Group;
 use crate::heard::Heard;
 use crate::sets::Sets;
 use chor_base::{Fault, Memory, Place, Rule, earlier};
-use chor_tree::{Node, NodeId};
+use chor_tree::{Following, Node, NodeId, what_follows};
 use std::alloc::Global;
-use tree_walks::{Following, what_follows};
 
 impl<'a> Group<'a> {
     fn node_at(&self, id: NodeId) -> Option<&'a Node>

@@ -9,8 +9,8 @@ use Rattle.chor_tree.specs.declared.file.Service.{Service}
 use Rattle.chor_tree.specs.declared.tree.NodeId.{NodeId}
 use Rattle.chor_tree.specs.Source.{body_of}
 use Rattle.chor_semantics.specs.Sources.{procedure_from, procedures_of, tree_in, trees_of}
-use Rattle.source_blocks.specs.Blocks.{choreography_of}
-use Rattle.source_blocks.proofs.Blocks.{block_choreography}
+use Rattle.chor_semantics.specs.Blocks.{choreography_of}
+use Rattle.chor_semantics.proofs.Blocks.{block_choreography}
 use Rattle.well_formed.specs.Linear.{Members, ParameterSets, everyone}
 use Rattle.linearity.specs.Linear.{AreOrdered, set_of, MeetsStarts, IsGreatest}
 use Rattle.linearity.specs.OrderFaults.{IsUnorderedIn, in_main, in_a_procedure, main_of, IsOrderFault, IsLinearFile}

@@ -11,7 +11,7 @@ use Rattle.chor_tree.specs.Source.{Block, Then as After, Either as Tests, Calls 
 use Rattle.chor_semantics.specs.Choreography.{Named, Choreography, Then, Either, Calls, Ends}
 use Rattle.chor_semantics.specs.Sources.{Procedure}
 use Rattle.chor_semantics.specs.Steps.{procedure_named}
-use Rattle.source_blocks.specs.Blocks.{node_of, choreography_of}
+use Rattle.chor_semantics.specs.Blocks.{node_of, choreography_of}
 use Rattle.well_formed.specs.Linear.{Members, ParameterSets, everyone, members_after, joins_from, given, IsLinear, AllLinear}
 use Rattle.linearity.specs.Linear.{AreOrdered, ArePassed, set_of, IsLinearFor}
 use Rattle.linearity.specs.OrderFaults.{IsUnorderedStart, here, after, first, second}

@@ -13,7 +13,7 @@ use Rattle.chor_tree.specs.declared.file.Service.{Service}
 use Rattle.chor_tree.specs.Source.{Statement, Block, Then, Either, body_of}
 use Rattle.chor_semantics.specs.Choreography.{Choreography}
 use Rattle.chor_semantics.specs.Sources.{procedure_from, procedures_of, tree_in, trees_of}
-use Rattle.source_blocks.specs.Blocks.{node_of}
+use Rattle.chor_semantics.specs.Blocks.{node_of}
 use Rattle.well_formed.specs.Linear.{Members, ParameterSets, everyone, members_after, joins_from}
 use Rattle.linearity.specs.Linear.{set_of, IsGreatest, IsLinearFor}
 

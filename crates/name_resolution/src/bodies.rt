@@ -16,8 +16,7 @@ use crate::lists::{
 use crate::scope::Bound;
 use chor_base::{Fault, List, Memory, earlier};
 use chor_host::HostTable;
-use chor_tree::{Form, Named, Node, NodeId, Part};
-use tree_walks::{Following, what_follows};
+use chor_tree::{Following, Form, Named, Node, NodeId, Part, what_follows};
 
 impl<'a> Declared<'a> {
     // The first fault of a node and of those that follow it. What is bound before is bound

@@ -28,7 +28,7 @@ use Rattle.endpoint_laws.proofs.Lists.{two_nothings, faultless, faultless_so, co
 use Rattle.endpoint_laws.proofs.Once.{not_again, names_distinct}
 use Rattle.merged_codes.specs.Asked.{asks_so}
 use Rattle.endpoint_laws.proofs.Backward.{IsFine, AreFine}
-use Rattle.printed_tokens.specs.Spelled.{IsNamed, AreNamed, IsActionSpelled, IsCodeSpelled, AreArmsSpelled}
+use Rattle.printed_units.specs.Spelled.{IsNamed, AreNamed, IsActionSpelled, IsCodeSpelled, AreArmsSpelled}
 use Rattle.printed_units.specs.Says.{Names, AllName, DeedSays, joins, sends, receives, selects, gives, gains, sets, shows, asks, BodySays, does, offers, tests, calls, ends, ArmsSay, no_arm, one_arm}
 use Rattle.printed_endpoints.proofs.SameNames.{as_many, same_without, same_distinct, same_all_among}
 use Rattle.printed_endpoints.proofs.Faults.{AreSame, is_same, are_same, UnitsSame, among, channel_found, procedure_found, labels_once}

@@ -23,7 +23,7 @@ use Rattle.same_programs.specs.Words.{SameName, SameText}
 use Rattle.same_programs.specs.Codes as same
 use Rattle.same_programs.specs.Codes.{SameAction, SameCode, SameArms}
 use Rattle.endpoint_code.specs.Labels.{here}
-use Rattle.printed_tokens.specs.Spelled.{IsNamed, AreNamed, IsActionSpelled, IsCodeSpelled, AreArmsSpelled}
+use Rattle.printed_units.specs.Spelled.{IsNamed, AreNamed, IsActionSpelled, IsCodeSpelled, AreArmsSpelled}
 use Rattle.printed_units.specs.Says.{Names, AllName, DeedSays, joins, sends, receives, selects, gives, gains, sets, shows, asks, BodySays, does, offers, tests, calls, ends, ArmsSay, no_arm, one_arm}
 use Rattle.printed_endpoints.proofs.Faults.{IsSame, AreSame, is_same}
 use Rattle.printed_endpoints.proofs.Terms.{term_same}

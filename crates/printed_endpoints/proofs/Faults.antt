@@ -32,8 +32,8 @@ use Rattle.endpoint_names.specs.Faults.{names_in}
 use Rattle.endpoint_names.proofs.Keys.{number_turned}
 use Rattle.endpoint_laws.specs.Reading.{written_body, written_arms}
 use Rattle.endpoint_laws.proofs.Once.{keys_in, AreOnce, same_alone}
-use Rattle.printed_tokens.specs.Symbols.{ordered_at}
-use Rattle.printed_tokens.specs.Spelled.{IsNamed, AreNamed, IsCodeSpelled, AreArmsSpelled}
+use Rattle.printed_units.specs.Symbols.{ordered_at}
+use Rattle.printed_units.specs.Spelled.{IsNamed, AreNamed, IsCodeSpelled, AreArmsSpelled}
 use Rattle.printed_units.specs.Says.{Names, AllName, BodySays, ArmsSay, no_arm, one_arm}
 use Rattle.printed_endpoints.proofs.SameNames.{Same, AllSame, same_number, same_among}
 

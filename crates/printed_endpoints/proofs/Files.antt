@@ -19,8 +19,8 @@ use Rattle.endpoint_code.specs.Trees.{Action, CodeTree, Arms}
 use Rattle.endpoint_code.specs.Trees as tree
 use Rattle.endpoint_names.specs.Bodies.{body_at}
 use Rattle.endpoint_laws.proofs.Lists.{two_nothings}
-use Rattle.printed_tokens.specs.Symbols.{ordered_at}
-use Rattle.printed_tokens.specs.Spelled.{IsCodeSpelled, IsChannelSpelled, IsProcedureSpelled, IsServiceSpelled, IsProcessSpelled, AreSpelled}
+use Rattle.printed_units.specs.Symbols.{ordered_at}
+use Rattle.printed_units.specs.Spelled.{IsCodeSpelled, IsChannelSpelled, IsProcedureSpelled, IsServiceSpelled, IsProcessSpelled, AreSpelled}
 use Rattle.printed_units.specs.Says.{BodySays, ChannelSays, ProcedureSays, ServiceSays, ProcessSays, AreUnitsOf}
 use Rattle.printed_endpoints.proofs.SameNames.{same_number}
 use Rattle.std.specs.Prelude.{All}
@@ -34,7 +34,7 @@ use Rattle.endpoint_code.specs.declared.code.CodeId.{CodeId}
 use Rattle.endpoint_code.specs.Faults as code
 use Rattle.endpoint_making.specs.Making.{procedure_made, service_made}
 use Rattle.endpoint_laws.proofs.Trees.{bodies_written}
-use Rattle.printed_tokens.proofs.Ordering.{ordered_spelled}
+use Rattle.printed_units.proofs.SymbolOrdering.{ordered_spelled}
 use Rattle.printed_endpoints.proofs.Faults.{IsSame, AreSame, is_same, are_same, ChannelSame, ProcedureSame, ServiceSame, ProcessSame, CodeSaid, UnitsSame}
 
 -- where each of the one list is fine, nothing is told of the other

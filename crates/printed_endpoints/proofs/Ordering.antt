@@ -11,7 +11,7 @@ use Rattle.endpoint_text.specs.Ascending.{is_before}
 use Rattle.merged_codes.specs.Scoped.{bound_after, IsScopedTree, AreScopedArms}
 use Rattle.merged_codes.specs.Asked.{AsksTree, AsksArms}
 use Rattle.endpoint_laws.proofs.Backward.{IsFine}
-use Rattle.printed_tokens.specs.Ordered.{with_arm, in_order, arms_in_order}
+use Rattle.printed_units.specs.Ordered.{with_arm, in_order, arms_in_order}
 
 module _ (names : List (List ℕ)) where
   abbrev chosen : Bool → NameId → CodeTree → NameId → CodeTree → Arms → Arms

@@ -26,7 +26,7 @@ use Rattle.endpoint_laws.proofs.Bodies.{code_same}
 use Rattle.chor_lexer.proofs.DistinctTables.{distinct_names, distinct_texts}
 use Rattle.same_programs.specs.Programs.{SameCodeAt, SameChannel, SameProcedure, SameService, SameProcess, SamePrograms, IsCopy}
 use Rattle.same_programs.specs.Codes.{SameCode}
-use Rattle.printed_tokens.specs.Symbols.{ordered_at}
+use Rattle.printed_units.specs.Symbols.{ordered_at}
 use Rattle.printed_endpoints.proofs.Faults.{ChannelSame, ProcedureSame, ServiceSame, ProcessSame, CodeSaid}
 use Rattle.printed_endpoints.proofs.Whole.{same_units}
 use Rattle.printed_endpoints.specs.ReadBack.{AreReadBack}

@@ -7,7 +7,7 @@ use Rattle.endpoint_code.specs.Labels.{ArmIsIn, here, there}
 use Rattle.endpoint_code.specs.Trees.{CodeTree, Does, Offers, Tests, Calls, Ends, Arms, NoArms, Arm}
 use Rattle.endpoint_text.specs.Ascending.{is_before}
 use Rattle.same_programs.specs.Codes.{SameCode, does, offers, tests, SameArms, one_arm}
-use Rattle.printed_tokens.specs.Ordered.{with_arm, in_order, arms_in_order}
+use Rattle.printed_units.specs.Ordered.{with_arm, in_order, arms_in_order}
 
 -- two arms that are taken out, the other one first
 record Swapped (l m : NameId) (c d : CodeTree) (less arms : Arms) : Type 0 where

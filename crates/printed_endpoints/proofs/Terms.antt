@@ -15,7 +15,7 @@ use Rattle.endpoint_reader.specs.Known.{IsTermThere}
 use Rattle.endpoint_reader.specs.Tokens.{text_in, written}
 use Rattle.same_programs.specs.Words.{SameName, SameText}
 use Rattle.same_programs.specs.Codes.{number, truth, text, SameTerm, constant, variable, unary, binary}
-use Rattle.printed_tokens.specs.Spelled.{IsWritable}
+use Rattle.printed_units.specs.Spelled.{IsWritable}
 use Rattle.printed_units.specs.Says.{phrase_of}
 
 no_truth : (b : Bool) → IsName (truth_text b) → ⊥

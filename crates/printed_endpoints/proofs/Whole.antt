@@ -25,7 +25,7 @@ use Rattle.endpoint_names.specs.Faults.{fault_at, names_in, repeated, channel_of
 use Rattle.endpoint_laws.specs.Reading.{written_body}
 use Rattle.endpoint_laws.proofs.Lists.{two_nothings, faultless_so}
 use Rattle.endpoint_laws.proofs.Once.{names_distinct, units_apart, services_single, known_service}
-use Rattle.printed_tokens.specs.Symbols.{ordered_at}
+use Rattle.printed_units.specs.Symbols.{ordered_at}
 use Rattle.printed_units.specs.Says.{BodySays, calls}
 use Rattle.printed_endpoints.proofs.SameNames.{same_distinct, both_same}
 use Rattle.std.specs.Prelude.{All, Contains, slice_index_or}
@@ -43,7 +43,7 @@ use Rattle.endpoint_code.proofs.CodeTables.{code_at-node}
 use Rattle.endpoint_names.specs.Class.{IsFaultless, opening_faults, begin_faults, IsBroken}
 use Rattle.endpoint_names.specs.Faults as fault
 use Rattle.endpoint_laws.proofs.Backward.{IsFine, tree_fine}
-use Rattle.printed_tokens.specs.Ordered.{in_order}
+use Rattle.printed_units.specs.Ordered.{in_order}
 use Rattle.printed_endpoints.proofs.Ordering.{fine_ordered}
 use Rattle.printed_endpoints.proofs.Faults.{IsSame, AreSame, ChannelSame, ProcedureSame, ServiceSame, ProcessSame, CodeSaid, UnitsSame, among, channel_found}
 use Rattle.printed_endpoints.proofs.Bodies.{body_fine}
@@ -55,7 +55,7 @@ use Rattle.endpoint_reader.proofs.Spelled.{spelled}
 use Rattle.endpoint_text.specs.Text.{endpoints_text}
 use Rattle.chor_lexer.specs.Tokens.{IsTokens}
 use Rattle.chor_lexer.proofs.DistinctTables.{distinct_names}
-use Rattle.printed_tokens.proofs.Cutting.{is_taken}
+use Rattle.printed_units.proofs.Cutting.{is_taken}
 use Rattle.printed_units.specs.Laws.{AreWritable}
 use Rattle.printed_units.proofs.Units.{units_say_them, tokens_are_taken}
 use Rattle.printed_endpoints.proofs.Files.{no_faults, units_same, channel_names, process_names, apart, service_there, single}

@@ -19,8 +19,8 @@ use Rattle.endpoint_grammar.specs.Values.{rules, phrase, deed, arms_of, body_of}
 use Rattle.canonical_laws.proofs.WrittenFiles.{spelled_symbols}
 use Rattle.endpoint_code.specs.declared.endpoints.Endpoints.{Endpoints}
 use Rattle.endpoint_code.specs.Trees.{Action, Joins, Sends, Receives, Selects, Gives, Gains, Sets, Shows, Asks, CodeTree, Does, Offers, Tests, Calls, Ends, Arms, NoArms, Arm}
-use Rattle.printed_tokens.specs.Symbols.{names, expression, action_symbols, code_symbols, arms_symbols}
-use Rattle.printed_tokens.specs.Spelled.{IsNamed, IsWritable, IsActionSpelled, IsCodeSpelled, AreArmsSpelled}
+use Rattle.printed_units.specs.Symbols.{names, expression, action_symbols, code_symbols, arms_symbols}
+use Rattle.printed_units.specs.Spelled.{IsNamed, IsWritable, IsActionSpelled, IsCodeSpelled, AreArmsSpelled}
 use Rattle.printed_units.specs.Limits.{IsShort, IsActionShort, Fits, EachFits}
 use Rattle.printed_units.specs.Says.{Names, phrase_of, DeedSays, joins, sends, receives, selects, gives, gains, sets, shows, asks, BodySays, does, offers, tests, calls, ends, ArmsSay, no_arm, one_arm}
 use Rattle.printed_units.proofs.Reading.{Say, First, first, Reads, mark_reads, word_reads, after_reads, room, any_room, name_reads, sessions_read}

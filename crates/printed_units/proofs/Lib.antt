@@ -3,3 +3,5 @@ pub mod Expressions
 pub mod Bodies
 pub mod Ordering
 pub mod Units
+pub mod SymbolOrdering
+pub mod Cutting

@@ -6,7 +6,7 @@ use Rattle.chor_base.specs.Writing.{name_in}
 use Rattle.endpoint_code.specs.declared.endpoints.Endpoints.{Endpoints}
 use Rattle.endpoint_code.specs.Trees.{CodeTree, Does, Offers, Tests, Calls, Ends, Arms, NoArms, Arm}
 use Rattle.endpoint_text.specs.Ascending.{is_before}
-use Rattle.printed_tokens.specs.Ordered.{with_arm, in_order, arms_in_order}
+use Rattle.printed_units.specs.Ordered.{with_arm, in_order, arms_in_order}
 use Rattle.printed_units.specs.Limits.{HasArm, Fits, EachFits}
 
 module _ (e : Endpoints) where

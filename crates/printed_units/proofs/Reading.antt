@@ -13,8 +13,8 @@ use Rattle.endpoint_grammar.specs.Grammar.{Part, Nonterminal, mark as the_mark, 
 use Rattle.endpoint_grammar.specs.Values.{Meaning, Derived, rules, make, session_list}
 use Rattle.canonical_laws.specs.Symbols.{after_commas, listed}
 use Rattle.endpoint_code.specs.declared.endpoints.Endpoints.{Endpoints}
-use Rattle.printed_tokens.specs.Symbols.{name}
-use Rattle.printed_tokens.specs.Spelled.{IsNamed, AreNamed}
+use Rattle.printed_units.specs.Symbols.{name}
+use Rattle.printed_units.specs.Spelled.{IsNamed, AreNamed}
 use Rattle.printed_units.specs.Says.{Names, AllName}
 
 -- the tokens say these symbols

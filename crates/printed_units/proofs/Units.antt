@@ -26,10 +26,10 @@ use Rattle.endpoint_code.specs.declared.endpoints.Process.{Process}
 use Rattle.endpoint_code.specs.declared.endpoints.Endpoints.{Endpoints}
 use Rattle.endpoint_code.specs.Trees.{code_at}
 use Rattle.endpoint_text.specs.Text.{endpoints_text}
-use Rattle.printed_tokens.specs.Symbols.{name, ordered_at, body_symbols, channel_symbols, procedure_symbols, service_symbols, process_symbols, endpoints_symbols}
-use Rattle.printed_tokens.specs.Spelled.{AreNamed, IsBodySpelled, IsChannelSpelled, IsProcedureSpelled, IsServiceSpelled, IsProcessSpelled, AreSpelled}
-use Rattle.printed_tokens.proofs.Ordering.{ordered_spelled}
-use Rattle.printed_tokens.proofs.Cutting.{has_symbols, says_them}
+use Rattle.printed_units.specs.Symbols.{name, ordered_at, body_symbols, channel_symbols, procedure_symbols, service_symbols, process_symbols, endpoints_symbols}
+use Rattle.printed_units.specs.Spelled.{AreNamed, IsBodySpelled, IsChannelSpelled, IsProcedureSpelled, IsServiceSpelled, IsProcessSpelled, AreSpelled}
+use Rattle.printed_units.proofs.SymbolOrdering.{ordered_spelled}
+use Rattle.printed_units.proofs.Cutting.{has_symbols, says_them}
 use Rattle.printed_units.specs.Limits.{IsBodyWithin, IsChannelWithin, IsProcedureWithin, AreWithin}
 use Rattle.printed_units.specs.Says.{AllName, BodySays, UnitsSay, AreUnitsOf}
 use Rattle.printed_units.specs.Laws.{AreWritable, HaveUnits}

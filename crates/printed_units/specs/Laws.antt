@@ -9,8 +9,8 @@ use Rattle.endpoint_grammar.specs.Written.{Units}
 use Rattle.endpoint_units.specs.Wholes.{IsWritten, IsRefusal}
 use Rattle.endpoint_code.specs.declared.endpoints.Endpoints.{Endpoints}
 use Rattle.endpoint_text.specs.Text.{endpoints_text}
-use Rattle.printed_tokens.specs.Symbols.{endpoints_symbols}
-use Rattle.printed_tokens.specs.Spelled.{AreSpelled}
+use Rattle.printed_units.specs.Symbols.{endpoints_symbols}
+use Rattle.printed_units.specs.Spelled.{AreSpelled}
 use Rattle.printed_units.specs.Limits.{AreWithin}
 use Rattle.printed_units.specs.Says.{AreUnitsOf}
 

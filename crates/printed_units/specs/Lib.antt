@@ -1,3 +1,6 @@
 pub mod Limits
 pub mod Says
 pub mod Laws
+pub mod Ordered
+pub mod Symbols
+pub mod Spelled

@@ -15,7 +15,7 @@ use Rattle.endpoint_code.specs.Trees.{Action, CodeTree, Arms}
 use Rattle.endpoint_code.specs.Trees as tree
 use Rattle.endpoint_grammar.specs.Written.{Phrase, Deed, Body, Units}
 use Rattle.endpoint_grammar.specs.Written as unit
-use Rattle.printed_tokens.specs.Symbols.{ordered_at}
+use Rattle.printed_units.specs.Symbols.{ordered_at}
 
 -- the token is the word of the name
 abbrev pub Names : Endpoints → NameId → Lexeme → Type 0

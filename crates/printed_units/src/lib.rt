@@ -1,7 +1,11 @@
 //! The units of the text of endpoint programs.
 #![tactic(auto)]
 
+mod tokens;
+
 ghost use Rattle.printed_units.specs.Laws.{SymbolsAreUnits, TextHasUnits, UnitsSayThem, TokensAreTaken};
+
+pub use tokens::text_has_symbols;
 
 /// The text of endpoint programs is an endpoint file, within all limits: its tokens are one of units
 /// that say the programs name by name, with the arms of each branch in ascending order of their

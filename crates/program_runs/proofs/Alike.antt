@@ -11,8 +11,8 @@ use Rattle.chor_tree.specs.Source as written
 use Rattle.chor_semantics.specs.Choreography.{Named, instance_of}
 use Rattle.chor_semantics.specs.Sources.{Procedure, Configuration, procedure_from, procedures_of, numbered, first_configuration}
 use Rattle.chor_semantics.specs.Runs.{IsRunTo, IsTerminated, Leads}
-use Rattle.source_blocks.specs.Blocks.{choreography_of}
-use Rattle.source_blocks.proofs.Blocks.{block_choreography}
+use Rattle.chor_semantics.specs.Blocks.{choreography_of}
+use Rattle.chor_semantics.proofs.Blocks.{block_choreography}
 use Rattle.program_runs.specs.Laws.{SourcesRunAlike, SourcesEndAlike}
 
 abbrev procedure_in : written.Procedure → Procedure

@@ -12,7 +12,7 @@ use Rattle.chor_host.specs.declared.table.HostTable.{HostTable}
 use Rattle.chor_host.specs.Exact.{IsExact}
 use Rattle.chor_host.specs.Functions.{Function, function_of, numbered, hosts_in}
 use Rattle.chor_host.specs.Tables.{functions_of}
-use Rattle.told_events.specs.Sizes.{IsMeaningSized, AreMeaningsSized}
+use Rattle.projected_programs.specs.Sizes.{IsMeaningSized, AreMeaningsSized}
 
 exact_sized : (m : Meaning) → IsExact m → IsMeaningSized m
 exact_sized (Exact op) h = tt

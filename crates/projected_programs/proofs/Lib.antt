@@ -12,3 +12,14 @@ pub mod Checked
 pub mod Books
 pub mod Runs
 pub mod Told
+pub mod Lists
+pub mod Scopes
+pub mod Faultless
+pub mod Asking
+mod Values
+mod States
+mod Places
+mod Acts
+mod Starts
+pub mod SizedRuns
+pub mod Read

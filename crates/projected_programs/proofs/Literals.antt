@@ -31,7 +31,7 @@ use Rattle.endpoint_laws.specs.Reading.{written_body, written_arms}
 use Rattle.endpoint_laws.proofs.Trees.{bodies_written}
 use Rattle.endpoint_laws.proofs.Verdicts.{named_so}
 use Rattle.event_reader.specs.Known.{IsInt}
-use Rattle.told_events.specs.Sizes.{IsTermSized, IsActionSized, IsCodeSized, AreArmsSized, AreLiteralsSized}
+use Rattle.projected_programs.specs.Sizes.{IsTermSized, IsActionSized, IsCodeSized, AreArmsSized, AreLiteralsSized}
 
 int_sized : (z : ℤ) → unsigned_abs z < 2 ^ 63 → IsInt z
 int_sized (pos n) h = h

@@ -13,12 +13,12 @@ use Rattle.endpoint_code.specs.declared.endpoints.Endpoints.{Endpoints}
 use Rattle.endpoint_code.specs.Trees.{Action, Joins, Sends, Receives, Selects, Gives, Gains, Sets, Shows, Asks, CodeTree, Does, Offers, Tests, Calls, Ends, Arms, NoArms, Arm, code_at}
 use Rattle.faultless_projections.specs.Laws.{AreExact}
 use Rattle.event_reader.specs.Known.{IsInt}
-use Rattle.printed_tokens.specs.Spelled.{IsWritable, IsActionSpelled, IsCodeSpelled, AreArmsSpelled, IsProcedureSpelled, IsServiceSpelled, IsProcessSpelled}
+use Rattle.printed_units.specs.Spelled.{IsWritable, IsActionSpelled, IsCodeSpelled, AreArmsSpelled, IsProcedureSpelled, IsServiceSpelled, IsProcessSpelled}
 use Rattle.printed_units.specs.Limits.{IsChannelWithin}
 use Rattle.printed_units.specs.Laws.{AreWritable}
-use Rattle.told_events.specs.Sizes.{IsTermSized, IsActionSized, IsCodeSized, AreArmsSized, AreLiteralsSized, AreMeaningsSized}
+use Rattle.projected_programs.specs.Sizes.{IsTermSized, IsActionSized, IsCodeSized, AreArmsSized, AreLiteralsSized, AreMeaningsSized}
 use Rattle.projected_programs.proofs.Hosts.{functions_sized}
-use Rattle.told_events.specs.Told.{most_served, IsShort}
+use Rattle.projected_programs.specs.Told.{most_served, IsShort}
 
 -- ---- literals
 

@@ -7,7 +7,7 @@ use Rattle.endpoint_code.specs.declared.endpoints.Endpoints.{Endpoints}
 use Rattle.endpoint_code.specs.Faults.{IsFaultless}
 use Rattle.endpoint_check.specs.Programs.{AreProgramsOf}
 use Rattle.endpoint_laws.proofs.Files.{made_is_faultless}
-use Rattle.told_events.proofs.Runs.{run_told, short_run_told}
+use Rattle.projected_programs.proofs.SizedRuns.{run_told, short_run_told}
 use Rattle.projected_programs.specs.Laws.{RunsAreTold, ShortRunsAreTold}
 use Rattle.projected_programs.proofs.Literals.{all_sized}
 use Rattle.projected_programs.proofs.Hosts.{table_sized}

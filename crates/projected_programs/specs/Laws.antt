@@ -17,7 +17,7 @@ use Rattle.transcript.specs.Text.{transcript}
 use Rattle.program_runs.specs.Books.{book_of}
 use Rattle.program_runs.specs.Transcripts.{closing_text, IsTranscriptOf}
 use Rattle.event_reader.specs.Known.{HasEvent}
-use Rattle.told_events.specs.Told.{AreNumbersSmall, IsShort, AreTold}
+use Rattle.projected_programs.specs.Told.{AreNumbersSmall, IsShort, AreTold}
 use Rattle.projection.specs.Projects.{Projects}
 use Rattle.accepted_files.specs.Runs.{IsRunOf}
 pub use Rattle.faultless_projections.specs.Laws.{AreExact}

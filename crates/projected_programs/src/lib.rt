@@ -2,14 +2,21 @@
 //! runs; and what the endpoint programs of a source do, and those that are read from their text.
 #![tactic(auto)]
 
+mod copies;
+mod telling;
+mod texts;
+
 ghost use Rattle.std.specs.Prelude.{◌≤◌, ◌^◌, ℕ, List, length};
 ghost use Rattle.chor_host.specs.Tables.{functions_of};
 ghost use Rattle.endpoint_code.specs.declared.endpoints.Endpoints.{Endpoints};
 ghost use Rattle.endpoint_check.specs.Programs.{AreProgramsOf};
-ghost use Rattle.told_events.specs.Sizes.{AreLiteralsSized};
+ghost use Rattle.projected_programs.specs.Sizes.{AreLiteralsSized};
 ghost use Rattle.projected_programs.specs.Laws.{AreProgramsOrRefused, RunsAreTold, ShortRunsAreTold, ProjectedTextIsTaken, ProjectedTextRuns, SourceRunsAreTold};
 
 use chor_host::HostTable;
+pub use copies::{copies_are_faultless, copies_ask_known};
+pub use telling::{all_told, few_told};
+pub use texts::text_is_of_programs;
 
 /// All bytes of a file that is not too long are the text of endpoint programs, or violate a rule of
 /// endpoint files.
@@ -49,7 +56,7 @@ pub fn projected_text_runs()
     writable_sources::projection_is_writable();
     faultless_projections::projection_is_faultless();
     printed_endpoints::text_reads_back();
-    same_faults::copies_are_faultless();
+    crate::copies_are_faultless();
     program_runs::transcripts_agree();
     faultless_projections::asked_functions_answer();
     accepted_files::scheduled_runs_are_runs();
@@ -63,5 +70,5 @@ pub fn source_runs_are_told()
     writable_sources::projection_is_writable();
     faultless_projections::projection_is_faultless();
     accepted_files::checked_runs();
-    told_events::few_told();
+    crate::few_told();
 }

@@ -17,7 +17,7 @@ use Rattle.endpoint_code.proofs.AboveOrder.{above_trans}
 use Rattle.branch_merge.proofs.Bounds.{two_of_least, two_of_none}
 use Rattle.projection.specs.Codes.{IsCodeOf}
 use Rattle.projection.specs.Projects.{Started, starts_of, IsStartCode, session_as}
-use Rattle.source_blocks.specs.Blocks.{choreography_of}
+use Rattle.chor_semantics.specs.Blocks.{choreography_of}
 use Rattle.projection.specs.MergeFaults.{Site, sites_of, services_of, HasClash, HasServiceClash, IsFirstOf, here, later, IsBranchFault, IsServiceFault, IsFirstMergeFault, branches, starts}
 use Rattle.projection.proofs.OneCode.{code_above, no_clash}
 

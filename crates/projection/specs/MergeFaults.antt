@@ -14,7 +14,7 @@ use Rattle.chor_tree.specs.declared.file.Service.{Service}
 use Rattle.chor_tree.specs.Source.{Statement, Starts, Block, Then, Either, Calls, Ends, Procedure, source_of}
 use Rattle.endpoint_code.specs.Trees.{CodeTree}
 use Rattle.endpoint_code.specs.LeastAbove.{HasNoneAbove}
-use Rattle.source_blocks.specs.Blocks.{choreography_of}
+use Rattle.chor_semantics.specs.Blocks.{choreography_of}
 use Rattle.projection.specs.Codes.{IsCodeOf}
 use Rattle.projection.specs.Projects.{starts_of, started_services, IsStartCode}
 

@@ -12,7 +12,7 @@ ghost use Rattle.chor_semantics.specs.Choreography.{Choreography, put};
 ghost use Rattle.endpoint_code.specs.Trees.{CodeTree};
 ghost use Rattle.endpoint_code.specs.Labels.{HasDistinctLabels, IsReordered};
 ghost use Rattle.endpoint_code.specs.LeastAbove.{IsLeastAbove};
-ghost use Rattle.source_blocks.specs.Blocks.{choreography_of};
+ghost use Rattle.chor_semantics.specs.Blocks.{choreography_of};
 ghost use Rattle.projection.specs.Codes.{IsCodeOf};
 ghost use Rattle.projection.specs.Projects.{starts_of, session_as, IsStartCode};
 ghost use Rattle.projection.specs.Renamed.{renamed, exchanged, session_by, IsUndoneBy, IsUnused};

@@ -28,7 +28,7 @@ use Rattle.projection.proofs.Inversions.{Made, after_action, after_label, after_
 use Rattle.projection.proofs.Branches.{first_of_both, second_of_both}
 use Rattle.well_formed.specs.Follows as follows
 use Rattle.well_formed.specs.Follows.{SessionMap, with_session, without_session, Act, Joins, Puts, Gets, Does, Into, Label, Part, act_of, Agrees, At, HoldsAt, Place, Here, arm_place, place_after, fork_of, BothHold, standing, HoldsOf, follows_act, follows_test, follows_end, follows_over, Follows}
-use Rattle.code_above.proofs.Nodes.{rest_above, arms_above, first_above, second_above, here_or_later, both_above, labelled, nothing_there, inv_join, inv_send, inv_recv, inv_pick, inv_branch, inv_throw, inv_catch, inv_set, inv_show, inv_host, inv_if, inv_end}
+use Rattle.correspondence.proofs.Nodes.{rest_above, arms_above, first_above, second_above, here_or_later, both_above, labelled, nothing_there, inv_join, inv_send, inv_recv, inv_pick, inv_branch, inv_throw, inv_catch, inv_set, inv_show, inv_host, inv_if, inv_end}
 use Rattle.projection_follows.specs.Roles.{Roles, with_role, HoldsRole, GivesAway, roles_sent, roles_gained, TakesPart}
 use Rattle.projection_follows.proofs.Plays.{AreNames, IsNamedContent, OthersNew, Plays, TellsApart, Knows, IsOver, IsAlike}
 

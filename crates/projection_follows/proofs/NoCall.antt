@@ -29,7 +29,7 @@ use Rattle.well_formed.specs.Guarded.{IsGuardedFor, AllGuarded}
 use Rattle.well_formed.specs.SourceTrees.{IsName, AreNames, IsSource}
 use Rattle.well_formed.specs.WellFormed.{names_in_scope}
 use Rattle.well_formed.proofs.Trees.{body_source}
-use Rattle.both_ways.specs.Premises.{NoCallFirst}
+use Rattle.correspondence.specs.Premises.{NoCallFirst}
 use Rattle.projection_follows.specs.Premises.{EachGuarded}
 
 abbrev IsNoCall : CodeTree → Type 0

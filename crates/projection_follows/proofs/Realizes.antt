@@ -25,7 +25,7 @@ use Rattle.projection_follows.proofs.FromStarts.{starts_play}
 use Rattle.projection_follows.proofs.MainFollows.{main_follows}
 use Rattle.projection_follows.proofs.ServicesFollow.{main_served, body_served}
 use Rattle.projection_follows.proofs.NoCall.{no_call_first, all_guarded}
-use Rattle.both_ways.specs.Premises.{Begins, IsSound, Realizes}
+use Rattle.correspondence.specs.Premises.{Begins, IsSound, Realizes}
 use Rattle.projection_follows.proofs.Plays.{AreOthersNamed, AreNamedOnce, MainPlays, ProceduresPlay}
 use Rattle.projection_follows.specs.Roles.{params_of, sessions_of, roles_of}
 use Rattle.projection_follows.proofs.StartsPlay.{AreShallow, AllStartsPlay}

@@ -25,7 +25,7 @@ use Rattle.well_formed.specs.Linear.{ParameterSets}
 use Rattle.well_formed.specs.Holders.{ListedHolders, is_role, holder_after, HoldersFit}
 use Rattle.well_formed.proofs.References.{and_first, and_second, same_name, same_ref}
 use Rattle.projection_follows.specs.Roles.{HoldsRoles}
-use Rattle.both_ways.specs.Premises.{IsUnhindered}
+use Rattle.correspondence.specs.Premises.{IsUnhindered}
 use Rattle.projection_follows.specs.Premises.{HoldsItsRoles, ProceduresChecked, MainChecked, MainHolds, BindsNo, IsProjectionOf}
 
 -- no parameter is in any set, and none is listed: there is no procedure

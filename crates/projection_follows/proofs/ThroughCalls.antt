@@ -14,7 +14,7 @@ use Rattle.endpoint_code.specs.Trees.{CodeTree, code_at}
 use Rattle.endpoint_code.proofs.AboveOrder.{above_self}
 use Rattle.projection.specs.Codes.{proc_named, param_for, passed_for, call_code, call_as, IsCodeOf, calls}
 use Rattle.well_formed.specs.Follows.{SessionMap, passed, At, follows_end, follows_call, follows_over, Follows}
-use Rattle.code_above.proofs.Nodes.{inv_call, inv_end}
+use Rattle.correspondence.proofs.Nodes.{inv_call, inv_end}
 use Rattle.projection_follows.proofs.AlongTrees.{At', stands_at, head_at, there_holds, claim}
 use Rattle.projection_follows.proofs.FreeNames.{shallow_apart, own_apart}
 use Rattle.projection_follows.proofs.AtCalls.{through}

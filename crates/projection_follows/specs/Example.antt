@@ -11,7 +11,7 @@ use Rattle.endpoint_code.specs.Network.{has_room}
 use Rattle.projection.specs.Examples.ServiceTwice.{FileIsKept, AreKept, file, nodes, services, processes, endpoints}
 use Rattle.well_formed.specs.Linear.{ParameterSets}
 use Rattle.well_formed.specs.Holders.{ListedHolders}
-use Rattle.both_ways.specs.Premises.{IsUnhindered}
+use Rattle.correspondence.specs.Premises.{IsUnhindered}
 use Rattle.projection_follows.specs.Premises.{IsProjectionOf}
 
 -- so do the endpoints of the service started twice

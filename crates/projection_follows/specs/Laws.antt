@@ -20,8 +20,8 @@ use Rattle.well_formed.specs.WellFormed.{Scope, CallFits}
 use Rattle.well_formed.specs.Linear.{ParameterSets}
 use Rattle.well_formed.specs.Holders.{ListedHolders}
 use Rattle.correspondence.specs.Services.{ServicesFollow}
-use Rattle.both_ways.specs.Premises.{Realizes, IsUnhindered}
-use Rattle.both_ways.specs.Laws.{CannotStep, HasEndedEmpty}
+use Rattle.correspondence.specs.Premises.{Realizes, IsUnhindered}
+use Rattle.correspondence.specs.Laws.{CannotStep, HasEndedEmpty}
 use Rattle.projection_follows.specs.Premises.{IsProjectionOf}
 
 -- ---- following

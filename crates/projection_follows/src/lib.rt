@@ -32,7 +32,7 @@ pub fn projection_runs()
     ensures back { RunsAreProjectionRuns }
 {
     projection_realizes();
-    both_ways::runs_agree();
+    correspondence::runs_agree();
 }
 
 /// The network of a projection never gets stuck.
@@ -40,7 +40,7 @@ pub fn projection_never_stuck()
     ensures { ProjectionNeverStuck }
 {
     projection_realizes();
-    both_ways::never_stuck();
+    correspondence::never_stuck();
 }
 
 /// In the endless exchange, which has a start and a procedure that calls itself with a session, everybody holds its roles.

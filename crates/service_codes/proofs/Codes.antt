@@ -30,7 +30,7 @@ use Rattle.endpoint_code.specs.LeastAbove.{IsLeastAbove, HasNoneAbove}
 use Rattle.branch_merge.specs.Merged.{Keeps}
 use Rattle.branch_merge.proofs.ArmTables.{keeps_both, code_kept, kept_length}
 use Rattle.service_merge.specs.Merged.{codes_at, IsMergedOfAll}
-use Rattle.source_blocks.proofs.Blocks.{block_choreography}
+use Rattle.chor_semantics.proofs.Blocks.{block_choreography}
 use Rattle.projection.specs.Codes.{IsCodeOf}
 use Rattle.projection.specs.Projects.{Started, starts_of, serving, body_at, IsStartCode}
 use Rattle.projection.specs.MergeFaults.{sites_of, HasClash}

@@ -10,8 +10,8 @@ use Rattle.chor_tree.specs.declared.tree.Node.{Node}
 use Rattle.chor_tree.specs.Source.{Procedure, Source, procedure_of, source_of}
 use Rattle.chor_semantics.specs.Choreography.{Choreography}
 use Rattle.chor_semantics.specs.Sources as tree
-use Rattle.source_blocks.specs.Blocks.{choreography_of}
-use Rattle.source_blocks.proofs.Blocks.{block_choreography}
+use Rattle.chor_semantics.specs.Blocks.{choreography_of}
+use Rattle.chor_semantics.proofs.Blocks.{block_choreography}
 use Rattle.typing_rules.specs.Guarded.{IsUnguardedCall, IsGuardFault}
 use Rattle.well_formed.specs.Linear.{ParameterSets, everyone}
 use Rattle.linearity.specs.Linear.{set_of, IsGreatest}

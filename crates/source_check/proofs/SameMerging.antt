@@ -16,8 +16,8 @@ use Rattle.chor_tree.specs.declared.file.Service.{Service}
 use Rattle.chor_tree.specs.Source.{Procedure, Source, procedure_of, source_of}
 use Rattle.chor_semantics.specs.Choreography.{Ref, Choreography}
 use Rattle.endpoint_code.specs.Trees.{CodeTree}
-use Rattle.source_blocks.specs.Blocks.{choreography_of}
-use Rattle.source_blocks.proofs.Blocks.{block_choreography}
+use Rattle.chor_semantics.specs.Blocks.{choreography_of}
+use Rattle.chor_semantics.proofs.Blocks.{block_choreography}
 use Rattle.projection.specs.Codes.{proc_named, call_code, IsCodeOf, acts, learns, absent, decides, merges, calls, ends}
 use Rattle.projection.specs.Projects.{Started, starts_in, starts_in_procs, starts_of, is_some_start, IsStartCode}
 use Rattle.projection.specs.MergeFaults.{IsFirstOf, here, later, Site, sites_in, sites_of, HasClash, services_of, HasServiceClash, IsBranchFault, IsServiceFault, IsFirstMergeFault, branches, starts, IsMergeDenial}

@@ -18,7 +18,7 @@ use Rattle.chor_tree.specs.declared.tree.Form.TheVariants.{Start, Value, Label, 
 use Rattle.chor_tree.specs.Children.{children_of}
 use Rattle.chor_tree.specs.Forms.{head_of}
 use Rattle.chor_tree.specs.Names.{Scope, is_among, fault_at, repeated, unknown, unknown_process, wrong_parts, named_as_channel, channels_of, channel_of, node_faults, scope_after, here, further}
-use Rattle.tree_walks.proofs.Nodes.{child_below}
+use Rattle.chor_tree.proofs.Nodes.{child_below}
 use Rattle.delegation.specs.declared.held.Held.{Held}
 use Rattle.delegation.specs.Owners.{Lacks, started}
 use Rattle.delegation.proofs.Parts.{lacks_append, lacks_passed, own_started, apart}

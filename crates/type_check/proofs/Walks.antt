@@ -15,7 +15,7 @@ use Rattle.chor_tree.specs.Children.{children_of}
 use Rattle.chor_tree.specs.Forms.{head_of}
 use Rattle.chor_tree.specs.Source.{Block, place_of, tails_of, block_in, block_of, blocks_of, body_of}
 use Rattle.chor_tree.proofs.Blocks.{tails_same}
-use Rattle.tree_walks.proofs.Nodes.{place_same, block_is}
+use Rattle.chor_tree.proofs.Nodes.{place_same, block_is}
 use Rattle.typing_rules.specs.Environment.{Environment}
 use Rattle.typing_rules.specs.Checks.{rule_at}
 use Rattle.typing_rules.specs.After.{after}

@@ -12,10 +12,9 @@ ghost use Rattle.type_check.specs.NodeFaults.{fault_in};
 ghost use Rattle.type_check.specs.Resolved.{IsResolved};
 
 use chor_base::{Fault, Memory, earlier};
-use chor_tree::{File, Node, NodeId, Tree};
+use chor_tree::{File, Following, Node, NodeId, Tree, what_follows};
 use delegation::OwnFault;
 use std::alloc::Global;
-use tree_walks::{Following, what_follows};
 use typing_steps::Known;
 
 // The first fault of the types of a body that begins at a node, where this much is known. What

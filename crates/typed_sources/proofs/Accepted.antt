@@ -37,7 +37,7 @@ use Rattle.typing_rules.specs.Environment.{Environment, standing_of, stands, at_
 use Rattle.typing_rules.specs.Checks.{rule_at}
 use Rattle.typing_rules.specs.After.{after_statement}
 use Rattle.typing_rules.specs.TypeFaults.{head_faults, IsBodyFault, here, further, in_main, in_a_head, in_a_procedure, IsTyped}
-use Rattle.typed_runs.specs.Typing.{IsNotEmpty}
+use Rattle.typed_sources.specs.Typing.{IsNotEmpty}
 use Rattle.typed_sources.proofs.Checked.{some_is}
 use Rattle.typed_sources.proofs.Opened.{AreNew, IsNamedStart}
 use Rattle.typed_sources.proofs.Statements.{ProtocolsFit}

@@ -9,10 +9,10 @@ use Rattle.chor_base.specs.FirstPlaces.{one_later}
 use Rattle.global_types.specs.Moves.{IsIn, Content, Exchange, passes, chooses, exchanges_of, state_named, Leads}
 use Rattle.global_types.specs.Paths.{IsPath, Action, action_in, actions_of}
 use Rattle.well_formed.proofs.References.{same_name, true_eq}
-use Rattle.typed_runs.specs.Told.{of_label, Act, told_of, act_of, acts_on, put_to, got_from}
-use Rattle.typed_runs.specs.Context.{exchanged}
-use Rattle.typed_runs.specs.Typing.{HasEnded}
-use Rattle.typed_runs.proofs.Small.{append_nil}
+use Rattle.typed_sources.specs.Told.{of_label, Act, told_of, act_of, acts_on, put_to, got_from}
+use Rattle.typed_sources.specs.Context.{exchanged}
+use Rattle.typed_sources.specs.Typing.{HasEnded}
+use Rattle.typed_sources.proofs.Small.{append_nil}
 use Rattle.typed_sources.specs.Stands.{Reached}
 
 path_more : (ss : List State) (path : List Exchange) (i k l : ℕ) (x : Exchange) → IsPath ss i path k → Leads ss k x l → IsPath ss i (path ++ x ∷ []) l

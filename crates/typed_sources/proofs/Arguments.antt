@@ -18,8 +18,8 @@ use Rattle.delegation.specs.Owners.{held as entry, holder_of}
 use Rattle.delegation.specs.Checks.{all_differ}
 use Rattle.typing_rules.specs.declared.standings.Standing.{Standing}
 use Rattle.typing_rules.specs.Environment.{standing_of, declared_sort, declared_sorts, stands}
-use Rattle.typed_runs.specs.Context.{Context}
-use Rattle.typed_runs.specs.Typing.{AllKnown}
+use Rattle.typed_sources.specs.Context.{Context}
+use Rattle.typed_sources.specs.Typing.{AllKnown}
 use Rattle.typed_sources.specs.Stands.{states_in, Reached, protocol_at}
 use Rattle.typed_sources.proofs.Checked.{some_is}
 use Rattle.typed_sources.proofs.Opened.{not_is}

@@ -14,11 +14,11 @@ use Rattle.delegation.specs.Owners.{holder_of}
 use Rattle.delegation.specs.Checks.{all_differ}
 use Rattle.typing_rules.specs.declared.standings.Standing.{Standing}
 use Rattle.typing_rules.specs.Environment.{standing_of, at_procedure}
-use Rattle.typed_runs.specs.Context.{Context}
-use Rattle.typed_runs.specs.Typing.{HasProtocol, HasEnded}
-use Rattle.typed_runs.specs.Changes.{HoldersInScope}
-use Rattle.typed_runs.proofs.Small.{on_or_off}
-use Rattle.typed_runs.specs.Renames.{Renames}
+use Rattle.typed_sources.specs.Context.{Context}
+use Rattle.typed_sources.specs.Typing.{HasProtocol, HasEnded}
+use Rattle.typed_sources.specs.Changes.{HoldersInScope}
+use Rattle.typed_sources.proofs.Small.{on_or_off}
+use Rattle.typed_sources.specs.Renames.{Renames}
 use Rattle.typed_sources.specs.Stands.{states_in, at, holder_at, protocol_at, Stands}
 use Rattle.typed_sources.proofs.Checked.{some_is}
 use Rattle.typed_sources.specs.Calls.{IsTypedCall}

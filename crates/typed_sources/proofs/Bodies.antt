@@ -12,14 +12,14 @@ use Rattle.chor_semantics.specs.Choreography.{Ref, Live, Named, Starts, Communic
 use Rattle.chor_semantics.specs.Steps.{bound_all}
 use Rattle.delegation.specs.Owners.{holder_of}
 use Rattle.typing_rules.specs.Environment.{Environment, standing_of, at_procedure}
-use Rattle.typed_runs.specs.Context.{Context, after}
-use Rattle.typed_runs.specs.Typing.{AllKnown, IsTypedNode, IsTypedIn}
-use Rattle.typed_runs.specs.Told.{Act}
-use Rattle.typed_runs.specs.Changes.{HoldersInScope}
-use Rattle.typed_runs.specs.Renames.{Renames}
-use Rattle.typed_runs.proofs.StartsRenamed.{active_known, still_some}
-use Rattle.typed_runs.proofs.Renamed.{sort_more, renamed_communication, renamed_own, renamed_end}
-use Rattle.typed_runs.proofs.StartKept.{held_after}
+use Rattle.typed_sources.specs.Context.{Context, after}
+use Rattle.typed_sources.specs.Typing.{AllKnown, IsTypedNode, IsTypedIn}
+use Rattle.typed_sources.specs.Told.{Act}
+use Rattle.typed_sources.specs.Changes.{HoldersInScope}
+use Rattle.typed_sources.specs.Renames.{Renames}
+use Rattle.typed_sources.proofs.StartsRenamed.{active_known, still_some}
+use Rattle.typed_sources.proofs.Renamed.{sort_more, renamed_communication, renamed_own, renamed_end}
+use Rattle.typed_sources.proofs.StartKept.{held_after}
 use Rattle.typed_sources.specs.Stands.{kind_in, states_in, holder_at, protocol_at}
 use Rattle.typed_sources.specs.Calls.{IsTypedCall}
 use Rattle.typed_sources.proofs.Calls.{call_put}

@@ -25,9 +25,9 @@ use Rattle.typing_rules.specs.declared.standings.Standing.{Standing}
 use Rattle.typing_rules.specs.Environment.{Environment, standing_of, step_in}
 use Rattle.typing_rules.specs.Checks.{is_sort, params_are_set, holds_as, is_standing, session_fits, sessions_fit, arguments_fit, rest_ended, rule_at}
 use Rattle.typing_rules.specs.Allowed.{is_last}
-use Rattle.typed_runs.specs.Context.{Context}
-use Rattle.typed_runs.specs.Typing.{AllKnown, HasEnded}
-use Rattle.typed_runs.specs.Renames.{Renames}
+use Rattle.typed_sources.specs.Context.{Context}
+use Rattle.typed_sources.specs.Typing.{AllKnown, HasEnded}
+use Rattle.typed_sources.specs.Renames.{Renames}
 use Rattle.typed_sources.specs.Stands.{states_in, Reached, at, holder_at, protocol_at, Stands}
 use Rattle.typed_sources.proofs.Checked.{first_passes, asked, is_it, holder_is, some_is}
 use Rattle.typed_sources.proofs.Moved.{at_is}

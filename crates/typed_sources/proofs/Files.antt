@@ -20,16 +20,16 @@ use Rattle.chor_semantics.specs.Steps.{procedure_named, body_of, bound_all}
 use Rattle.chor_semantics.specs.Runs.{IsRunTo, IsTerminated}
 use Rattle.well_formed.proofs.References.{same_ref}
 use Rattle.typing_rules.specs.Environment.{at_main}
-use Rattle.typed_runs.specs.Context.{Context}
-use Rattle.typed_runs.specs.Typing.{IsTypedIn, AllEnded, Reaches}
-use Rattle.typed_runs.proofs.Small.{on_or_off}
-use Rattle.typed_runs.specs.History.{nothing_told, told_after, SessionsConform, SessionsEnd}
-use Rattle.typed_runs.proofs.NeverStuck.{IsBare, never_stuck}
+use Rattle.typed_sources.specs.Context.{Context}
+use Rattle.typed_sources.specs.Typing.{IsTypedIn, AllEnded, Reaches}
+use Rattle.typed_sources.proofs.Small.{on_or_off}
+use Rattle.typed_sources.specs.History.{nothing_told, told_after, SessionsConform, SessionsEnd}
+use Rattle.typed_sources.proofs.NeverStuck.{IsBare, never_stuck}
 use Rattle.well_formed.specs.Asked.{AllAsked, CanAnswer, IsAnswered}
-use Rattle.typed_runs.specs.Going.{CanStep, IsNoCall}
+use Rattle.typed_sources.specs.Going.{CanStep, IsNoCall}
 use Rattle.well_formed.proofs.Asked.{asked_bodies, asked_instance, asked_along}
-use Rattle.typed_runs.proofs.Roots.{IsRoot}
-use Rattle.typed_runs.proofs.Conforming.{Holds, run_holds, run_told, conforms, conforms_and_ended}
+use Rattle.typed_sources.proofs.Roots.{IsRoot}
+use Rattle.typed_sources.proofs.Conforming.{Holds, run_holds, run_told, conforms, conforms_and_ended}
 use Rattle.typed_sources.specs.Stands.{kind_in, states_in}
 use Rattle.typed_sources.proofs.Statements.{ProtocolsFit}
 use Rattle.typed_sources.specs.Calls.{AreAsDeclared, IsTypedCall}

@@ -14,9 +14,9 @@ use Rattle.chor_semantics.specs.Sources.{tree_in, trees_of}
 use Rattle.typing_rules.specs.Environment.{at_procedure}
 use Rattle.typing_rules.specs.Guarded.{IsUnguardedCall, here, IsGuarded}
 use Rattle.well_formed.proofs.References.{true_eq, same_name}
-use Rattle.typed_runs.specs.Going.{IsNoCall}
-use Rattle.source_blocks.specs.Blocks.{choreography_of}
-use Rattle.source_blocks.proofs.Blocks.{choreography_at}
+use Rattle.typed_sources.specs.Going.{IsNoCall}
+use Rattle.chor_semantics.specs.Blocks.{choreography_of}
+use Rattle.chor_semantics.proofs.Blocks.{choreography_at}
 use Rattle.typed_sources.proofs.Sources.{IsFaultless}
 use Rattle.typed_sources.proofs.Resolved.{found_in}
 

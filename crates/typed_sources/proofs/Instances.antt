@@ -8,10 +8,10 @@ use Rattle.chor_semantics.specs.Choreography.{Ref, Live, Named, ref_eq, among, S
 use Rattle.well_formed.specs.Holders.{first_with, as_parts}
 use Rattle.well_formed.specs.WellFormed.{service_refs}
 use Rattle.well_formed.proofs.References.{self_ref, same_ref, true_eq, left_or, right_or, differ_ref, turned_ref, or_rights}
-use Rattle.typed_runs.specs.Context.{Context, bound_to, unset, after}
-use Rattle.typed_runs.specs.Typing.{HasProtocol, AllKnown, AllNew, HasEnded}
-use Rattle.typed_runs.proofs.Small.{on_or_off}
-use Rattle.typed_runs.specs.Renames.{Renames}
+use Rattle.typed_sources.specs.Context.{Context, bound_to, unset, after}
+use Rattle.typed_sources.specs.Typing.{HasProtocol, AllKnown, AllNew, HasEnded}
+use Rattle.typed_sources.proofs.Small.{on_or_off}
+use Rattle.typed_sources.specs.Renames.{Renames}
 use Rattle.typed_sources.specs.Stands.{kind_in, states_in}
 use Rattle.typed_sources.proofs.Depths.{among_deep, less_not}
 

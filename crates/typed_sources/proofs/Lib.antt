@@ -19,3 +19,17 @@ pub mod Accepted
 pub mod Files
 pub mod Guarded
 pub mod Laws
+pub mod Small
+pub mod SortedValues
+pub mod PastNodes
+pub mod AtHead
+pub mod StepsKept
+pub mod OnePath
+pub mod Renamed
+pub mod StartsRenamed
+pub mod NewNumbers
+pub mod Started
+pub mod StartKept
+pub mod Roots
+pub mod Conforming
+pub mod NeverStuck

@@ -12,10 +12,10 @@ use Rattle.chor_semantics.specs.Choreography.{Ref, Live, Named, ref_eq, named_by
 use Rattle.chor_semantics.specs.Sources.{numbered, first_configuration}
 use Rattle.well_formed.proofs.References.{self_ref, true_eq, differ_ref}
 use Rattle.typing_rules.specs.Environment.{at_main}
-use Rattle.typed_runs.specs.Context.{Context}
-use Rattle.typed_runs.specs.Changes.{HoldersInScope}
-use Rattle.typed_runs.proofs.Small.{on_or_off}
-use Rattle.typed_runs.specs.Renames.{Renames, Stays}
+use Rattle.typed_sources.specs.Context.{Context}
+use Rattle.typed_sources.specs.Changes.{HoldersInScope}
+use Rattle.typed_sources.proofs.Small.{on_or_off}
+use Rattle.typed_sources.specs.Renames.{Renames, Stays}
 use Rattle.typed_sources.specs.Stands.{states_in, Stands}
 use Rattle.typed_sources.proofs.Statements.{ProtocolsFit}
 use Rattle.typed_sources.specs.Calls.{IsTypedCall}
@@ -24,8 +24,8 @@ use Rattle.typed_sources.proofs.Instances.{Deep}
 use Rattle.typed_sources.proofs.Bodies.{IsTypedThere, instance_typed}
 use Rattle.typed_sources.proofs.Arguments.{named}
 use Rattle.typed_sources.proofs.Sources.{IsFaultless, block_typed}
-use Rattle.source_blocks.specs.Blocks.{choreography_of}
-use Rattle.source_blocks.proofs.Blocks.{choreography_at}
+use Rattle.chor_semantics.specs.Blocks.{choreography_of}
+use Rattle.chor_semantics.proofs.Blocks.{choreography_at}
 
 -- ---- calls
 

@@ -13,9 +13,9 @@ use Rattle.delegation.specs.declared.held.Held.{Held}
 use Rattle.delegation.specs.Owners.{is_role as role_is, holder_of, holds_some, passed}
 use Rattle.typing_rules.specs.declared.standings.Standing.{Standing}
 use Rattle.typing_rules.specs.Environment.{Environment, standing_of, moved, set_at}
-use Rattle.typed_runs.specs.Told.{Act}
-use Rattle.typed_runs.specs.Context.{Context, Hands, handed, SetsSort, put_sort, with_setting, more_in}
-use Rattle.typed_runs.proofs.Small.{append_nil}
+use Rattle.typed_sources.specs.Told.{Act}
+use Rattle.typed_sources.specs.Context.{Context, Hands, handed, SetsSort, put_sort, with_setting, more_in}
+use Rattle.typed_sources.proofs.Small.{append_nil}
 use Rattle.typed_sources.specs.Stands.{Reached, at, holder_at, protocol_at, Stands, states_in}
 use Rattle.typed_sources.proofs.Advances.{acts_in, advance}
 use Rattle.typed_sources.proofs.Checked.{some_is}

@@ -6,8 +6,8 @@ use Rattle.chor_tree.specs.declared.file.ProcParam.{ProcParam}
 use Rattle.chor_tree.specs.declared.file.SessionParam.{SessionParam}
 use Rattle.chor_semantics.specs.Choreography.{Ref, Named, ref_eq, among}
 use Rattle.well_formed.proofs.References.{self_ref, same_ref}
-use Rattle.typed_runs.specs.Context.{Context}
-use Rattle.typed_runs.specs.Typing.{AllKnown}
+use Rattle.typed_sources.specs.Context.{Context}
+use Rattle.typed_sources.specs.Typing.{AllKnown}
 use Rattle.typed_sources.specs.Calls.{IsTypedCall, AreSet, AreAsDeclared}
 
 abbrev pub narrowed : Context → List Ref → Context

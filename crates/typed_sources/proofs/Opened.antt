@@ -27,8 +27,8 @@ use Rattle.typing_rules.specs.declared.standings.Standing.{Standing}
 use Rattle.typing_rules.specs.Environment.{Environment, standing_of, states_of, stands, first_state, opened_on, opened_by, opened as opening}
 use Rattle.typing_rules.specs.Checks.{statement_checks}
 use Rattle.typing_rules.specs.After.{after_statement}
-use Rattle.typed_runs.specs.Context.{Context, opened, bound_to, after}
-use Rattle.typed_runs.specs.Typing.{AllKnown, AllNew, IsNotEmpty, IsTypedNode}
+use Rattle.typed_sources.specs.Context.{Context, opened, bound_to, after}
+use Rattle.typed_sources.specs.Typing.{AllKnown, AllNew, IsNotEmpty, IsTypedNode}
 use Rattle.typed_sources.specs.Stands.{kind_in, protocol_name, states_in, Reached, at, holder_at, protocol_at, Stands}
 use Rattle.typed_sources.proofs.Checked.{first_passes, asked, some_is}
 use Rattle.typed_sources.proofs.Moved.{at_same}

@@ -15,8 +15,8 @@ use Rattle.delegation.specs.Checks.{first_failed}
 use Rattle.typing_rules.specs.Environment.{Environment, at_procedure}
 use Rattle.typing_rules.specs.Checks.{statement_checks, rule_at}
 use Rattle.typing_rules.specs.After.{after_statement}
-use Rattle.typed_runs.specs.Context.{Context, after}
-use Rattle.typed_runs.specs.Typing.{AllKnown, IsTypedNode}
+use Rattle.typed_sources.specs.Context.{Context, after}
+use Rattle.typed_sources.specs.Typing.{AllKnown, IsTypedNode}
 use Rattle.chor_semantics.specs.Choreography as chor
 use Rattle.typed_sources.specs.Stands.{kind_in, Stands}
 use Rattle.typed_sources.proofs.Statements.{ProtocolsFit, value_goes, label_goes, give_goes, set_goes, show_goes, host_goes, if_goes, end_goes}
@@ -26,8 +26,8 @@ use Rattle.typed_sources.proofs.Calls.{call_goes}
 use Rattle.typed_sources.proofs.Instances.{IsFlat}
 use Rattle.typed_sources.proofs.Bodies.{IsTypedThere, instance_typed}
 use Rattle.typed_sources.proofs.Begins.{IsProper, base, base_names, base_deep, base_held, base_stands}
-use Rattle.source_blocks.specs.Blocks.{node_of, choreography_of}
-use Rattle.source_blocks.proofs.Blocks.{choreography_at}
+use Rattle.chor_semantics.specs.Blocks.{node_of, choreography_of}
+use Rattle.chor_semantics.proofs.Blocks.{choreography_at}
 
 -- what a call's names keep
 pub record IsNamedCall (f : File) (scope : Scope) (g : Written) (ps ks : List Written) : Type 0 where

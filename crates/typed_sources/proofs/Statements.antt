@@ -33,9 +33,9 @@ use Rattle.typing_rules.specs.Checks.{has_sort, is_sort, is_endpoint, parties, v
 use Rattle.typing_rules.specs.declared.allowed.EndpointType.{EndpointType}
 use Rattle.typing_rules.specs.Allowed.{value_sent, labels_sent, endpoint_sent, arm_of, arm_in, is_last}
 use Rattle.typing_rules.specs.After.{with_value, with_state as in_state, with_endpoint, with_sort, after_statement}
-use Rattle.typed_runs.specs.Told.{of_sort, of_endpoint, of_label}
-use Rattle.typed_runs.specs.Context.{Context, after, exchanged, told_content, told_sort, sort_in}
-use Rattle.typed_runs.specs.Typing.{HasSort, IsTypedNode, AllEnded, HasEnded}
+use Rattle.typed_sources.specs.Told.{of_sort, of_endpoint, of_label}
+use Rattle.typed_sources.specs.Context.{Context, after, exchanged, told_content, told_sort, sort_in}
+use Rattle.typed_sources.specs.Typing.{HasSort, IsTypedNode, AllEnded, HasEnded}
 use Rattle.typed_sources.specs.Stands.{kind_in, states_in, at, holder_at, protocol_at, Stands}
 use Rattle.typed_sources.proofs.Advances.{passing, choosing, ended_at}
 use Rattle.typed_sources.proofs.Checked.{first_passes, asked, has_it, is_it, holder_is, has_step, value_allowed, endpoint_allowed, label_allowed, some_is}

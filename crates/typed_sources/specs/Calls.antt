@@ -9,8 +9,8 @@ use Rattle.chor_tree.specs.declared.file.ProcParam.{ProcParam}
 use Rattle.chor_tree.specs.declared.file.SessionParam.{SessionParam}
 use Rattle.chor_tree.specs.Names.{procedure_of}
 use Rattle.chor_semantics.specs.Choreography.{Ref, Named, among}
-use Rattle.typed_runs.specs.Context.{Context}
-use Rattle.typed_runs.specs.Typing.{AllKnown, HasEnded}
+use Rattle.typed_sources.specs.Context.{Context}
+use Rattle.typed_sources.specs.Typing.{AllKnown, HasEnded}
 use Rattle.typed_sources.specs.Stands.{states_in, Reached}
 
 -- what stands for a parameter

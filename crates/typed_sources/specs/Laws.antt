@@ -11,8 +11,8 @@ use Rattle.global_types.specs.Faults.{faults_of}
 use Rattle.well_formed.specs.Asked.{IsAnswered}
 use Rattle.typing_rules.specs.TypeFaults.{IsTyped}
 use Rattle.typing_rules.specs.Guarded.{IsGuarded}
-use Rattle.typed_runs.specs.History.{SessionsConform, SessionsEnd}
-use Rattle.typed_runs.specs.Going.{CanStep}
+use Rattle.typed_sources.specs.History.{SessionsConform, SessionsEnd}
+use Rattle.typed_sources.specs.Going.{CanStep}
 use Rattle.typed_sources.specs.Stands.{kind_in, states_in}
 
 -- no fault of names, where the host functions have these names, none of protocols and none of types

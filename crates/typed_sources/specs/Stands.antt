@@ -10,9 +10,9 @@ use Rattle.global_types.specs.Moves.{state_named}
 use Rattle.delegation.specs.Owners.{holder_of}
 use Rattle.typing_rules.specs.declared.standings.Standing.{Standing}
 use Rattle.typing_rules.specs.Environment.{Environment, standing_of, states_of}
-use Rattle.typed_runs.specs.Told.{Act}
-use Rattle.typed_runs.specs.Context.{Context}
-use Rattle.typed_runs.specs.Typing.{Reaches}
+use Rattle.typed_sources.specs.Told.{Act}
+use Rattle.typed_sources.specs.Context.{Context}
+use Rattle.typed_sources.specs.Typing.{Reaches}
 
 abbrev pub protocol_name : Option Service → Option NameId
 protocol_name None = None

@@ -13,7 +13,7 @@ use Rattle.endpoint_code.specs.declared.endpoints.Endpoints.{Endpoints}
 use Rattle.endpoint_code.specs.Labels.{HasDistinctLabels}
 use Rattle.endpoint_code.specs.LeastAbove.{IsLeastAbove}
 use Rattle.endpoint_code.specs.Trees.{CodeTree}
-use Rattle.printed_tokens.specs.Spelled.{IsNamed}
+use Rattle.printed_units.specs.Spelled.{IsNamed}
 use Rattle.printed_units.specs.Laws.{AreWritable}
 use Rattle.projection.specs.Codes.{IsCodeOf}
 use Rattle.projection.specs.Projects.{Started, is_some_start, IsServiceCode, Projects}

@@ -6,7 +6,7 @@ use Rattle.chor_tree.specs.Forms.{head_of}
 use Rattle.chor_tree.specs.Names.{is_among}
 use Rattle.chor_base.specs.Faults.{IsFirst}
 use Rattle.chor_base.proofs.Members.{at_head, at_tail}
-use Rattle.tree_walks.proofs.Nodes.{child_below}
+use Rattle.chor_tree.proofs.Nodes.{child_below}
 use Rattle.typing_rules.specs.Guarded.{named_by, passed_by}
 use Rattle.guard_check.specs.InBodies.{IsUnguardedIn}
 use Rattle.guard_check.proofs.Walks.{AreUnnamed, after_none, after_one, after_two, passes_first, node_then, walk_ends}

@@ -3,7 +3,7 @@ use Rattle.std.specs.Prelude.{Contains}
 use Rattle.chor_base.specs.Faults.{IsFirst}
 use Rattle.chor_base.proofs.Members.{at_head, at_tail}
 use Rattle.chor_tree.specs.Children.{children_of}
-use Rattle.tree_walks.proofs.Nodes.{child_below}
+use Rattle.chor_tree.proofs.Nodes.{child_below}
 use Rattle.typing_steps.specs.Known.{environment_of}
 use Rattle.type_check.proofs.Names.{is_fresh, resolved_next}
 use Rattle.type_check.proofs.Turns.{none_is, turn_ends, turn_goes_on, turn_branches}

@@ -3,7 +3,7 @@ use Rattle.std.specs.Prelude.{Contains, option_copied}
 use Rattle.chor_base.proofs.Members.{at_head, at_tail}
 use Rattle.chor_base.specs.Faults.{earlier, IsFirst}
 use Rattle.chor_tree.specs.Source.{body_of}
-use Rattle.tree_walks.proofs.Nodes.{child_below}
+use Rattle.chor_tree.proofs.Nodes.{child_below}
 use Rattle.linear_check.specs.Tracks.{Tracks, IsUnorderedOfAny}
 use Rattle.linear_check.proofs.Faults.{seek_begins, seeks_on, seek_tail, seek_branches, seek_ends}
 use Rattle.linear_check.proofs.group.Group.+first_from.Goals as goal

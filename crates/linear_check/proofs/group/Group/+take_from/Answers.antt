@@ -4,7 +4,7 @@ use Rattle.chor_tree.specs.Source.{body_of}
 use Rattle.linear_check.specs.Tracks.{Tracks}
 use Rattle.linear_check.specs.Takes.{TakesAway}
 use Rattle.chor_base.proofs.Members.{at_head, at_tail}
-use Rattle.tree_walks.proofs.Nodes.{child_below}
+use Rattle.chor_tree.proofs.Nodes.{child_below}
 use Rattle.linear_check.proofs.PassedOn.{neither}
 use Rattle.linear_check.proofs.WalksOn.{begins, goes_on, tail_away, past_away, branches_away}
 use Rattle.linear_check.proofs.group.Group.+take_from.Goals as goal

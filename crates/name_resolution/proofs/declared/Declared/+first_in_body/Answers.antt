@@ -5,7 +5,7 @@ use Rattle.chor_host.specs.Tables.{functions_of}
 use Rattle.chor_tree.specs.Names.{IsBodyFault}
 use Rattle.chor_base.specs.Faults.{earlier, IsFirst}
 use Rattle.chor_base.proofs.Members.{at_head, at_tail}
-use Rattle.tree_walks.proofs.Nodes.{child_below}
+use Rattle.chor_tree.proofs.Nodes.{child_below}
 use Rattle.name_resolution.proofs.Members.{begins_on, back_at}
 use Rattle.name_resolution.proofs.Walks.{after_one, after_two, node_then, node_last, walk_ends}
 use Rattle.name_resolution.proofs.declared.Declared.+first_in_body.Goals as goal

@@ -1,6 +1,0 @@
-use Rattle.both_ways.proofs.FromSources.{all_bodies}
-use Rattle.both_ways.proofs.NeverWrong.{load_taken}
-use Rattle.both_ways.proofs.loads_are_taken.Goals as goal
-
-pub returns : goal.returns
-returns c0 e procs sets lists sound c n co p m there place at = load_taken e procs sets lists (all_bodies e procs sets lists sound) c n co p m there place at

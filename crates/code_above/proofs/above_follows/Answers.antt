@@ -1,5 +1,0 @@
-use Rattle.code_above.proofs.Above.{follows_lift}
-use Rattle.code_above.proofs.above_follows.Goals as goal
-
-pub returns : goal.returns
-returns c0 e e' procs units n p c q q' m o h = follows_lift e e' units procs p n c q q' m o h

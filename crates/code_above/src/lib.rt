@@ -1,9 +1,0 @@
-//! Code that offers more branches than code that follows a choreography.
-#![tactic(auto)]
-
-ghost use Rattle.code_above.specs.CodeAbove.{AboveFollows};
-
-/// Code above code that follows a choreography follows it too.
-pub fn above_follows()
-    ensures { AboveFollows }
-{}

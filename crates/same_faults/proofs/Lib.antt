@@ -1,4 +1,0 @@
-pub mod Lists
-pub mod Scopes
-pub mod Faultless
-pub mod Asking

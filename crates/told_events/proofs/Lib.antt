@@ -1,6 +1,0 @@
-mod Values
-mod States
-mod Places
-mod Acts
-mod Starts
-pub mod Runs

@@ -1,5 +1,0 @@
-use Rattle.told_events.proofs.Runs.{short_run_told}
-use Rattle.told_events.proofs.few_told.Goals as goal
-
-pub returns : goal.returns
-returns c e hosts capacity h last faultless sized meanings run short = short_run_told e faultless hosts capacity sized meanings h last run short
