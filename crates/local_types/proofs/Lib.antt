@@ -6,3 +6,4 @@ pub mod Numbers
 pub mod Texts
 pub mod Breadth
 pub mod RoleTexts
+pub mod Appends

@@ -3,7 +3,7 @@
 ghost use Rattle.std.specs.Prelude.{◌≡◌, ◌++◌, OnOk, OnErr, codes};
 ghost use Rattle.std.specs.Fmt.{decimal};
 ghost use Rattle.chor_base.specs.Writing.{name_in};
-ghost use Rattle.local_types.specs.Text.{sort_text, payload_text, message_text, labels_text, choice_text, state_text, states_text, local_text};
+ghost use Rattle.local_types.specs.Text.{line_end, sort_text, payload_text, message_text, labels_text, choice_text, state_text, states_text, local_text};
 
 use crate::local_type::{LocalState, LocalType};
 use chor_base::{Memory, NameId, Names, Sort, put_bytes, put_name, put_number};
@@ -24,13 +24,20 @@ pub fn print_local(
     ensures err { OnErr result (out.new.items ≡ out.old.items) }
 {
     let mut text = Vec::new(alloc);
-    put_bytes(&mut text, b"local ".as_slice())?;
-    put_name(&mut text, names, protocol.name.name)?;
-    put_bytes(&mut text, b"@".as_slice())?;
-    put_name(&mut text, names, role)?;
-    put_bytes(&mut text, b"\n".as_slice())?;
+    put_head(&mut text, names, protocol.name.name, role)?;
     put_states(&mut text, alloc, names, local.states.as_slice())?;
     put_bytes(out, text.as_slice())
+}
+
+// The first line.
+fn put_head(text: &mut Vec<u8>, names: &Names, protocol: NameId, role: NameId) -> Result<(), Memory>
+    ensures { OnOk result (text.new.items ≡ text.old.items ++ (codes "local " ++ (name_in names.now protocol ++ (codes "@" ++ (name_in names.now role ++ line_end))))) }
+{
+    put_bytes(text, b"local ".as_slice())?;
+    put_name(text, names, protocol)?;
+    put_bytes(text, b"@".as_slice())?;
+    put_name(text, names, role)?;
+    put_bytes(text, b"\n".as_slice())
 }
 
 fn put_states(
@@ -90,9 +97,16 @@ fn put_message(
     put_name(text, names, role)?;
     put_bytes(text, b" ".as_slice())?;
     put_payload(text, names, payload)?;
-    put_bytes(text, b" ".as_slice())?;
-    put_number(text, alloc, u64::from(next))?;
+    put_next(text, alloc, next)?;
     put_bytes(text, b"\n".as_slice())
+}
+
+// The number of the next state, after a space.
+fn put_next(text: &mut Vec<u8>, alloc: Global, next: u32) -> Result<(), Memory>
+    ensures { OnOk result (text.new.items ≡ text.old.items ++ (codes " " ++ decimal next)) }
+{
+    put_bytes(text, b" ".as_slice())?;
+    put_number(text, alloc, u64::from(next))
 }
 
 fn put_payload(text: &mut Vec<u8>, names: &Names, payload: &Payload) -> Result<(), Memory>
@@ -149,8 +163,7 @@ fn put_labels(
     for label in labels {
         put_bytes(text, b" ".as_slice())?;
         put_name(text, names, label.0)?;
-        put_bytes(text, b" ".as_slice())?;
-        put_number(text, alloc, u64::from(label.1))?;
+        put_next(text, alloc, label.1)?;
     }
     Ok(())
 }

@@ -1,5 +1,5 @@
 -- What stands in a list, and in its front.
-use Rattle.std.proofs.Common.{ℕ, ◌≡◌, ◌+◌, ◌<◌, ◌≤◌, List, [], ◌∷◌, ◌++◌, refl, ap, sym, subst, ◌∙◌, inl, inr, zero, suc, length, take, get_or}
+use Rattle.std.proofs.Common.{ℕ, ◌≡◌, ◌+◌, ◌<◌, ◌≤◌, List, [], ◌∷◌, ◌++◌, refl, ap, sym, subst, ◌∙◌, inl, inr, zero, suc, length, take, get_or, append_assoc}
 use Rattle.std.specs.Prelude.{◌⊎◌, Some, slice_get, slice_index_or, map, false, ◌==◌}
 use Rattle.std.specs.List.{Contains}
 use Rattle.std.specs.List.Sorted.{IsPermutation}
@@ -103,3 +103,8 @@ none_whole {A} P xs i h none a among = none a (let Q : List A → Type 0 = λ l.
 pub first_among : {A : Type 0} (xs : List A) (d : A) → false ≡ (length xs == 0) → IsIn (slice_index_or xs 0 d) xs
 first_among [] d e = absurd (cc)
 first_among (x ∷ xs) d e = inl refl
+
+-- ---- a loop that appends what each item gives
+
+pub step_on : {A : Type 0} (old new part rest more whole : List A) → new ≡ old ++ part → rest ≡ part ++ more → old ++ rest ≡ whole → new ++ more ≡ whole
+step_on old new part rest more whole grows splits before = ap (λ l. l ++ more) grows ∙ append_assoc old part more ∙ ap (λ l. old ++ l) (sym splits) ∙ before

@@ -1,21 +1,21 @@
 -- Tables of the numbers of states, filled from the first state to the last.
-use Rattle.std.proofs.Common.{◌≡◌, ℕ, ◌+◌, ◌<◌, ◌≤◌, ◌==◌, Bool, true, false, cond, List, ◌∷◌, length, drop, refl, ap, sym, ◌∙◌, arith}
+use Rattle.std.proofs.Common.{◌≡◌, ℕ, ◌+◌, ◌<◌, ◌≤◌, List, ◌∷◌, ◌++◌, length, drop, ap, sym, ◌∙◌}
 use Rattle.std.specs.declared.alloc.Global.{Global}
-use Rattle.std.specs.Prelude.{slice_index_or, Option, Some, None, is_some, if◌then◌else◌, Result, Ok, Err, IfOk, Vec}
-use Rattle.std.specs.Ordering.{nat_cmp, eq_by_cmp}
+use Rattle.std.specs.Prelude.{slice_index_or, Option, Result, Ok, Err, IfOk, Vec}
 use Rattle.std.specs.FinMap as fin
-use Rattle.std.proofs.lemmas.Cmp.{nat_cmp_total}
-use Rattle.std.proofs.lemmas.Bool.Decides.{nat_tests}
 use Rattle.std.proofs.lemmas.List.{drop_more, drop_all}
 use Rattle.chor_base.specs.declared.names.NameId.{NameId}
 use Rattle.chor_base.specs.NameMap.{FromNames}
 use Rattle.chor_base.specs.FirstPlaces.{or_else, with_place}
 use Rattle.chor_base.proofs.FirstPlaces.{later, or_none, none_yet, one_more}
+use Rattle.chor_tree.specs.declared.protocol.ProtoArm.{ProtoArm}
 use Rattle.chor_tree.specs.declared.protocol.State.{State}
 use Rattle.global_types.specs.Moves.{state_named}
+use Rattle.state_sets.specs.declared.act.Act.{Act}
 use Rattle.state_sets.specs.declared.moves.Move.{Move}
-use Rattle.state_sets.specs.Moves.{moves_by, moves_from}
+use Rattle.state_sets.specs.Moves.{choice_act, move_to, arms_by, step_by, moves_by, moves_from}
 use Rattle.state_sets.specs.Places.{place_in, ArePlaces}
+use Rattle.state_sets.proofs.Lists.{step_on}
 
 -- the table so far, with the numbers of the states that are left, is the whole table
 abbrev pub ArePlacesSoFar : List State → ℕ → FromNames ℕ → Type 0
@@ -48,3 +48,21 @@ pub placed_so : {E : Type 0} (ss : List State) (r : NameId) (places : FromNames 
     → IfOk o (λ v. v.items ≡ moves_by (place_in places) r 0 ss) → IfOk o (λ v. v.items ≡ moves_from ss r 0 ss)
 placed_so ss r places (Ok v) are is = moves_placed ss r places v.items are is
 placed_so ss r places (Err e) are is = tt
+
+-- one state more
+pub placed_more : (f : NameId → Option ℕ) (r : NameId) (ss seen : List State) (i : ℕ) (d : State) (old new whole : List Move) → seen ≡ ss → i < length ss
+    → new ≡ old ++ step_by f r i (slice_index_or seen i d).step → old ++ moves_by f r i (drop i ss) ≡ whole → new ++ moves_by f r (i + 1) (drop (i + 1) ss) ≡ whole
+placed_more f r ss seen i d old new whole same lt grows before =
+    let rest = moves_by f r (i + 1) (drop (i + 1) ss) in
+    let part = step_by f r i (slice_index_or ss i d).step in
+    step_on old new part (moves_by f r i (drop i ss)) rest whole (grows ∙ ap (λ (l : List State). old ++ step_by f r i (slice_index_or l i d).step) same) (ap (λ l. moves_by f r i l) (drop_more ss i d lt)) before
+
+-- one arm more
+pub arm_more : (f : NameId → Option ℕ) (r : NameId) (from : ℕ) (a b : NameId) (arms : List ProtoArm) (i : ℕ) (d : ProtoArm) (act : Option Act) (old new whole : List Move) → i < length arms
+    → act ≡ choice_act r a b (slice_index_or arms i d).label.name → new ≡ old ++ move_to from act (f (slice_index_or arms i d).next.name)
+    → old ++ arms_by f r from a b (drop i arms) ≡ whole → new ++ arms_by f r from a b (drop (i + 1) arms) ≡ whole
+arm_more f r from a b arms i d act old new whole lt is grows before =
+    let arm = slice_index_or arms i d in
+    let part = move_to from (choice_act r a b arm.label.name) (f arm.next.name) in
+    let own : new ≡ old ++ part = grows ∙ ap (λ (o : Option Act). old ++ move_to from o (f arm.next.name)) is in
+    step_on old new part (arms_by f r from a b (drop i arms)) (arms_by f r from a b (drop (i + 1) arms)) whole own (ap (λ l. arms_by f r from a b l) (drop_more arms i d lt)) before

@@ -1,5 +1,5 @@
 -- The numbers of sets, and those of the sets of one state that are kept.
-use Rattle.std.proofs.Common.{ℕ, ◌≡◌, ◌≢◌, List, [], ◌∷◌, ◌++◌, Bool, true, false, refl, ap, sym, subst, ◌∙◌, arith, inl, inr, length, zero, suc, length-set}
+use Rattle.std.proofs.Common.{ℕ, ◌≡◌, ◌≢◌, ◌+◌, List, [], ◌∷◌, ◌++◌, Bool, true, false, refl, ap, sym, subst, ◌∙◌, arith, inl, inr, length, zero, suc, length-set, length-append}
 use Rattle.std.specs.Prelude.{◌⊎◌, ◌||◌, ◌&&◌, ◌==◌, Option, Some, None, slice_get, slice_set, slice_index_or, bytes_eq, if◌then◌else◌, Result, Ok, Err, IfOk}
 use Rattle.std.specs.List.{list_any}
 use Rattle.std.proofs.lemmas.Bool.Decides.{nat_tests}
@@ -30,8 +30,19 @@ word_there ws k w h = sym (ap (λ b. if b then ws else ws ++ w ∷ []) (any_ther
 
 -- ---- the set of one state
 
-pub singles_begin : (n k : ℕ) (sets : List (List ℕ)) (singles : List (Option ℕ)) → length singles ≡ n → ((j : ℕ) (o : Option ℕ) → slice_get singles j ≡ Some o → o ≡ None) → AreSingles n sets singles
-singles_begin n k sets singles size none = record { size = size; own = λ j i h. absurd (let e = none j (Some i) h in cc) }
+pub none_more : (old new : List (Option ℕ)) → new ≡ old ++ None ∷ [] → ((j : ℕ) (o : Option ℕ) → slice_get old j ≡ Some o → o ≡ None) → (j : ℕ) (o : Option ℕ) → slice_get new j ≡ Some o → o ≡ None
+none_more old new grows was j o h = go old j was (subst (λ (l : List (Option ℕ)). slice_get l j ≡ Some o) grows h) where
+  go : (xs : List (Option ℕ)) (k : ℕ) → ((i : ℕ) (p : Option ℕ) → slice_get xs i ≡ Some p → p ≡ None) → slice_get (xs ++ None ∷ []) k ≡ Some o → o ≡ None
+  go [] zero w e = cc
+  go [] (suc k) w e = absurd (cc)
+  go (x ∷ xs) zero w e = w 0 o e
+  go (x ∷ xs) (suc k) w e = go xs k (λ i p f. w (suc i) p f) e
+
+pub one_longer : (old new : List (Option ℕ)) (n : ℕ) → new ≡ old ++ None ∷ [] → length old ≡ n → length new ≡ n + 1
+one_longer old new n grows size = let e : length new ≡ length old + 1 = ap (λ (l : List (Option ℕ)). length l) grows ∙ length-append old (None ∷ []) in omega (arith, e, size)
+
+pub singles_begin : (n : ℕ) (sets : List (List ℕ)) (singles : List (Option ℕ)) → length singles ≡ n → ((j : ℕ) (o : Option ℕ) → slice_get singles j ≡ Some o → o ≡ None) → AreSingles n sets singles
+singles_begin n sets singles size none = record { size = size; own = λ j i h. absurd (let e = none j (Some i) h in cc) }
 
 pub singles_kept : (n : ℕ) (old new : List (List ℕ)) (singles : List (Option ℕ)) (w : List ℕ) → new ≡ with_word old w → AreSingles n old singles → AreSingles n new singles
 singles_kept n old new singles w is was = rw is (record {

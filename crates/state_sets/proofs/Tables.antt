@@ -1,5 +1,5 @@
 -- The table of a role's view, set by set.
-use Rattle.std.proofs.Common.{drop, ℕ, ◌≡◌, ◌+◌, ◌<◌, ◌≤◌, List, [], ◌∷◌, ◌++◌, Bool, true, false, refl, ap, sym, subst, ◌∙◌, arith, inl, inr, length, take, zero, suc, length-append, length-set}
+use Rattle.std.proofs.Common.{drop, ℕ, ◌≡◌, ◌+◌, ◌<◌, ◌≤◌, List, [], ◌∷◌, ◌++◌, Bool, true, false, refl, ap, sym, subst, ◌∙◌, arith, inl, inr, length, take, zero, suc, length-append}
 use Rattle.std.specs.declared.alloc.Global.{Global}
 use Rattle.std.specs.Prelude.{◌⊎◌, Some, Vec, slice_get, slice_index_or, slice_set, bytes_eq, if◌then◌else◌, MatchBool}
 use Rattle.std.specs.List.{list_any}
@@ -17,6 +17,7 @@ use Rattle.state_sets.specs.declared.table.Row.{Row}
 use Rattle.state_sets.specs.Moves.{action_of}
 use Rattle.state_sets.specs.Sets.{Has, row_at, IsSetFor}
 use Rattle.state_sets.specs.Graph.{AreApart, group_acts, AreRowsFor}
+use Rattle.state_sets.specs.Numbering.{IsNumberOf}
 use Rattle.state_sets.specs.Table.{Silent, AreActs, Target, IsNext, Keeps, HasGrown, IsArm, AreArms, IsRow, IsFound, IsTable, AreTooMany, IsWhole, nexts, all_nexts, Counts, group_words, arm_acts, arm_words, HasAscendingArms}
 use Rattle.state_sets.specs.Ascending.{Ascend}
 use Rattle.state_sets.proofs.Ascents.{arms_ascend_begin, arms_ascend_in, arms_ascend_out, arms_apart_in, arms_apart_out, arms_apart_end}
@@ -203,15 +204,11 @@ next_found ss r n word still more f after next =
 
 -- ---- the table
 
-pub first_found : (ss : List State) (r : NameId) (n : ℕ) (marks : List ℕ) → 0 < n → IsSetFor n (λ i. ⊥) marks → IsSetFor n (At ss r []) (slice_set marks 0 1)
-first_found ss r n marks h none = set_same n _ _ _ (set_put n (λ i. ⊥) marks 0 none h) there back
+pub first_found : (ss : List State) (r : NameId) (n : ℕ) (word : List ℕ) → IsSetFor n (λ j. 0 ≡ j) word → IsSetFor n (At ss r []) word
+first_found ss r n word was = set_same n _ _ word was (λ j e. inl (refl, sym e)) back
   where
-    there : (j : ℕ) → ⊥ ⊎ (0 ≡ j) → At ss r [] j
-    there j (inl b) = absurd b
-    there j (inr e) = inl (refl, sym e)
-
-    back : (j : ℕ) → At ss r [] j → ⊥ ⊎ (0 ≡ j)
-    back j (inl p) = inr (sym p.1)
+    back : (j : ℕ) → At ss r [] j → 0 ≡ j
+    back j (inl p) = sym p.1
     back j (inr a) = absurd (nil_not_push a.before a.action (sym a.parts))
 
 pub table_begins : (ss : List State) (r : NameId) (n : ℕ) (word : List ℕ) → IsSetFor n (At ss r []) word → IsTable ss r n (word ∷ []) []
@@ -408,20 +405,20 @@ pub record RowsSoFar (gs : List Group) (reach : List (Vec ℕ Global)) (sets : L
   pub numbered : Counts 1 (all_nexts rows) (length sets)
   pub ascend : (names : List (List ℕ)) → Ascend (group_words names gs) → HasAscendingArms names rows
 
-pub rows_begin : (gs : List Group) (reach : List (Vec ℕ Global)) (marks word : List ℕ) (sets : List (List ℕ)) (rows : List Row) → 0 < length reach
-    → IsSetFor (length reach) (λ i. ⊥) marks → word ≡ slice_set marks 0 1 → sets ≡ word ∷ [] → AllDistinct sets → rows ≡ []
+pub rows_begin : (gs : List Group) (reach : List (Vec ℕ Global)) (sets : List (List ℕ)) (number : ℕ) (rows : List Row)
+    → IsNumberOf (length reach) (λ j. 0 ≡ j) [] sets number → AllDistinct sets → rows ≡ []
     → RowsSoFar gs reach sets rows
-rows_begin gs reach marks word sets rows h none is one distinct empty = rw (one, empty) (record {
+rows_begin gs reach sets number rows first distinct empty = rw (first.added, empty) (record {
   done = omega arith;
-  distinct = (let P : List (List ℕ) → Type 0 = λ s. AllDistinct s in subst P one distinct);
+  distinct = (let P : List (List ℕ) → Type 0 = λ s. AllDistinct s in subst P first.added distinct);
   sizes = λ k v e. sizes_at k v e;
-  table = λ ss r are acts. table_begins ss r (length reach) word (rw is (first_found ss r (length reach) marks h none));
+  table = λ ss r are acts. table_begins ss r (length reach) first.word (first_found ss r (length reach) first.word first.set);
   numbered = refl;
   ascend = λ names up row m. absurd m;
 })
   where
-    sizes_at : (k : ℕ) (v : List ℕ) → slice_get (word ∷ []) k ≡ Some v → length v ≡ length reach
-    sizes_at zero v e = let s : word ≡ v = cc in subst (λ (u : List ℕ). length u ≡ length reach) (sym is ∙ s) (length-set marks 0 1 ∙ none.size)
+    sizes_at : (k : ℕ) (v : List ℕ) → slice_get (first.word ∷ []) k ≡ Some v → length v ≡ length reach
+    sizes_at zero v e = let s : first.word ≡ v = cc in subst (λ (u : List ℕ). length u ≡ length reach) s first.set.size
     sizes_at (suc k) v e = absurd (cc)
 
 pub rows_in : (gs : List Group) (reach : List (Vec ℕ Global)) (sets new : List (List ℕ)) (rows more : List Row) (word : List ℕ) (row : Row)

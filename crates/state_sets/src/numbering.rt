@@ -66,7 +66,7 @@ pub fn number_after(
 }
 
 // The number of the set of one state alone.
-fn number_alone(
+pub fn number_alone(
     alloc: Global,
     count: usize,
     state: usize,

@@ -15,8 +15,8 @@ ghost use Rattle.state_sets.specs.Starts.{HaveAllowed};
 
 use crate::act::Act;
 use crate::graph::{Edge, Group};
-use crate::marks::{has, no_marks, put, union};
-use crate::numbering::{Numbering, no_sets, number_after};
+use crate::marks::{has, union};
+use crate::numbering::{Numbering, no_sets, number_after, number_alone};
 use crate::starts::{candidates, starts};
 use chor_base::Memory;
 use std::alloc::Global;
@@ -56,10 +56,8 @@ pub fn rows(
     ensures table { IfOk result (λ o. (ss : List State) (r : NameId) → AreRowsFor (length reach.now) (Silent ss r) reach.now → AreActs ss r groups.now → MatchOption o (AreTooMany ss r (length reach.now) most) (λ v. IsWhole ss r (length reach.now) v.items)) }
     ensures few { IfOk result (λ o. MatchOption o (Unit {0}) (λ v. length v.items ≤ most)) }
 {
-    let mut first = no_marks(alloc, reach.len())?;
-    put(&mut first, 0);
     let mut numbering = no_sets(alloc, reach.len())?;
-    numbering.sets.intern(first.as_slice())?;
+    number_alone(alloc, reach.len(), 0, &mut numbering)?;
     let starts = starts(alloc, reach.len(), groups)?;
     let mut rows = Vec::new(alloc);
     while rows.len() < numbering.sets.len() {
