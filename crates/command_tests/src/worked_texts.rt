@@ -2,25 +2,15 @@
 
 use chor_io::{DiskShelf, Fetched, Shelf};
 use std::alloc::Global;
-use worked::{endpoints, sources, transcripts};
+use worked::endpoints::EXAMPLES;
 
 // How many bytes of a file are read at most.
 const LIMIT: u64 = 1 << 16;
 
-// The transcripts that stand in the folder of examples.
-const RUNS: [(&str, &[u8]); 5] = [
-    ("hello.run", transcripts::HELLO),
-    ("labels.run", transcripts::LABELS),
-    ("service.run", transcripts::SERVICE),
-    ("purchase.run", transcripts::PURCHASE),
-    ("host_call.run", transcripts::HOST_CALL),
-];
-
 /// Writes a line for each worked text: whether the file of its name below `worked` is that text.
 pub fn answer_worked(rt: &HostRuntime) -> anyhow::Result<()> {
     let mut shelf = DiskShelf::new(rt.alloc(), rt);
-    let texts = sources::EXAMPLES.iter().chain(&RUNS);
-    for (name, text) in texts.chain(&endpoints::EXAMPLES) {
+    for (name, text) in &EXAMPLES {
         let path = format!(in rt.alloc(); "worked/{name}")?;
         if holds(rt.alloc(), &mut shelf, path.as_bytes(), text) {
             println!(rt; "{name} is the worked text")?;
