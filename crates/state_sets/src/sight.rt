@@ -26,7 +26,8 @@ impl Drop for Sight {
     }
 }
 
-/// There is none where the role would have to tell more than this many sets of states apart.
+/// What a role can tell apart in a protocol. There is none where this is more than so many sets of
+/// states.
 pub fn sight_of(
     alloc: Global,
     protocol: &Protocol,
