@@ -1,9 +1,23 @@
 //! Which sources say the same.
 
-use crate::sources::read;
+use chor_base::{Denied, Names, Texts};
+use chor_lexer::tokens;
+use chor_parser::parse;
 use chor_tree::{File, same};
 use std::alloc::Global;
 use std::test::Fail;
+
+// The file that a source is, with tables of its own. Other sources are much shorter than these tests
+// take them.
+fn read(alloc: Global, source: &[u8]) -> Result<File, Denied> {
+    let mut names = Names::new(alloc);
+    let mut texts = Texts::new(alloc);
+    let front = &source[..source.len().min(100_000)];
+    let tokens = tokens(alloc, front, &mut names, &mut texts)?;
+    let file = parse(alloc, &tokens, names, texts);
+    drop(tokens);
+    file
+}
 
 // Whether a source says the same as a file.
 fn says_the_same(alloc: Global, file: &File, source: &[u8]) -> Result<bool, Fail> {
