@@ -1,6 +1,7 @@
 //! Bits with counts above them, against a plain list of bits.
 
 use chance::{Chance, circle};
+use chor_base::Memory;
 use counted_bits::CountedBits;
 use std::alloc::Global;
 use std::process::Abort;
@@ -35,25 +36,37 @@ fn change(counted: &mut CountedBits, bits: &mut [bool], chance: &mut Chance) {
     }
 }
 
-// So many bits, some of them set, with changes and then a bit that is looked for, again and again.
-fn agree(rt: &impl Abort, alloc: Global, count: usize) -> Result<(), Fail> {
-    let mut chance = Chance::new(count);
-    let mut counted = CountedBits::new(alloc);
-    let mut bits = Vec::new(alloc);
+// So many bits, some of them set.
+fn fill(
+    counted: &mut CountedBits,
+    bits: &mut Vec<bool>,
+    chance: &mut Chance,
+    count: usize,
+) -> Result<(), Memory> {
     for _ in 0..count {
         let bit = chance.below(3) == 0;
         counted.push(bit)?;
         bits.push(bit)?;
     }
+    Ok(())
+}
+
+// A change and then a bit that is looked for, again and again.
+fn look(rt: &impl Abort, counted: &mut CountedBits, bits: &mut [bool], chance: &mut Chance) {
     for _ in 0..400 {
-        change(&mut counted, bits.as_mut_slice(), &mut chance);
-        let number = circle(chance.below(count), 6_000);
+        change(counted, bits, chance);
+        let number = circle(chance.below(bits.len()), 6_000);
         let found = counted.nth(u32::try_from(number).unwrap_or(0));
-        assert!(rt;
-            found == plain_nth(bits.as_slice(), number),
-            "number {number} of {count}"
-        );
+        assert!(rt; found == plain_nth(bits, number), "number {number}");
     }
+}
+
+fn agree(rt: &impl Abort, alloc: Global, count: usize) -> Result<(), Fail> {
+    let mut chance = Chance::new(count);
+    let mut counted = CountedBits::new(alloc);
+    let mut bits = Vec::new(alloc);
+    fill(&mut counted, &mut bits, &mut chance, count)?;
+    look(rt, &mut counted, bits.as_mut_slice(), &mut chance);
     Ok(())
 }
 

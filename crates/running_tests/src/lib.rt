@@ -1,10 +1,27 @@
-//! Tests of endpoint code and of how events are written, by public calls alone: a wide branch takes no more stack than a narrow
-//! one, what no command shows of an event, and bits with counts above them against a plain list.
+//! Tests of what runs, by public calls alone: endpoint code and how events are written, single processes and networks, and
+//! offices. They say what no clause says: that the calls succeed where there is memory, and that they answer what was
+//! worked out by hand, or what a plainer call answers.
 #![tactic(auto)]
 
 #[cfg(test)]
+mod actor;
+#[cfg(test)]
+mod actors;
+#[cfg(test)]
 mod bits;
+#[cfg(test)]
+mod capacities;
 #[cfg(test)]
 mod codes;
 #[cfg(test)]
+mod deeds;
+#[cfg(test)]
 mod events;
+#[cfg(test)]
+mod offices;
+#[cfg(test)]
+mod programs;
+#[cfg(test)]
+mod scheduled;
+#[cfg(test)]
+mod steps;
