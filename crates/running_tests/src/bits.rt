@@ -1,6 +1,6 @@
 //! Bits with counts above them, against a plain list of bits.
 
-use chance::{Chance, circle};
+use crate::chance::{Chance, circle};
 use chor_base::Memory;
 use counted_bits::CountedBits;
 use std::alloc::Global;

@@ -12,6 +12,8 @@ mod bits;
 #[cfg(test)]
 mod capacities;
 #[cfg(test)]
+mod chance;
+#[cfg(test)]
 mod codes;
 #[cfg(test)]
 mod deeds;

@@ -1,5 +1,4 @@
 //! Numbers for tests that follow from a first one, and look as if they came by chance.
-#![tactic(auto)]
 
 /// A sequence of numbers: each is worked out from the one before it.
 #[derive(Clone, Copy)]
