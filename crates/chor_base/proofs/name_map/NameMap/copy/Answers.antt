@@ -1,8 +1,12 @@
-use Rattle.std.proofs.Common.{sym, ap, subst, ◌∙◌, refl}
+use Rattle.std.proofs.Common.{sym, ap, subst, ◌∙◌, refl, arith}
+use Rattle.std.proofs.lemmas.Grind.{common_steps}
 use Rattle.chor_base.specs.NameMap.{with_first}
 use Rattle.chor_base.proofs.NameMaps.{alike_maps}
 use Rattle.chor_base.proofs.Copies.{IsCopying, copy_goes_on, copy_ends, seen_whole}
 use Rattle.chor_base.proofs.name_map.NameMap.copy.Goals as goal
+
+pub loop-name-init : goal.loop-name-init
+loop-name-init g c = grind (arith, common_steps)
 
 pub loop-name-preserved : goal.loop-name-preserved
 loop-name-preserved g c =

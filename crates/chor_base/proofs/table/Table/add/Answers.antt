@@ -1,5 +1,6 @@
 use Rattle.std.proofs.Common.{◌≡◌, subst, sym, ap, ◌∙◌, List, ℕ, Vec, Global, Some, ◌++◌, ◌∷◌, [], length, ◌+◌, ◌<◌, ◌^◌, arith}
 use Rattle.std.proofs.Math.ListN.{length-append}
+use Rattle.std.proofs.lemmas.Grind.{elements}
 use Rattle.chor_base.specs.Words.{words_of, AllDistinct, IsShortSet, Lacks, IsNumbered}
 use Rattle.chor_base.proofs.WordTables.{words-push, distinct_more, length-words_of, numbered_more, Puts}
 use Rattle.chor_base.proofs.table.Table.add.Goals as goal
@@ -21,3 +22,6 @@ invariant_of-self-2 c =
 
 pub returns-clause-set : goal.returns-clause-set
 returns-clause-set c = (invariant_of-self-2 c).set
+
+pub returns-clause-number : goal.returns-clause-number
+returns-clause-number c = grind (arith, elements)
