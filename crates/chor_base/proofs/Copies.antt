@@ -20,6 +20,12 @@ or_none : {W : Type 0} (o : Option W) → option_or o None ≡ o
 or_none None = refl
 or_none (Some w) = refl
 
+turned : (a b : ℕ) (t : Bool) → (a == b) ≡ t → (b == a) ≡ t
+turned a b t h = grind (arith, nat_tests)
+
+same_number : (a b : ℕ) → (a == b) ≡ true → a ≡ b
+same_number a b h = grind (arith, nat_tests)
+
 module _ {V W : Type 0} (f : V → W) (all : List (NameId × V)) where
   -- the next entry is copied
   pub copy_goes_on : (old new left : List (NameId × V)) (x : NameId) (v w : V) → IsCopying f all old ((x, v) ∷ left) → f w ≡ f v
@@ -29,15 +35,12 @@ module _ {V W : Type 0} (f : V → W) (all : List (NameId × V)) where
     found = All-tail (λ e. value_at all e.0 ≡ Some e.1) (x, v) left so_far.found;
   }
     where
-      turned : (a b : ℕ) (t : Bool) → (a == b) ≡ t → (b == a) ≡ t
-      turned a b t h = grind (arith, nat_tests)
-
       at_own : (q : NameId) → x.0 ≡ q.0 → value_at all q ≡ Some v
       at_own q h = ap (λ n. lookup (λ k. n == k.0) all) (sym h) ∙ All-head (λ e. value_at all e.0 ≡ Some e.1) (x, v) left so_far.found
 
       go : (q : NameId) (t : Bool) → (x.0 == q.0) ≡ t → option_or (option_map f (value_at new q)) (option_map f (value_at left q)) ≡ option_map f (value_at all q)
       go q true h =
-          let own : x.0 ≡ q.0 = grind (arith, nat_tests) in
+          let own : x.0 ≡ q.0 = same_number x.0 q.0 h in
           ap (λ o. option_or (option_map f o) (option_map f (value_at left q))) (put q ∙ ap (λ t. cond t (Some w) (value_at old q)) h)
           ∙ ap Some same ∙ ap (option_map f) (sym (at_own q own))
       go q false h =

@@ -1,5 +1,5 @@
 -- What a list contains, item by item.
-use Rattle.std.proofs.Common.{length, ℕ, ◌≡◌, ◌<◌, List, [], ◌∷◌, arith, inl, inr, ◌⊎◌, zero, suc}
+use Rattle.std.proofs.Common.{length, ◌≡◌, ◌<◌, List, [], ◌∷◌, arith, inl, inr, ◌⊎◌, zero, suc}
 use Rattle.std.specs.Prelude.{Contains}
 
 pub nowhere : {X : Type 0} (x : X) → Contains [] x → ⊥

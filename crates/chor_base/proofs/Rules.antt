@@ -1,5 +1,5 @@
 -- Each rule's name is a letter and a digit.
-use Rattle.std.proofs.Common.{ℕ, ◌<◌, length, arith}
+use Rattle.std.proofs.Common.{◌<◌, length, arith}
 use Rattle.chor_base.specs.declared.rule.Rule.{Rule}
 use Rattle.chor_base.specs.declared.rule.Rule.TheVariants.{L1, L2, L3, L4, L5, P1, P2, P3, N1, N2, N3, G1, G2, G3, V1, V2, V3, T1, T2, T3, T4, T5, T6, T7, T8, T9, U1, U2, M1, M2, E1, E2, E3, E4}
 use Rattle.chor_base.specs.Writing.{rule_name}

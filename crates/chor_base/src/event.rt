@@ -174,7 +174,7 @@ impl List<Entry> {
 }
 
 /// Why a process that hasn't ended can't step.
-#[derive(Clone, Copy, Debug, PartialEq, Eq)]
+#[derive(Clone, Copy, PartialEq, Eq)]
 pub enum Why {
     /// The queue of this session from this role to that one is empty.
     Empty(u32, NameId, NameId),

@@ -6,7 +6,7 @@ ghost use Rattle.chor_base.specs.Faults.{fault_if, rank, comes_before, earlier, 
 use crate::rule::{Denied, Place, Refusal, Rule};
 
 /// A rule that a file violates, and where.
-#[derive(Clone, Copy, PartialEq, Eq)]
+#[derive(Clone, Copy)]
 pub struct Fault {
     pub rule: Rule,
     pub place: Place,

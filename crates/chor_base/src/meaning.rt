@@ -1,7 +1,7 @@
 //! What host functions may answer.
 
 /// An operation on two numbers.
-#[derive(Clone, Copy, PartialEq, Eq)]
+#[derive(Clone, Copy)]
 pub enum HostOp {
     /// The smaller number.
     Min,
@@ -12,7 +12,7 @@ pub enum HostOp {
 }
 
 /// What a host function may answer to two numbers.
-#[derive(Clone, Copy, PartialEq, Eq)]
+#[derive(Clone, Copy)]
 pub enum Meaning {
     /// The operation's value and nothing else.
     Exact(HostOp),

@@ -4,7 +4,7 @@ use crate::list::Word;
 use crate::memory::Memory as NoMemory;
 
 /// Where a byte stands: its line, and its column in bytes, both from 1.
-#[derive(Clone, Copy, Debug, PartialEq, Eq, PartialOrd, Ord)]
+#[derive(Clone, Copy, Debug, PartialEq, Eq)]
 pub struct Place {
     pub line: u32,
     pub col: u32,

@@ -54,6 +54,7 @@ impl Table {
     pub fn find(&self, word: &[u8]) -> Option<u32>
         ensures found { IfSome result (λ n. slice_get self.now n ≡ Some word.now) }
         ensures absent { IfNone result (Lacks self.now word.now) }
+        ensures set { IsShortSet self.now }
     {
         self.numbers.get(word).copied()
     }
@@ -77,10 +78,7 @@ impl Table {
         if let Some(number) = self.find(word) {
             return Ok(number);
         }
-        let alloc = *self.words.allocator();
-        let own = word.to_vec(alloc)?;
-        let key = word.to_vec(alloc)?;
-        self.add(own, key)
+        self.add(word)
     }
 
     pub fn copy(&self, alloc: Global) -> Result<Table, Memory>
@@ -94,11 +92,10 @@ impl Table {
         Ok(table)
     }
 
-    // One more word, which is the key too.
-    fn add(&mut self, word: Vec<u8>, key: Vec<u8>) -> Result<u32, Memory>
-        requires absent { Lacks self.old word.items }
-        requires key { key.items ≡ word.items }
-        ensures ok { OnOk result (self.new ≡ self.old ++ word.items ∷ []) }
+    // One more word.
+    fn add(&mut self, word: &[u8]) -> Result<u32, Memory>
+        requires { Lacks self.old word.now }
+        ensures ok { OnOk result (self.new ≡ self.old ++ word.now ∷ []) }
         ensures number { IfOk result (λ n. n ≡ length self.old) }
         ensures err { OnErr result (self.new ≡ self.old) }
         ensures set { IsShortSet self.new }
@@ -108,8 +105,11 @@ impl Table {
             return Err(Memory);
         }
         self.words.reserve(1)?;
+        let alloc = *self.words.allocator();
+        let own = word.to_vec(alloc)?;
+        let key = word.to_vec(alloc)?;
         self.numbers.insert(key, number as u32)?;
-        match self.words.push(word) {
+        match self.words.push(own) {
             Ok(()) => Ok(number as u32),
             Err(_) => unreachable!(),
         }

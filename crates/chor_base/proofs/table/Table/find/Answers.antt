@@ -1,6 +1,5 @@
-use Rattle.std.proofs.Common.{◌≡◌, subst, sym, ◌∙◌, List, ℕ, Option, Some}
-use Rattle.std.specs.Prelude.{slice_get, IfSome, IfNone}
-use Rattle.chor_base.specs.Words.{Lacks, number_in, words_of, IsPlaceAmong}
+use Rattle.std.proofs.Common.{subst, sym, ◌∙◌, List, ℕ, Option}
+use Rattle.chor_base.specs.Words.{number_in, IsPlaceAmong}
 use Rattle.chor_base.proofs.WordTables.{found_at, absent_at}
 use Rattle.chor_base.proofs.table.Table.find.Goals as goal
 
