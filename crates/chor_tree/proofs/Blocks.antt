@@ -9,7 +9,10 @@ use Rattle.chor_tree.specs.declared.tree.Form.{Form}
 use Rattle.chor_tree.specs.declared.tree.Form.TheVariants.{Start, Value, Label, Give, Set, Host, Show, If, Call, End}
 use Rattle.chor_tree.specs.declared.tree.Node.{Node}
 use Rattle.chor_tree.specs.declared.tree.NodeId.{NodeId}
+use Rattle.chor_tree.specs.declared.walks.Following.{Following}
+use Rattle.chor_tree.specs.declared.walks.Following.TheVariants.{Nothing, One, Either as Two}
 use Rattle.chor_tree.specs.Children.{children_of, IsClosed}
+use Rattle.chor_tree.specs.Following.{followers}
 use Rattle.chor_tree.specs.Source.{Block, Then, Either, Calls, Ends, nowhere, block_in, block_of, node_block, blocks_of, tails_of}
 use Rattle.chor_tree.specs.Same.{Same, all_same, same_named, same_term, same_statement, same_block}
 use Rattle.chor_tree.specs.Forms.{head_of}
@@ -94,6 +97,10 @@ with_none : (a : Bool) → a ≡ (a && true)
 with_none true = refl
 with_none false = refl
 
+none_with : (a : Bool) → false ≡ (a && false)
+none_with true = refl
+none_with false = refl
+
 module _ (n : Same NameId) (t : Same ℕ) where
   blocks_same : (b c : Block) → same_block n t b c ≡ (same_block n t (alone b) (alone c) && all_same (same_block n t) (tails_of b) (tails_of c))
   blocks_same (Then p s b) (Then q r c) = with_one (same_statement n t s r) (same_block n t b c)
@@ -120,6 +127,41 @@ module _ (n : Same NameId) (t : Same ℕ) where
   forms_same bs cs p q f g =
       blocks_same (block_of bs p f) (block_of cs q g)
       ∙ (λ i. same_block n t (alone_same bs p f i) (alone_same cs q g i) && all_same (same_block n t) (tails_same bs p f i) (tails_same cs q g i))
+
+  -- where the nodes differ, the blocks do
+  pub heads_differ : (bs cs : List Block) (p q : Place) (f g : Form) (b c : Block)
+      → b ≡ block_of bs p f → c ≡ block_of cs q g → same_block n t (head_of f) (head_of g) ≡ false → false ≡ same_block n t b c
+  heads_differ bs cs p q f g b c e h differ =
+      sym ((λ i. same_block n t (e i) (h i)) ∙ forms_same bs cs p q f g
+      ∙ (λ i. differ i && all_same (same_block n t) (map (block_in bs) (children_of f)) (map (block_in cs) (children_of g))))
+
+  -- where they are the same, the blocks are the same if those of what follows are
+  pub all_follow : (bs cs : List Block) (p q : Place) (f g : Form) (b c : Block) (ds es : List NodeId)
+      → b ≡ block_of bs p f → c ≡ block_of cs q g → same_block n t (head_of f) (head_of g) ≡ true → children_of f ≡ ds → children_of g ≡ es
+      → all_same (same_block n t) (map (block_in bs) ds) (map (block_in cs) es) ≡ same_block n t b c
+  all_follow bs cs p q f g b c ds es e h same k l =
+      sym ((λ i. same_block n t (e i) (h i)) ∙ forms_same bs cs p q f g
+      ∙ (λ i. same i && all_same (same_block n t) (map (block_in bs) (k i)) (map (block_in cs) (l i))))
+
+  module _ (bs cs : List Block) where
+    -- what follows two nodes is the same
+    abbrev pub follow_same : List NodeId → List NodeId → Bool
+    follow_same ds es = all_same (same_block n t) (map (block_in bs) ds) (map (block_in cs) es)
+
+    pub none_alone : (y : Following) → (y ≡ Nothing → ⊥) → false ≡ follow_same [] (followers y)
+    none_alone Nothing h = absurd (h refl)
+    none_alone (One e) h = refl
+    none_alone (Two e d) h = refl
+
+    pub one_alone : (c : NodeId) (y : Following) → ((e : NodeId) → y ≡ One e → ⊥) → false ≡ follow_same (c ∷ []) (followers y)
+    one_alone c Nothing h = refl
+    one_alone c (One e) h = absurd (h e refl)
+    one_alone c (Two e d) h = none_with (same_block n t (block_in bs c) (block_in cs e))
+
+    pub two_alone : (c d : NodeId) (y : Following) → ((e k : NodeId) → y ≡ Two e k → ⊥) → false ≡ follow_same (c ∷ d ∷ []) (followers y)
+    two_alone c d Nothing h = refl
+    two_alone c d (One e) h = none_with (same_block n t (block_in bs c) (block_in cs e))
+    two_alone c d (Two e k) h = absurd (h e k refl)
 
   -- where one node follows each of two that are the same
   pub one_follows : (bs cs : List Block) (p q : Place) (f g : Form) (b c : Block) (next other : NodeId)

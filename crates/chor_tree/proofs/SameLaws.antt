@@ -2,7 +2,7 @@
 use Rattle.std.proofs.Common.{◌≡◌, ℕ, Bool, true, false, List, [], ◌∷◌, ◌&&◌, ◌==◌, refl, ap, subst, Option, Some, None}
 use Rattle.std.specs.Prelude.{ℤ, pos, negsuc, bytes_eq, slice_get}
 use Rattle.std.specs.Cmp.Derive.{both_true}
-use Rattle.std.proofs.lemmas.Bool.{and_parts, eqb-true}
+use Rattle.std.proofs.lemmas.Bool.{and_parts, eqb-true, false≢true}
 use Rattle.std.proofs.lemmas.Bool.Decides.{Decides-eqb}
 use Rattle.std.proofs.lemmas.Slice.Eq.{bytes_eq-Decides}
 use Rattle.chor_base.specs.declared.names.NameId.{NameId}
@@ -55,28 +55,28 @@ same_bytes xs ys h = (bytes_eq-Decides xs ys).0 h
 pub found_tells : (x y : Option (List ℕ)) → same_found x y ≡ true → x ≡ y
 found_tells (Some x) (Some y) h = ap Some (same_bytes x y h)
 found_tells None None h = refl
-found_tells _ _ h = absurd cc
+found_tells _ _ h = absurd (false≢true h)
 
 pub int_tells : (y z : ℤ) → int_same y z ≡ true → y ≡ z
 int_tells (pos a) (pos b) h = ap pos (eqb-true a b h)
 int_tells (negsuc a) (negsuc b) h = ap negsuc (eqb-true a b h)
-int_tells _ _ h = absurd cc
+int_tells _ _ h = absurd (false≢true h)
 
 pub bool_tells : (a b : Bool) → bool_same a b ≡ true → a ≡ b
 bool_tells true true h = refl
 bool_tells false false h = refl
-bool_tells _ _ h = absurd cc
+bool_tells _ _ h = absurd (false≢true h)
 
 pub sort_tells : (s r : Sort) → same_sort s r ≡ true → s ≡ r
 sort_tells sort.Int sort.Int h = refl
 sort_tells sort.Bool sort.Bool h = refl
 sort_tells sort.Text sort.Text h = refl
-sort_tells _ _ h = absurd cc
+sort_tells _ _ h = absurd (false≢true h)
 
 pub unary_tells : (o p : UnOp) → same_unary o p ≡ true → o ≡ p
 unary_tells Neg Neg h = refl
 unary_tells Not Not h = refl
-unary_tells _ _ h = absurd cc
+unary_tells _ _ h = absurd (false≢true h)
 
 pub binary_tells : (o p : BinOp) → same_binary o p ≡ true → o ≡ p
 binary_tells Add Add h = refl
@@ -89,7 +89,7 @@ binary_tells Lt Lt h = refl
 binary_tells Le Le h = refl
 binary_tells And And h = refl
 binary_tells Or Or h = refl
-binary_tells _ _ h = absurd cc
+binary_tells _ _ h = absurd (false≢true h)
 
 -- ---- tests that are an equivalence, between two or three files
 
@@ -111,7 +111,7 @@ all_own p each (x ∷ xs) = all_two (each x) (all_own p each xs)
 all_turned : {A : Type 0} {p q : Same A} → Turned p q → Turned (all_same p) (all_same q)
 all_turned each [] [] h = refl
 all_turned each (x ∷ xs) (y ∷ ys) h = let a = two h in all_two (each x y a.0) (all_turned each xs ys a.1)
-all_turned each _ _ h = absurd cc
+all_turned each _ _ h = absurd (false≢true h)
 
 all_joined : {A : Type 0} {p q r : Same A} → Joined p q r → Joined (all_same p) (all_same q) (all_same r)
 all_joined each [] [] [] h k = refl
@@ -263,7 +263,7 @@ module _ {n m : Same NameId} {t u : Same ℕ} (name_turned : Turned n m) (text_t
   payload_turned (payload.Endpoint p s r) (payload.Endpoint p' s' r') h =
       let a = three h in
       all_three (named_turned p p' a.0) (named_turned s s' a.1) (named_turned r r' a.2)
-  payload_turned _ _ h = absurd cc
+  payload_turned _ _ h = absurd (false≢true h)
 
   arm_turned : Turned (same_arm n) (same_arm m)
   arm_turned x y h =
@@ -278,7 +278,7 @@ module _ {n m : Same NameId} {t u : Same ℕ} (name_turned : Turned n m) (text_t
   step_turned (step.Choice p q ms) (step.Choice p' q' ms') h =
       let a = three h in
       all_three (named_turned p p' a.0) (named_turned q q' a.1) (all_turned arm_turned ms ms' a.2)
-  step_turned _ _ h = absurd cc
+  step_turned _ _ h = absurd (false≢true h)
 
   state_turned : Turned (same_state n) (same_state m)
   state_turned x y h =
@@ -322,7 +322,7 @@ module _ {n m : Same NameId} {t u : Same ℕ} (name_turned : Turned n m) (text_t
   value_turned (Endpoint s r) (Endpoint s' r') h =
       let a = two h in
       all_two (equal_turned number_own eqb-true s s' a.0) (name_turned r r' a.1)
-  value_turned _ _ h = absurd cc
+  value_turned _ _ h = absurd (false≢true h)
 
   term_turned : Turned (same_term n t) (same_term m u)
   term_turned (Constant v) (Constant v') h = value_turned v v' h
@@ -333,7 +333,7 @@ module _ {n m : Same NameId} {t u : Same ℕ} (name_turned : Turned n m) (text_t
   term_turned (Binary o e d) (Binary o' e' d') h =
       let a = three h in
       all_three (equal_turned binary_own binary_tells o o' a.0) (term_turned e e' a.1) (term_turned d d' a.2)
-  term_turned _ _ h = absurd cc
+  term_turned _ _ h = absurd (false≢true h)
 
   statement_turned : Turned (same_statement n t) (same_statement m u)
   statement_turned (Starts c k ps qs) (Starts c' k' ps' qs') h =
@@ -357,7 +357,7 @@ module _ {n m : Same NameId} {t u : Same ℕ} (name_turned : Turned n m) (text_t
   statement_turned (Shows p e) (Shows p' e') h =
       let a = two h in
       all_two (named_turned p p' a.0) (term_turned e e' a.1)
-  statement_turned _ _ h = absurd cc
+  statement_turned _ _ h = absurd (false≢true h)
 
   block_turned : Turned (same_block n t) (same_block m u)
   block_turned (Then p s c) (Then p' s' c') h =
@@ -370,7 +370,7 @@ module _ {n m : Same NameId} {t u : Same ℕ} (name_turned : Turned n m) (text_t
       let a = three h in
       all_three (named_turned g g' a.0) (all_turned named_turned ps ps' a.1) (all_turned named_turned ks ks' a.2)
   block_turned (Ends p) (Ends p') h = refl
-  block_turned _ _ h = absurd cc
+  block_turned _ _ h = absurd (false≢true h)
 
   procedure_turned : Turned (same_procedure n t) (same_procedure m u)
   procedure_turned x y h =

@@ -6,6 +6,5 @@ pub mod Source
 pub mod Same
 pub mod Both
 pub mod Forms
-pub mod Followers
 pub mod Protocols
 pub mod Following

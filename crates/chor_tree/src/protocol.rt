@@ -61,14 +61,14 @@ pub enum ProtoStep {
 }
 
 /// A label and the state after it.
-#[derive(Clone, Copy, PartialEq, Eq)]
+#[derive(Clone, Copy)]
 pub struct ProtoArm {
     pub label: Named,
     pub next: Named,
 }
 
 /// What is sent in a step.
-#[derive(Clone, Copy, PartialEq, Eq)]
+#[derive(Clone, Copy)]
 pub enum Payload {
     /// A value of a sort.
     Plain(Sort),

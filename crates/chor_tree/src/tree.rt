@@ -12,7 +12,7 @@ use std::alloc::Global;
 pub struct NodeId(pub u32);
 
 /// A process and a role, written `p[A]`.
-#[derive(Clone, Copy, PartialEq, Eq)]
+#[derive(Clone, Copy)]
 pub struct Part {
     pub process: Named,
     pub role: Named,
@@ -129,11 +129,7 @@ impl Tree {
         ensures short { OnOk result (length self.new.nodes < 2 ^ 32) }
         ensures err { OnErr result (self.new ≡ self.old) }
     {
-        let count = self.nodes.len();
-        if count >= u32::MAX as usize {
-            return Err(Memory);
-        }
-        let number = count as u32;
+        let number = self.nodes.count();
         self.nodes.push(node)?;
         Ok(NodeId(number))
     }

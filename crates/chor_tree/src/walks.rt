@@ -7,7 +7,7 @@ ghost use Rattle.chor_tree.specs.Following.{followers};
 use crate::{Form, NodeId};
 
 /// What follows a node.
-#[derive(Clone, Copy, PartialEq, Eq)]
+#[derive(Clone, Copy)]
 pub enum Following {
     /// Nothing, after a tail.
     Nothing,

@@ -5,13 +5,13 @@ ghost use Rattle.chor_base.specs.declared.rule.Place.{Place};
 ghost use Rattle.chor_tree.specs.Children.{children_of};
 ghost use Rattle.chor_tree.specs.Source.{Ends, nowhere, block_in, block_of, blocks_of};
 ghost use Rattle.chor_tree.specs.Both.{blocks_same, procedure_same, procedures_same};
-ghost use Rattle.chor_tree.specs.Followers.{nodes_in};
 ghost use Rattle.chor_tree.specs.Forms.{is_end};
 
 use crate::comparison::both::{Both, Say};
 use crate::comparison::form::same_heads;
 use crate::file::Proc;
 use crate::tree::{Form, NodeId, Tree};
+use crate::walks::{Following, what_follows};
 
 // Whether the procedures of both files are the same, in the same order.
 pub fn same_procs(both: &Both) -> bool
@@ -69,20 +69,19 @@ fn same_blocks(both: &Both, id: NodeId, other: NodeId) -> bool
         if !same_heads(both, form, other_form) {
             return false;
         }
-        match (followers_of(form), followers_of(other_form)) {
-            (Followers::Nothing, Followers::Nothing) => return true,
-            (Followers::Next(next), Followers::Next(other_next)) => {
+        match (what_follows(form), what_follows(other_form)) {
+            (Following::Nothing, Following::Nothing) => return true,
+            (Following::One(next), Following::One(other_next)) => {
                 left = next;
                 right = other_next;
             }
-            (Followers::Branches(first, second), Followers::Branches(other_first, other_second)) =>
-                {
-                    if !same_blocks(both, first, other_first) {
-                        return false;
-                    }
-                    left = second;
-                    right = other_second;
+            (Following::Either(first, second), Following::Either(other_first, other_second)) => {
+                if !same_blocks(both, first, other_first) {
+                    return false;
                 }
+                left = second;
+                right = other_second;
+            }
             _ => return false,
         }
     }
@@ -110,29 +109,5 @@ fn is_end(form: &Form) -> bool
     match form {
         Form::End => true,
         _ => false,
-    }
-}
-
-// The nodes that follow a node.
-#[derive(Clone, Copy, PartialEq, Eq)]
-pub enum Followers {
-    Nothing,
-    Next(NodeId),
-    Branches(NodeId, NodeId),
-}
-
-fn followers_of(form: &Form) -> Followers
-    ensures { nodes_in result ≡ children_of form.now }
-{
-    match form {
-        Form::Start { next, .. }
-        | Form::Value { next, .. }
-        | Form::Label { next, .. }
-        | Form::Give { next, .. }
-        | Form::Set { next, .. }
-        | Form::Host { next, .. }
-        | Form::Show { next, .. } => Followers::Next(*next),
-        Form::If { first, second, .. } => Followers::Branches(*first, *second),
-        Form::Call { .. } | Form::End => Followers::Nothing,
     }
 }
