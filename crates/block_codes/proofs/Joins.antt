@@ -17,7 +17,7 @@ use Rattle.endpoint_code.proofs.CodeTables.{code_at-pushed}
 use Rattle.endpoint_code.specs.Labels.{HasDistinctLabels}
 use Rattle.endpoint_code.specs.LeastAbove.{HasNoneAbove}
 use Rattle.endpoint_code.specs.Trees.{CodeTree, Tests, code_at}
-use Rattle.branch_merge.specs.Merged.{Keeps}
+use Rattle.branch_merge.specs.Merged.{Keeps, IsMerged}
 use Rattle.branch_merge.proofs.ArmTables.{code_kept, kept_length}
 use Rattle.projection.specs.MergeFaults.{IsFirstOf}
 use Rattle.block_codes.specs.declared.coded.Coded.{Coded}
@@ -80,6 +80,15 @@ tested {old = old} {new = new} {g = g} x p e made a b id is true' same push at =
       subst (λ (f : Form). IsJoin (decides x.0.process f) f (code_at old x.0.code) (code_at old x.1.code) (code_at new id)) (sym is)
       (subst (λ (t : Bool). IsJoin t (If p e a b) (code_at old x.0.code) (code_at old x.1.code) (code_at new id)) (sym true')
       (code_at-pushed old new (Test made x.0.code x.1.code) id push at ∙ ap (λ y. Tests y (code_at old x.0.code) (code_at old x.1.code)) same));
+}
+
+-- the code of a process that doesn't decide
+pub merged_apart : {old new : List CodeNode} {g : Form} (x : Branched) (p : Written) (e : Expr) (a b : NodeId) (id : CodeId) → g ≡ If p e a b → (x.0.process.0 == p.name.0) ≡ false → Keeps old new
+    → IsMerged old new x.0.code x.1.code id → IsJoinedAt old new g x id
+merged_apart {old = old} {new = new} {g = g} x p e a b id is other k m = record {
+  kept = k;
+  inside = m.inside;
+  code = subst (λ (t : Bool). IsJoin t g (code_at old x.0.code) (code_at old x.1.code) (code_at new id)) (sym (ap (decides x.0.process) is ∙ other)) m.least;
 }
 
 -- one turn of the loop

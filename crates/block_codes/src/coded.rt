@@ -4,7 +4,7 @@ use chor_base::NameId;
 use endpoint_code::CodeId;
 
 /// A process and where its code stands.
-#[derive(Clone, Copy, PartialEq, Eq)]
+#[derive(Clone, Copy)]
 pub struct Coded {
     pub process: NameId,
     pub code: CodeId,

@@ -7,7 +7,7 @@ use chor_base::{Memory, NameId, Place};
 use thiserror::Error;
 
 /// Why the processes of a block have no codes.
-#[derive(Clone, Copy, Debug, PartialEq, Eq, Error)]
+#[derive(Clone, Copy, Debug, Error)]
 pub enum Stop {
     /// The process can't tell the branches of the conditional at this place apart.
     #[error("a process can't tell two branches apart")]
