@@ -10,7 +10,7 @@ use Rattle.std.proofs.Math.Seq.{take-append_seam}
 use Rattle.chor_tree.specs.declared.file.Named.{Named}
 use Rattle.chor_tree.specs.declared.tree.Part.{Part}
 use Rattle.chor_tree.specs.Names.{is_among, names_in, are_same, Scope}
-use Rattle.name_resolution.specs.Sets.{AreAlike, with_name, Grows, BeginsWith, scope_of}
+use Rattle.name_resolution.specs.Sets.{AreAlike, IsSameScope, with_name, Grows, BeginsWith, scope_of}
 
 turned : (a b : ℕ) → (a == b) ≡ (b == a)
 turned a b = grind (arith, nat_tests)
@@ -144,6 +144,12 @@ lengths_differ (q ∷ qs) (r ∷ rs) h = ap (λ b. (q.role.name.0 == r.name.0) &
 
 pub begins_on : (s t u : Scope) → BeginsWith s t → BeginsWith t u → BeginsWith s u
 begins_on s t u g h = record { processes = grows_on s.processes t.processes u.processes g.processes h.processes; sessions = grows_on s.sessions t.sessions u.sessions g.sessions h.sessions }
+
+pub begins_itself : (s : Scope) → BeginsWith s s
+begins_itself s = record { processes = grows_itself s.processes; sessions = grows_itself s.sessions }
+
+pub scope_itself : (s : Scope) → IsSameScope s s
+scope_itself s = record { processes = alike_itself s.processes; sessions = alike_itself s.sessions }
 
 -- what was bound at a mark is bound again
 pub back_at : (s t u : Scope) (ps ks : ℕ) → BeginsWith s t → ps ≡ length s.processes → ks ≡ length s.sessions → u ≡ scope_of (take ps t.processes) (take ks t.sessions) → u ≡ s

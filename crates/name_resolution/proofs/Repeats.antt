@@ -5,13 +5,14 @@ use Rattle.std.specs.Prelude.{slice_index_or, Option}
 use Rattle.chor_base.specs.declared.names.NameId.{NameId}
 use Rattle.chor_base.specs.declared.rule.Rule.TheVariants.{N2}
 use Rattle.chor_tree.specs.declared.file.Named.{Named}
+use Rattle.chor_tree.specs.declared.tree.Part.{Part}
 use Rattle.chor_base.specs.declared.fault.Fault.{Fault}
 use Rattle.chor_tree.specs.Names.{is_among, names_in, fault_at, repeated, Scope}
 use Rattle.chor_base.specs.Faults.{earlier, first_of_all}
 use Rattle.name_resolution.specs.Places.{names_of}
-use Rattle.name_resolution.specs.Sets.{AreAlike, with_name}
-use Rattle.chor_base.proofs.Faults.{first_append, earlier_assoc}
-use Rattle.name_resolution.proofs.Members.{alike_turn, among_append, with_first_of_two, with_second_of_two}
+use Rattle.name_resolution.specs.Sets.{AreAlike, IsSameScope, BeginsWith, Grows, with_name, scope_of, bound_in}
+use Rattle.chor_base.proofs.Faults.{first_append, earlier_assoc, earlier_none}
+use Rattle.name_resolution.proofs.Members.{alike_turn, among_append, with_last, with_first_of_two, with_second_of_two, grows_on, grows_with}
 
 pub repeated_alike : (ks ls : List NameId) (xs : List Named) → AreAlike ks ls → repeated ks xs ≡ repeated ls xs
 repeated_alike ks ls [] h = refl
@@ -64,6 +65,19 @@ known_turn f known new all ys xs i x d n same lt is_x is_n is_new so_far =
     let before : AreAlike (known ++ n.name ∷ rest) all = subst (λ l. AreAlike (known ++ l) all) (ap (λ l. names_of f l) (taken_from ys xs i x d same lt is_x) ∙ ap (λ m. m.name ∷ rest) (sym is_n)) so_far in
     subst (λ l. AreAlike (l ++ rest) all) (sym is_new) (alike_turn known all n.name rest before)
 
+-- a name is looked for in a list
+module _ {X : Type 0} (f : X → Named) (xs : List X) (i : ℕ) (x : X) (n : Named) (name : NameId) where
+  looked : (b : Bool) → i < length xs → x ≡ slice_index_or xs i x → n ≡ f x → (n.name.0 == name.0) ≡ b → is_among (names_of f (drop i xs)) name ≡ (b || is_among (names_of f (drop (i + 1) xs)) name)
+  looked b lt is_x is_n same =
+      let rest = is_among (names_of f (drop (i + 1) xs)) name in
+      ap (λ l. is_among (names_of f l) name) (taken xs i x x lt is_x) ∙ ap (λ m. (m.name.0 == name.0) || rest) (sym is_n) ∙ ap (λ b. b || rest) same
+
+  pub found_here : i < length xs → x ≡ slice_index_or xs i x → n ≡ f x → (n.name.0 == name.0) ≡ true → is_among (names_of f (drop i xs)) name ≡ true
+  found_here = looked true
+
+  pub not_here : i < length xs → x ≡ slice_index_or xs i x → n ≡ f x → (n.name.0 == name.0) ≡ false → is_among (names_of f (drop (i + 1) xs)) name ≡ is_among (names_of f (drop i xs)) name
+  not_here lt is_x is_n other = sym (looked false lt is_x is_n other)
+
 -- in two lists, one after the other
 pub repeated_append : (ks ls : List NameId) (xs ys : List Named) → AreAlike ls (ks ++ names_in xs) → repeated ks (xs ++ ys) ≡ repeated ks xs ++ repeated ls ys
 repeated_append ks ls [] ys h = repeated_alike ks ls ys (λ y. ap (λ l. is_among l y) (sym (append-nil ks)) ∙ sym (h y))
@@ -78,7 +92,29 @@ repeated_append ks ls (x ∷ xs) ys h =
         shuffled false true c = refl
         shuffled false false c = refl
 
+-- nothing is left of the list
+pub repeated_ends : {X : Type 0} (f : X → Named) (known : List NameId) (first whole : Option Fault) (ys xs : List X) (i : ℕ)
+    → ys ≡ xs → length ys ≤ i → earlier first (first_of_all (repeated known (map f (drop i xs)))) ≡ whole → first ≡ whole
+repeated_ends f known first whole ys xs i same le h =
+    let none : drop i xs ≡ [] = drop_all i xs (subst (λ l. length l ≤ i) same le) in
+    sym (earlier_none first) ∙ ap (λ l. earlier first (first_of_all (repeated known (map f l)))) (sym none) ∙ h
+
 -- ---- in a scope
+
+-- a session came into the scope, and then processes did
+pub bound_on : (s inside t : Scope) (new : List NameId) (k : Named) (serve : List Part) → inside ≡ s → new ≡ with_name inside.sessions k.name
+    → IsSameScope t (scope_of (inside.processes ++ map (λ q. q.process.name) serve) new) → IsSameScope t (bound_in s k serve)
+bound_on s inside t new k serve e is h = record {
+  processes = λ y. h.processes y ∙ ap (λ u. is_among (u.processes ++ map (λ q. q.process.name) serve) y) e;
+  sessions = λ y. h.sessions y ∙ ap (λ l. is_among l y) is ∙ with_last inside.sessions k.name y ∙ ap (λ u. is_among (u.sessions ++ k.name ∷ []) y) e;
+}
+
+pub begins_bound : (s inside t : Scope) (new : List NameId) (k : Named) → inside ≡ s → new ≡ with_name inside.sessions k.name
+    → BeginsWith (scope_of inside.processes new) t → BeginsWith s t
+begins_bound s inside t new k e is h = subst (λ u. BeginsWith u t) e (record {
+  processes = h.processes;
+  sessions = grows_on inside.sessions new t.sessions (subst (λ l. Grows inside.sessions l) (sym is) (grows_with inside.sessions k.name)) h.sessions;
+})
 
 pub alike_here : (s inside : Scope) (new : List NameId) (x : NameId) → inside ≡ s → new ≡ with_name inside.processes x → AreAlike (new ++ inside.sessions) (x ∷ (s.processes ++ s.sessions))
 alike_here s inside new x e is =

@@ -2,7 +2,8 @@
 use Rattle.std.proofs.Common.{◌≡◌, ℕ, ◌+◌, ◌<◌, ◌≤◌, length, drop, List, [], ◌∷◌, ◌++◌, map, refl, ap, sym, ◌∙◌, subst, not, inl, inr, ◌⊎◌}
 use Rattle.std.specs.List.{flat_map}
 use Rattle.std.proofs.lemmas.List.{drop_all}
-use Rattle.std.specs.Prelude.{Option, Some, None, Contains, slice_get, slice_index_or}
+use Rattle.std.specs.Prelude.{Option, Some, None, Contains, slice_get, slice_index_or, IfOk, Result}
+use Rattle.std.proofs.lemmas.Result.{IfOk-weaker}
 use Rattle.chor_base.specs.declared.names.NameId.{NameId}
 use Rattle.chor_base.specs.declared.rule.Rule.TheVariants.{N1}
 use Rattle.chor_tree.specs.declared.file.Named.{Named}
@@ -160,6 +161,9 @@ module _ (f : File) (hosts : List (List ℕ)) where
   first_same s t id o same h =
       first_along (λ x. IsBodyFault f hosts x s id) (λ x. IsBodyFault f hosts x t id) o h
       (λ x b. body_same f hosts x s t id same b) (λ x b. body_same f hosts x t s id (turned_scope s t same) b)
+
+  pub ok_same : {E : Type 0} (s t : Scope) (id : NodeId) (r : Result (Option Fault) E) → IsSameScope s t → IfOk r (IsFirst (λ x. IsBodyFault f hosts x s id)) → IfOk r (IsFirst (λ x. IsBodyFault f hosts x t id))
+  ok_same s t id r same = IfOk-weaker r (IsFirst (λ x. IsBodyFault f hosts x s id)) (IsFirst (λ x. IsBodyFault f hosts x t id)) (λ o. first_same s t id o same)
 
   -- ---- bodies of procedures
 

@@ -161,6 +161,5 @@ pub fn twice_in<T: HasName>(alloc: Global, items: &List<T>) -> Result<Option<Fau
     ensures { IfOk result (λ o. o ≡ first_of_all (repeated [] (map T.name_of items.now))) }
 {
     let mut known = NameSet::new(alloc);
-    let found = repeated(&mut known, items)?;
-    Ok(found)
+    repeated(&mut known, items)
 }

@@ -66,8 +66,7 @@ impl<'a> Declared<'a> {
         ensures { let file = self.now.file.now in IfOk result (IsFirst (λ x. IsBodyFault file (names_of (functions_of hosts.now)) x (scope_of_main file) file.body)) }
     {
         let mut bound = Bound::of_main(alloc, &self.file.processes)?;
-        let first = self.first_in_body(hosts, &mut bound, self.file.body)?;
-        Ok(first)
+        self.first_in_body(hosts, &mut bound, self.file.body)
     }
 
     // The first fault in the bodies of procedures.
@@ -95,7 +94,6 @@ impl<'a> Declared<'a> {
         ensures { let file = self.now.file.now in IfOk result (IsFirst (λ x. IsBodyFault file (names_of (functions_of hosts.now)) x (scope_of_procedure procedure.now) procedure.now.body)) }
     {
         let mut bound = Bound::of_procedure(alloc, procedure)?;
-        let first = self.first_in_body(hosts, &mut bound, procedure.body)?;
-        Ok(first)
+        self.first_in_body(hosts, &mut bound, procedure.body)
     }
 }
