@@ -1,6 +1,6 @@
 -- The channels of a file, group by group.
 use Rattle.std.proofs.Common.{◌≡◌, ℕ, zero, suc, ◌<◌, Bool, true, false, nat_lt, length, List, [], ◌∷◌, ◌++◌, refl, ap, sym, subst, inl, inr, ◌⊎◌, arith}
-use Rattle.std.specs.Prelude.{Option, Contains, slice_index_or, if◌then◌else◌}
+use Rattle.std.specs.Prelude.{Option, None, Result, Ok, Err, IfOk, OnOk, Contains, slice_index_or, if◌then◌else◌}
 use Rattle.std.proofs.lemmas.Bool.Decides.{nat_tests}
 use Rattle.chor_base.specs.declared.names.NameId.{NameId}
 use Rattle.chor_base.specs.declared.fault.Fault.{Fault}
@@ -151,3 +151,12 @@ file_linear f cs is have none s declared more =
     let k = have a (subst (λ l. Contains l a) (sym is) (service_among f.services s declared more)) in
     orders_linear (procedures_of f) (main_of f) a k.0 k.1
     (no_fault_ordered f a k.0 (λ x u. none x (record { service = s; declared = declared; several = more; sets = k.0; greatest = k.1; unordered = u })))
+
+-- the answer on the channels of several roles is that on the file
+pub file_judged : {E : Type 0} (f : File) (cs : List NameId) (r : Result (Option Fault) E) → cs ≡ several f.services → IfOk r (IsFirst (IsOrderFaultOf f cs)) → OnOk r (HaveGreatest f cs) → IfOk r (λ o. o ≡ None → IsLinearFile f)
+file_judged f cs (Ok o) is h have = λ none. file_linear f cs is have (subst (λ p. IsFirst (IsOrderFault f) p) none (file_first f cs o is h))
+file_judged f cs (Err e) is h have = tt
+
+pub on_ok_always : {A E : Type 0} (r : Result A E) (P : Type 0) → P → OnOk r P
+on_ok_always (Ok a) P p = p
+on_ok_always (Err e) P p = tt

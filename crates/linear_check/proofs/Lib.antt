@@ -5,3 +5,4 @@ mod WalksOn
 mod Faults
 mod Settled
 mod Groups
+mod Gathering

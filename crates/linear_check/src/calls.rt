@@ -25,10 +25,7 @@ impl Heard {
                 name,
                 processes,
                 ..
-            } => {
-                let changed = self.take_in_call(name.name, processes, sets)?;
-                Ok(changed)
-            }
+            } => self.take_in_call(name.name, processes, sets),
             _ => Ok(false),
         }
     }

@@ -33,8 +33,7 @@ pub fn first_unordered(alloc: Global, file: &File) -> Result<Option<Fault>, Memo
     ensures linear { IfOk result (λ first. first ≡ None → IsLinearFile file.now) }
 {
     let channels = channels_of_several(alloc, file.services.as_slice())?;
-    let first = first_in_groups(alloc, file, channels.as_slice())?;
-    Ok(first)
+    first_in_groups(alloc, file, channels.as_slice())
 }
 
 // The channels with two or more active roles.
@@ -56,8 +55,7 @@ fn first_in_groups(alloc: Global, file: &File, channels: &[NameId]) -> Result<Op
     ensures greatest { OnOk result (HaveGreatest file.now channels.now) }
 {
     if channels.len() <= 128 {
-        let first = first_in_group(alloc, file, channels)?;
-        return Ok(first);
+        return first_in_group(alloc, file, channels);
     }
     let (front, back) = channels.split_at(128);
     let here = first_in_group(alloc, file, front)?;
@@ -76,6 +74,5 @@ fn first_in_group(alloc: Global, file: &File, channels: &[NameId]) -> Result<Opt
         channels: Channels::new(channels),
     };
     let sets = group.greatest_sets(alloc)?;
-    let first = group.first_under(alloc, &sets)?;
-    Ok(first)
+    group.first_under(alloc, &sets)
 }

@@ -66,8 +66,7 @@ impl<'a> Group<'a> {
         ensures same { IfOk result (λ changed. changed ≡ false → sets.new ≡ sets.old) }
     {
         let heard = heard_in(alloc, procedure, sets)?;
-        let changed = self.take_from(alloc, heard, procedure.body, sets)?;
-        Ok(changed)
+        self.take_from(alloc, heard, procedure.body, sets)
     }
 
     // The first start that isn't ordered under these sets.

@@ -33,8 +33,7 @@ impl Heard {
                 ..
             } => {
                 let (active, serve) = (active.as_slice(), serve.as_slice());
-                self.after_start(alloc, channels, channel.name, active, serve)?;
-                Ok(())
+                self.after_start(alloc, channels, channel.name, active, serve)
             }
             Form::Value { from, to, .. }
             | Form::Label { from, to, .. }
@@ -67,8 +66,7 @@ impl Heard {
         let brought = self.any_of(active).or(own);
         self.forget(alloc, channels, channel, own)?;
         self.add_all(active, brought)?;
-        self.add_all(serve, brought)?;
-        Ok(())
+        self.add_all(serve, brought)
     }
 
     // No process has heard of the channels that have a name, which are these own ones. Where no

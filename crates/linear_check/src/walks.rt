@@ -37,10 +37,7 @@ impl<'a> Group<'a> {
         let mut at = id;
         while let Some(node) = self.node_at(at) {
             match what_follows(&node.form) {
-                Following::Nothing => {
-                    let changed = heard.take_at(&node.form, sets)?;
-                    return Ok(changed);
-                }
+                Following::Nothing => return heard.take_at(&node.form, sets),
                 Following::One(next) => {
                     heard.after(alloc, &self.channels, &node.form)?;
                     at = next;

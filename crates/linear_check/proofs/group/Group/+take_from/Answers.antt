@@ -1,5 +1,6 @@
-use Rattle.std.proofs.Common.{◌<◌, ◌∷◌, [], refl, sym, ap, ◌∙◌, subst, arith}
+use Rattle.std.proofs.Common.{◌≡◌, false, ◌<◌, ◌∷◌, [], refl, sym, ap, ◌∙◌, subst, arith}
 use Rattle.std.specs.Prelude.{Contains, option_copied}
+use Rattle.std.proofs.lemmas.Result.{IfOk-weaker, on_ok_weaker}
 use Rattle.chor_tree.specs.Source.{body_of}
 use Rattle.linear_check.specs.Tracks.{Tracks}
 use Rattle.linear_check.specs.Takes.{TakesAway}
@@ -9,15 +10,25 @@ use Rattle.linear_check.proofs.PassedOn.{neither}
 use Rattle.linear_check.proofs.WalksOn.{begins, goes_on, tail_away, past_away, branches_away}
 use Rattle.linear_check.proofs.group.Group.+take_from.Goals as goal
 
+pub take_at-requires : goal.take_at-requires
+take_at-requires t c = sym c.in-Nothing.ensures
+
 pub returns-in-Nothing-clause-taken : goal.returns-in-Nothing-clause-taken
-returns-in-Nothing-clause-taken t c = λ m tracks.
+returns-in-Nothing-clause-taken t c =
     let f = c.args.self.now.file.now in
     let cs = c.args.self.now.channels.names.now in
     let n = c.in-Some.node.now in
-    let g = c.loop-node.invariant.on m tracks in
     let new = c.take_at.new.sets in
+    on_ok_weaker c.take_at.result
+    (λ taken m tracks. let g = c.loop-node.invariant.on m tracks in
     subst (λ s. TakesAway cs m (body_of f c.args.id) s new) c.loop-node.invariant.same
-    (g.rest c.loop-node.sets new (tail_away f cs c.loop-node.heard g.members c.loop-node.sets new c.loop-node.at n c.args.self.now.channels.few (sym c.in-Some.ensures) g.tracks c.in-Nothing.ensures c.in_ok-changed-in-Nothing.ensures.taken))
+    (g.rest c.loop-node.sets new (tail_away f cs c.loop-node.heard g.members c.loop-node.sets new c.loop-node.at n c.args.self.now.channels.few (sym c.in-Some.ensures) g.tracks c.in-Nothing.ensures taken)))
+    c.take_at.ensures.taken
+
+pub returns-in-Nothing-clause-same : goal.returns-in-Nothing-clause-same
+returns-in-Nothing-clause-same t c =
+    let new = c.take_at.new.sets in
+    IfOk-weaker c.take_at.result (λ b. b ≡ false → new ≡ c.loop-node.sets) (λ b. b ≡ false → new ≡ c.args.sets.now) (λ b h e. h e ∙ c.loop-node.invariant.same) c.take_at.ensures.same
 
 pub loop-node-smaller : goal.loop-node-smaller
 loop-node-smaller t c =
@@ -88,3 +99,6 @@ returns-clause-taken t c = λ m tracks.
     let g = c.loop-node.invariant.on m tracks in
     subst (λ s. TakesAway cs m (body_of f c.args.id) s c.loop-node.sets) c.loop-node.invariant.same
     (g.rest c.loop-node.sets c.loop-node.sets (past_away f cs g.members c.loop-node.sets c.loop-node.at (sym (ap option_copied c.in_default.is) ∙ c.node_at.ensures)))
+
+pub returns-clause-same : goal.returns-clause-same
+returns-clause-same t c = λ e. c.loop-node.invariant.same
