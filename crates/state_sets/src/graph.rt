@@ -47,8 +47,7 @@ pub fn groups(alloc: Global, moves: &[Move], names: &Names) -> Result<Vec<Group>
         all.append(&mut more)?;
     }
     let sorted = by_labels(alloc, all.as_slice(), names)?;
-    let groups = groups_of(alloc, parts.as_slice(), sorted.as_slice())?;
-    Ok(groups)
+    groups_of(alloc, parts.as_slice(), sorted.as_slice())
 }
 
 // The moves in which the role acts, cut into parts by the numbers of their labels. An act is compared

@@ -27,8 +27,7 @@ pub fn by_labels(alloc: Global, acts: &[Act], names: &Names) -> Result<Vec<Act>,
 {
     let mut keyed = with_keys(alloc, acts, names)?;
     keyed.sort_by(|one, other| by_key(names, one, other))?;
-    let sorted = acts_of(alloc, keyed.as_slice())?;
-    Ok(sorted)
+    acts_of(alloc, keyed.as_slice())
 }
 
 // These acts with their keys.

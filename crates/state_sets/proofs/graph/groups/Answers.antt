@@ -2,7 +2,10 @@ use Rattle.std.proofs.Common.{◌≡◌, ◌<◌, ◌∙◌, List, sym, ap, subs
 use Rattle.std.specs.Prelude.{Vec}
 use Rattle.std.specs.declared.alloc.Global.{Global}
 use Rattle.state_sets.specs.declared.moves.Move.{Move}
-use Rattle.state_sets.specs.Graph.{AreParts}
+use Rattle.std.proofs.lemmas.Result.{IfOk-weaker}
+use Rattle.state_sets.specs.Ascending.{Ascend}
+use Rattle.state_sets.specs.Graph.{AreParts, AreGroups, AreGroupsOf}
+use Rattle.state_sets.specs.Table.{group_words}
 use Rattle.state_sets.proofs.Parts.{part_of}
 use Rattle.state_sets.proofs.Gathered.{acts_begin, acts_add, acts_all, groups_are, groups_ascend}
 use Rattle.state_sets.proofs.graph.groups.Goals as goal
@@ -35,8 +38,14 @@ returns-clause-are c =
     let value = c.as_slice-part-items.ensures.value in
     let some : 0 < length seen = (let e : length seen ≡ length c.in_ok-parts.parts.items = ap (λ (l : List (Vec Move Global)). length l) value in let s = c.in_ok-parts.ensures.some in omega (arith, e, s)) in
     let are = acts_all (length seen) moves c.loop-part.part-index c.loop-part.all.items c.as_slice-2.result.now c.in_ok-sorted.sorted.items some c.loop-part-test.false c.loop-part.invariant c.as_slice-2.ensures.value c.in_ok-sorted.ensures.order in
-    groups_are (length seen) moves seen c.as_slice-3.result.now c.in_ok-sorted.sorted.items c.as_slice-4.result.now c.in_ok-groups.groups.items
-    (parts_handed moves c.in_ok-parts.parts.items seen value c.in_ok-parts.ensures.parts) (c.as_slice-3.ensures.value ∙ sym value) are c.as_slice-4.ensures.value c.in_ok-groups.ensures
+    IfOk-weaker c.groups_of.result (λ v. AreGroupsOf c.as_slice-3.result.now c.as_slice-4.result.now v.items) (λ v. AreGroups moves v.items)
+    (λ v. groups_are (length seen) moves seen c.as_slice-3.result.now c.in_ok-sorted.sorted.items c.as_slice-4.result.now v.items
+    (parts_handed moves c.in_ok-parts.parts.items seen value c.in_ok-parts.ensures.parts) (c.as_slice-3.ensures.value ∙ sym value) are c.as_slice-4.ensures.value)
+    c.groups_of.ensures
 
 pub returns-clause-ascend : goal.returns-clause-ascend
-returns-clause-ascend c = groups_ascend c.args.names.now c.as_slice-3.result.now c.in_ok-sorted.sorted.items c.as_slice-4.result.now c.in_ok-groups.groups.items c.as_slice-4.ensures.value c.in_ok-groups.ensures c.in_ok-sorted.ensures.ascend
+returns-clause-ascend c =
+    let names = c.args.names.now in
+    IfOk-weaker c.groups_of.result (λ v. AreGroupsOf c.as_slice-3.result.now c.as_slice-4.result.now v.items) (λ v. Ascend (group_words names v.items))
+    (λ v of. groups_ascend names c.as_slice-3.result.now c.in_ok-sorted.sorted.items c.as_slice-4.result.now v.items c.as_slice-4.ensures.value of c.in_ok-sorted.ensures.ascend)
+    c.groups_of.ensures
