@@ -1,10 +1,10 @@
-use Rattle.std.proofs.Common.{ℕ, List, ◌≡◌, ◌<◌, ◌≤◌, sym, refl, subst, ◌∙◌, inl, inr, length, arith}
+use Rattle.std.proofs.Common.{ℕ, List, ◌≡◌, ◌+◌, ◌<◌, ◌≤◌, sym, refl, subst, ◌∙◌, inl, inr, length, arith}
 use Rattle.std.specs.Prelude.{◌⊎◌, slice_index_or}
 use Rattle.global_types.specs.Moves.{IsIn}
 use Rattle.state_sets.specs.declared.graph.Edge.{Edge}
 use Rattle.state_sets.specs.Sets.{Has}
 use Rattle.state_sets.specs.Numbering.{leads_to, IsNumberOf}
-use Rattle.state_sets.proofs.Tables.{group_among, sizes_more}
+use Rattle.state_sets.proofs.Tables.{group_among, sizes_more, word_longer, word_count}
 use Rattle.state_sets.proofs.Allowed.{IsTurn, found_grown, found_in, found_out, found_same, found_begin, found_end}
 use Rattle.state_sets.proofs.Ascents.{arms_ascend_end}
 use Rattle.state_sets.proofs.table.arms.Goals as goal
@@ -47,6 +47,31 @@ returns-then-len-most-clause-grown c =
     found_grown c.args.groups.now c.args.numbers.now still first c.loop-number.number-index c.loop-number.place _ old c.loop-number.arms.items c.index-groups-number.result n.word new
     (record { was = c.loop-number.invariant.found; rising = c.requires.rising; allowed = c.requires.allowed; short = c.loop-number-test.true; from = c.if-place-number.true; within = c.if-number-groups.true; is = c.index-groups-number.is })
     (subst (λ l. Allowed still l) c.as_slice.ensures c.if-is_allowed.ensures) n.set n.added
+
+pub returns-then-len-most-clause-distinct : goal.returns-then-len-most-clause-distinct
+returns-then-len-most-clause-distinct c = c.in_ok-next.ensures.distinct
+
+pub returns-then-len-most-clause-singles : goal.returns-then-len-most-clause-singles
+returns-then-len-most-clause-singles c = c.in_ok-next.ensures.singles
+
+pub returns-then-len-most-clause-longer : goal.returns-then-len-most-clause-longer
+returns-then-len-most-clause-longer c =
+    let first = c.args.numbering.now.sets in
+    let old = c.loop-number.numbering.sets in
+    let new = c.number_after.new.numbering.sets in
+    let n = number_of c.args.still.now c.as_slice-then-is_allowed.result.now c.index-groups-number.result.edges.items old new c.in_ok-next.next c.as_slice-then-is_allowed.ensures c.in_ok-next.ensures.number in
+    word_longer first old new n.word n.added c.loop-number.invariant.found.so_far.longer
+
+pub returns-then-len-most-clause-count : goal.returns-then-len-most-clause-count
+returns-then-len-most-clause-count c =
+    let old = c.loop-number.numbering.sets in
+    let new = c.number_after.new.numbering.sets in
+    let n = number_of c.args.still.now c.as_slice-then-is_allowed.result.now c.index-groups-number.result.edges.items old new c.in_ok-next.next c.as_slice-then-is_allowed.ensures c.in_ok-next.ensures.number in
+    let one_more : length new ≤ length old + 1 = subst (λ l. length l ≤ length old + 1) (sym n.added) (word_count old n.word) in
+    let few = c.loop-number.invariant.few in
+    let above = c.if-len-most.true in
+    let count = c.len.ensures.len in
+    omega (arith, one_more, few, above, count)
 
 pub loop-number-init : goal.loop-number-init
 loop-number-init c = rw c.new-arms.ensures.items (record {
@@ -102,3 +127,24 @@ returns-clause-arms c = found_end c.args.groups.now c.args.numbers.now c.args.st
 
 pub returns-clause-ascend : goal.returns-clause-ascend
 returns-clause-ascend c = λ names up. arms_ascend_end names c.args.groups.now c.loop-number.place c.loop-number.arms.items (c.loop-number.invariant.found.so_far.ascend names up)
+
+pub returns-clause-distinct : goal.returns-clause-distinct
+returns-clause-distinct c = c.loop-number.invariant.found.so_far.distinct
+
+pub returns-clause-singles : goal.returns-clause-singles
+returns-clause-singles c = c.loop-number.invariant.singles
+
+pub returns-clause-longer : goal.returns-clause-longer
+returns-clause-longer c = c.loop-number.invariant.found.so_far.longer
+
+pub returns-clause-sizes : goal.returns-clause-sizes
+returns-clause-sizes c = c.loop-number.invariant.found.so_far.sizes
+
+pub returns-clause-count : goal.returns-clause-count
+returns-clause-count c = c.loop-number.invariant.few
+
+pub returns-clause-grown : goal.returns-clause-grown
+returns-clause-grown c = c.loop-number.invariant.found.so_far.grown
+
+pub returns-clause-numbered : goal.returns-clause-numbered
+returns-clause-numbered c = c.loop-number.invariant.found.so_far.numbered
