@@ -1,4 +1,4 @@
-use Rattle.std.proofs.Common.{ℕ, List, ◌≡◌, sym, ap, ◌∙◌, subst, length, arith}
+use Rattle.std.proofs.Common.{ℕ, List, ◌≡◌, ◌≤◌, sym, ap, ◌∙◌, subst, length, arith}
 use Rattle.std.proofs.lemmas.Option.{MatchOption-at_some, MatchOption-at_none}
 use Rattle.chor_base.specs.declared.names.NameId.{NameId}
 use Rattle.chor_tree.specs.declared.protocol.State.{State}
@@ -61,3 +61,9 @@ pub returns-in-Some-clause-ascend : goal.returns-in-Some-clause-ascend
 returns-in-Some-clause-ascend c =
     MatchOption-at_some (Unit {0}) (λ v. (names : List (List ℕ)) → Ascend (group_words names c.as_slice-5.result.now) → HasAscendingArms names v.items) c.in-Some.rows c.in-Some.is c.in_ok-rows.ensures.ascend c.args.names.now
     (subst (λ gs. Ascend (group_words c.args.names.now gs)) (sym c.as_slice-5.ensures.value) c.in_ok-groups.ensures.ascend)
+
+pub rows-requires-clause-some : goal.rows-requires-clause-some
+rows-requires-clause-some c = c.requires
+
+pub returns-in-Some-clause-few : goal.returns-in-Some-clause-few
+returns-in-Some-clause-few c = MatchOption-at_some (Unit {0}) (λ v. length v.items ≤ c.args.most) c.in-Some.rows c.in-Some.is c.in_ok-rows.ensures.few

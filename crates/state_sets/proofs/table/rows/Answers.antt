@@ -87,3 +87,12 @@ returns-clause-ascend c = c.loop-alloc.invariant.so_far.ascend
 pub returns-clause-table : goal.returns-clause-table
 returns-clause-table c = rows_end c.args.groups.now c.args.reach.now c.loop-alloc.numbering.sets c.loop-alloc.rows.items c.loop-alloc.invariant.so_far
     (let a = c.loop-alloc-test.false in let b = c.len.ensures in let d : vec_len c.loop-alloc.rows ≡ length c.loop-alloc.rows.items = c.loop-alloc.rows.ok.0 in let e = c.len-in-loop-alloc.ensures.len in omega (arith, a, b, d, e))
+
+pub arms-requires-clause-few : goal.arms-requires-clause-few
+arms-requires-clause-few c = c.loop-alloc.invariant.few
+
+pub arms-requires-clause-distinct : goal.arms-requires-clause-distinct
+arms-requires-clause-distinct c = c.loop-alloc.invariant.so_far.distinct
+
+pub returns-clause-few : goal.returns-clause-few
+returns-clause-few c = let done = c.loop-alloc.invariant.so_far.done in let few = c.loop-alloc.invariant.few in omega (arith, done, few)
