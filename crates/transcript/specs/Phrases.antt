@@ -1,15 +1,14 @@
 -- The texts of messages, in two parts (this project's own).
-use Rattle.std.specs.Prelude.{◌≡◌, ℕ, List, [], ◌++◌, Option, Some, None, codes, All}
+use Rattle.std.specs.Prelude.{ℕ, List, [], ◌++◌, codes}
 use Rattle.std.specs.Fmt.{decimal}
 use Rattle.chor_base.specs.declared.value.Value.TheVariants.{Int, Bool as Truth, Text, Part as Endpoint}
 use Rattle.chor_base.specs.declared.value.Load.{Load}
 use Rattle.chor_base.specs.declared.value.Load.TheVariants.{Value as Carries, Label as Picks}
 use Rattle.chor_base.specs.declared.event.Event.{Event}
 use Rattle.chor_base.specs.declared.event.Event.TheVariants.{Start, Send, Recv, Test, Set, Show, Host}
-use Rattle.transcript.specs.declared.phrases.Verb.{Verb}
-use Rattle.transcript.specs.declared.phrases.Verb.TheVariants.{Send as Sends, Pick, Give, Recv as Receives, Branch, Gain}
-use Rattle.transcript.specs.declared.phrases.Phrase.{Phrase}
-use Rattle.transcript.specs.declared.phrases.Slot.{Slot}
+use Rattle.kept_texts.specs.declared.phrase.Verb.{Verb}
+use Rattle.kept_texts.specs.declared.phrase.Verb.TheVariants.{Send as Sends, Pick, Give, Recv as Receives, Branch, Gain}
+use Rattle.kept_texts.specs.declared.phrase.Phrase.{Phrase}
 use Rattle.transcript.specs.Text.{Words, name_text, process_text, said}
 
 -- what stands for a message that is sent, and for one that is received: of a value, of a label, of an endpoint
@@ -53,16 +52,3 @@ deed_text w (Test p b) = said w (Test p b)
 deed_text w (Set p x v) = said w (Set p x v)
 deed_text w (Show p v) = said w (Show p v)
 deed_text w (Host p x f a b v) = said w (Host p x f a b v)
-
--- this is the text of the phrase that is kept, if one is
-abbrev pub IsKept : Words → Option Phrase → List ℕ → Type 0
-IsKept w None text = Unit {0}
-IsKept w (Some m) text = text ≡ phrase_text w m
-
--- a slot has the text of its phrase, if it keeps one
-abbrev pub IsTextOf : Words → Slot → Type 0
-IsTextOf w s = IsKept w s.phrase s.text.items
-
--- each slot has the text of its phrase, if it keeps one, with these words
-abbrev pub AreTextsOf : Words → List Slot → Type 0
-AreTextsOf w slots = All (IsTextOf w) slots

@@ -1,14 +1,12 @@
 //! The last line of a transcript.
 
-ghost use Rattle.std.specs.Prelude.{◌≡◌, ◌++◌, OnOk, OnErr, codes};
-ghost use Rattle.std.specs.Fmt.{decimal};
+ghost use Rattle.std.specs.Prelude.{◌≡◌, ◌++◌, OnOk, OnErr};
 ghost use Rattle.transcript.specs.Closing.{lane_text, why_text, stuck_text};
 ghost use Rattle.transcript.specs.Books.{words};
-ghost use Rattle.transcript.specs.Text.{name_text};
 
 use crate::book::Book;
-use crate::line::put_process;
-use chor_base::{Memory, NameId, Why, put_bytes, put_name, put_number};
+use crate::line::{put_doing, put_lane, put_spaced_name};
+use chor_base::{Memory, NameId, Why, put_bytes, put_number};
 use std::alloc::Global;
 
 /// Appends what is said of a run that is stuck after so many events, without a line's end: the first
@@ -42,9 +40,7 @@ fn put_stuck(
     let (pid, why) = waiting;
     put_bytes(line, b"stuck ".as_slice())?;
     put_number(line, alloc, number)?;
-    put_bytes(line, b" ".as_slice())?;
-    put_process(line, alloc, book, pid)?;
-    put_bytes(line, b" ".as_slice())?;
+    put_doing(line, alloc, book, b" ".as_slice(), pid)?;
     put_why(line, alloc, why, book)
 }
 
@@ -54,40 +50,32 @@ fn put_why(line: &mut Vec<u8>, alloc: Global, why: Why, book: &Book) -> Result<(
 {
     match why {
         Why::Empty(sid, from, to) => {
-            put_bytes(line, b"empty".as_slice())?;
-            put_lane(line, alloc, (sid, from, to), book)
+            put_queue(line, alloc, b"empty".as_slice(), (sid, from, to), book)
         }
         Why::Wrong(sid, from, to) => {
-            put_bytes(line, b"wrong".as_slice())?;
-            put_lane(line, alloc, (sid, from, to), book)
+            put_queue(line, alloc, b"wrong".as_slice(), (sid, from, to), book)
         }
         Why::Full(sid, from, to) => {
-            put_bytes(line, b"full".as_slice())?;
-            put_lane(line, alloc, (sid, from, to), book)
+            put_queue(line, alloc, b"full".as_slice(), (sid, from, to), book)
         }
         Why::Absent(channel, role) => {
-            put_bytes(line, b"absent ".as_slice())?;
-            put_name(line, book.names, channel)?;
-            put_bytes(line, b" ".as_slice())?;
-            put_name(line, book.names, role)
+            put_bytes(line, b"absent".as_slice())?;
+            put_spaced_name(line, book, channel)?;
+            put_spaced_name(line, book, role)
         }
     }
 }
 
-// Appends the queue of a session from one role to another, after a space.
-fn put_lane(
+// Appends what is wrong with a queue, and which it is.
+fn put_queue(
     line: &mut Vec<u8>,
     alloc: Global,
+    state: &[u8],
     lane: (u32, NameId, NameId),
     book: &Book,
 ) -> Result<(), Memory>
-    ensures { OnOk result (line.new.items ≡ line.old.items ++ lane_text (words book.now) lane.0 lane.1 lane.2) }
+    ensures { OnOk result (line.new.items ≡ line.old.items ++ state.now ++ lane_text (words book.now) lane.0 lane.1 lane.2) }
 {
-    let (sid, from, to) = lane;
-    put_bytes(line, b" #".as_slice())?;
-    put_number(line, alloc, u64::from(sid))?;
-    put_bytes(line, b" ".as_slice())?;
-    put_name(line, book.names, from)?;
-    put_bytes(line, b">".as_slice())?;
-    put_name(line, book.names, to)
+    put_bytes(line, state)?;
+    put_lane(line, alloc, lane, book)
 }

@@ -5,7 +5,6 @@ mod book;
 mod closing;
 mod line;
 mod lines;
-mod phrases;
 
 pub use book::Book;
 pub use closing::print_stuck;

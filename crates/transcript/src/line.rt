@@ -6,15 +6,16 @@ ghost use Rattle.chor_base.specs.declared.event.Event.TheVariants as event;
 ghost use Rattle.chor_base.specs.Writing.{};
 ghost use Rattle.transcript.specs.Text.{Words, process_text, value_text, load_text, parts_text, spaced, numbers_text, said, event_text};
 ghost use Rattle.transcript.specs.Phrases.{sending_verb, receiving_verb, verb_text, route_text, phrase_text, deed_text};
+ghost use Rattle.transcript.specs.Closing.{lane_text};
 ghost use Rattle.transcript.specs.Books.{words};
-ghost use Rattle.transcript.specs.Written.{host_event};
+ghost use Rattle.transcript.specs.Written.{spaced_name, doing_text, host_event};
 
 use crate::book::Book;
-use crate::phrases::{Phrase, Verb};
 use chor_base::{
     Event, Load, Memory, NameId, Value, put_bytes, put_int, put_literal, put_name, put_number,
     put_truth,
 };
+use kept_texts::{Phrase, Verb};
 use std::alloc::Global;
 
 /// Appends the text of an event with its number, without a line's end. A process of the beginning
@@ -65,6 +66,46 @@ pub(crate) fn put_process(
             put_number(line, alloc, u64::from(pid))
         }
     }
+}
+
+// Appends what is said of a process: what it does, the process and a space.
+pub(crate) fn put_doing(
+    line: &mut Vec<u8>,
+    alloc: Global,
+    book: &Book,
+    deed: &[u8],
+    pid: u32,
+) -> Result<(), Memory>
+    ensures { OnOk result (line.new.items ≡ line.old.items ++ doing_text (words book.now) deed.now pid) }
+{
+    put_bytes(line, deed)?;
+    put_process(line, alloc, book, pid)?;
+    put_bytes(line, b" ".as_slice())
+}
+
+// Appends a name after a space.
+pub(crate) fn put_spaced_name(line: &mut Vec<u8>, book: &Book, name: NameId) -> Result<(), Memory>
+    ensures { OnOk result (line.new.items ≡ line.old.items ++ spaced_name (words book.now) name) }
+{
+    put_bytes(line, b" ".as_slice())?;
+    put_name(line, book.names, name)
+}
+
+// Appends the queue of a session from one role to another, after a space.
+pub(crate) fn put_lane(
+    line: &mut Vec<u8>,
+    alloc: Global,
+    lane: (u32, NameId, NameId),
+    book: &Book,
+) -> Result<(), Memory>
+    ensures { OnOk result (line.new.items ≡ line.old.items ++ lane_text (words book.now) lane.0 lane.1 lane.2) }
+{
+    let (sid, from, to) = lane;
+    put_bytes(line, b" #".as_slice())?;
+    put_number(line, alloc, u64::from(sid))?;
+    put_spaced_name(line, book, from)?;
+    put_bytes(line, b">".as_slice())?;
+    put_name(line, book.names, to)
 }
 
 // Appends a number. One of a single digit, as most are, is written without a look for its digits.
@@ -118,8 +159,7 @@ fn put_parts(
     ensures { OnOk result (line.new.items ≡ line.old.items ++ parts_text (words book.now) parts.now) }
 {
     for part in parts {
-        put_bytes(line, b" ".as_slice())?;
-        put_name(line, book.names, part.0)?;
+        put_spaced_name(line, book, part.0)?;
         put_bytes(line, b"=".as_slice())?;
         put_process(line, alloc, book, part.1)?;
     }
@@ -228,12 +268,7 @@ fn put_route(line: &mut Vec<u8>, alloc: Global, book: &Book, phrase: Phrase) -> 
     ensures { OnOk result (line.new.items ≡ line.old.items ++ route_text (words book.now) phrase) }
 {
     put_process(line, alloc, book, phrase.pid)?;
-    put_bytes(line, b" #".as_slice())?;
-    put_number(line, alloc, u64::from(phrase.sid))?;
-    put_bytes(line, b" ".as_slice())?;
-    put_name(line, book.names, phrase.from)?;
-    put_bytes(line, b">".as_slice())?;
-    put_name(line, book.names, phrase.to)?;
+    put_lane(line, alloc, (phrase.sid, phrase.from, phrase.to), book)?;
     put_bytes(line, b" ".as_slice())
 }
 
@@ -268,12 +303,9 @@ struct Asked {
 fn put_asked(line: &mut Vec<u8>, alloc: Global, book: &Book, asked: Asked) -> Result<(), Memory>
     ensures { OnOk result (line.new.items ≡ line.old.items ++ said (words book.now) (host_event asked)) }
 {
-    put_bytes(line, b" host ".as_slice())?;
-    put_process(line, alloc, book, asked.pid)?;
-    put_bytes(line, b" ".as_slice())?;
+    put_doing(line, alloc, book, b" host ".as_slice(), asked.pid)?;
     put_name(line, book.names, asked.var)?;
-    put_bytes(line, b" ".as_slice())?;
-    put_name(line, book.names, asked.name)?;
+    put_spaced_name(line, book, asked.name)?;
     put_numbers(line, alloc, asked)
 }
 
@@ -291,6 +323,22 @@ fn put_spaced(line: &mut Vec<u8>, alloc: Global, number: i64) -> Result<(), Memo
 {
     put_bytes(line, b" ".as_slice())?;
     put_int(line, alloc, number)
+}
+
+fn put_set(
+    line: &mut Vec<u8>,
+    alloc: Global,
+    book: &Book,
+    place: (u32, NameId),
+    value: &Value,
+) -> Result<(), Memory>
+    ensures { OnOk result (line.new.items ≡ line.old.items ++ said (words book.now) (event.Set place.0 place.1 value.now)) }
+{
+    let (pid, var) = place;
+    put_doing(line, alloc, book, b" set ".as_slice(), pid)?;
+    put_name(line, book.names, var)?;
+    put_bytes(line, b" ".as_slice())?;
+    put_value(line, alloc, book, value)
 }
 
 // An event without its number.
@@ -323,23 +371,12 @@ pub(crate) fn put_deed(
         } => put_start(line, alloc, book, *channel, *sid, parts.as_slice()),
         Event::Send { .. } | Event::Recv { .. } => Ok(()),
         Event::Test { pid, answer } => {
-            put_bytes(line, b" test ".as_slice())?;
-            put_process(line, alloc, book, *pid)?;
-            put_bytes(line, b" ".as_slice())?;
+            put_doing(line, alloc, book, b" test ".as_slice(), *pid)?;
             put_truth(line, *answer)
         }
-        Event::Set { pid, var, value } => {
-            put_bytes(line, b" set ".as_slice())?;
-            put_process(line, alloc, book, *pid)?;
-            put_bytes(line, b" ".as_slice())?;
-            put_name(line, book.names, *var)?;
-            put_bytes(line, b" ".as_slice())?;
-            put_value(line, alloc, book, value)
-        }
+        Event::Set { pid, var, value } => put_set(line, alloc, book, (*pid, *var), value),
         Event::Show { pid, value } => {
-            put_bytes(line, b" show ".as_slice())?;
-            put_process(line, alloc, book, *pid)?;
-            put_bytes(line, b" ".as_slice())?;
+            put_doing(line, alloc, book, b" show ".as_slice(), *pid)?;
             put_value(line, alloc, book, value)
         }
         Event::Host {

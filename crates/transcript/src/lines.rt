@@ -2,15 +2,16 @@
 
 ghost use Rattle.std.specs.Prelude.{◌≡◌, ◌<◌, ◌+◌, ◌^◌, ◌++◌, ◌∷◌, [], IfOk, OnOk, OnErr, length, map};
 ghost use Rattle.std.specs.Fmt.{decimal};
+ghost use Rattle.kept_texts.specs.Kept.{AreTextsOf};
 ghost use Rattle.transcript.specs.Written.{AreReady};
 ghost use Rattle.transcript.specs.Text.{Words, event_text, said, lines_from};
 ghost use Rattle.transcript.specs.Books.{words};
-ghost use Rattle.transcript.specs.Phrases.{AreTextsOf};
+ghost use Rattle.transcript.specs.Phrases.{phrase_text};
 
 use crate::book::Book;
-use crate::line::{message_of, put_deed, put_load};
-use crate::phrases::Phrases;
+use crate::line::{message_of, put_deed, put_load, put_phrase};
 use chor_base::{Entry, Event, Memory, put_bytes, put_number};
+use kept_texts::{Phrase, Phrases};
 use std::alloc::Global;
 
 /// Appends the texts of events, which are numbered from 1, each ended by a line feed. The workers
@@ -24,15 +25,23 @@ pub fn print_events(
     ensures ok { OnOk result (out.new.items ≡ out.old.items ++ lines_from (words book.now) 1 (map (λ entry. entry.event) events.now)) }
     ensures err { OnErr result (out.new.items ≡ out.old.items) }
 {
-    let mut lines = Lines::new(alloc)?;
-    lines.put(events, book)?;
+    let text = text_of(alloc, events, book)?;
     if out.is_empty() {
         // nothing is copied
-        *out = lines.into_text();
+        *out = text;
+        Ok(())
     } else {
-        out.extend_from_slice(lines.as_slice())?;
+        put_bytes(out, text.as_slice())
     }
-    Ok(())
+}
+
+// The lines of events, numbered from 1.
+fn text_of(alloc: Global, events: &[Entry], book: &Book) -> Result<Vec<u8>, Memory>
+    ensures { IfOk result (λ text. text.items ≡ lines_from (words book.now) 1 (map (λ entry. entry.event) events.now)) }
+{
+    let mut lines = Lines::new(alloc)?;
+    lines.put(events, book)?;
+    Ok(lines.into_text())
 }
 
 /// The lines of a run whose events come in parts, numbered from 1, each ended by a line feed.
@@ -141,16 +150,51 @@ fn put_said(
     event: &Event,
     book: &Book,
 ) -> Result<(), Memory>
-    requires { AreTextsOf (words book.now) phrases.old.slots.items }
-    ensures kept { OnOk result (AreTextsOf (words book.now) phrases.new.slots.items) }
+    requires { AreTextsOf (phrase_text (words book.now)) phrases.old.slots.items }
+    ensures kept { OnOk result (AreTextsOf (phrase_text (words book.now)) phrases.new.slots.items) }
     ensures ok { OnOk result (lines.new.items ≡ lines.old.items ++ said (words book.now) event.now) }
 {
     let alloc = *lines.allocator();
     match message_of(event) {
         Some(message) => {
-            phrases.put(lines, message.phrase, book)?;
+            put_kept(lines, phrases, message.phrase, book)?;
             put_load(lines, alloc, book, message.load)
         }
         None => put_deed(lines, alloc, event, book),
     }
+}
+
+// Appends the text of a phrase, which is kept from then on.
+fn put_kept(
+    lines: &mut Vec<u8>,
+    phrases: &mut Phrases,
+    phrase: Phrase,
+    book: &Book,
+) -> Result<(), Memory>
+    requires { AreTextsOf (phrase_text (words book.now)) phrases.old.slots.items }
+    ensures kept { OnOk result (AreTextsOf (phrase_text (words book.now)) phrases.new.slots.items) }
+    ensures ok { OnOk result (lines.new.items ≡ lines.old.items ++ phrase_text (words book.now) phrase) }
+{
+    match phrases.text(phrase) {
+        Some(text) => put_bytes(lines, text),
+        None => put_anew(lines, phrases, phrase, book),
+    }
+}
+
+// Appends the text of a phrase that wasn't kept, and keeps it.
+#[inline(never)]
+fn put_anew(
+    lines: &mut Vec<u8>,
+    phrases: &mut Phrases,
+    phrase: Phrase,
+    book: &Book,
+) -> Result<(), Memory>
+    requires { AreTextsOf (phrase_text (words book.now)) phrases.old.slots.items }
+    ensures kept { OnOk result (AreTextsOf (phrase_text (words book.now)) phrases.new.slots.items) }
+    ensures ok { OnOk result (lines.new.items ≡ lines.old.items ++ phrase_text (words book.now) phrase) }
+{
+    let alloc = *lines.allocator();
+    let start = lines.len();
+    put_phrase(lines, alloc, book, phrase)?;
+    phrases.keep(phrase, &lines.as_slice()[start..])
 }

@@ -1,37 +1,11 @@
-//! Pieces of messages' texts that were written lately.
+//! A table of texts.
 
-ghost use Rattle.std.specs.Prelude.{◌≡◌, ◌<◌, ◌++◌, ◌↔◌, IsTrue, IfOk, OnOk, vec_len};
-ghost use Rattle.transcript.specs.Text.{Words};
-ghost use Rattle.transcript.specs.Books.{words};
-ghost use Rattle.transcript.specs.Phrases.{phrase_text, IsTextOf, AreTextsOf};
+ghost use Rattle.std.specs.Prelude.{◌≡◌, ◌<◌, ◌↔◌, Some, IsTrue, IfOk, IfSome, OnOk, vec_len};
+ghost use Rattle.kept_texts.specs.Kept.{Spelling, AreTextsOf};
 
-use crate::book::Book;
-use crate::line::put_phrase;
-use chor_base::{Memory, NameId, put_bytes};
+use crate::phrase::Phrase;
+use chor_base::Memory;
 use std::alloc::Global;
-
-/// What a message is called: of a value, of a label, of an endpoint, at its sender's and at its
-/// receiver's.
-#[derive(Clone, Copy, PartialEq, Eq)]
-pub enum Verb {
-    Send,
-    Pick,
-    Give,
-    Recv,
-    Branch,
-    Gain,
-}
-
-/// What the text of a message before its load hangs on: who does what, in which session, from
-/// which role to which.
-#[derive(Clone, Copy, PartialEq, Eq)]
-pub struct Phrase {
-    pub verb: Verb,
-    pub pid: u32,
-    pub sid: u32,
-    pub from: NameId,
-    pub to: NameId,
-}
 
 // How many phrases are kept of a run of so many events: a power of 2, since a table for a long run
 // takes longer to make than a short run to write.
@@ -79,28 +53,15 @@ impl Slot {
         }
     }
 
-    // This phrase comes in the place of what was kept.
-    #[inline(never)]
-    fn take(&mut self, phrase: Phrase, book: &Book) -> Result<(), Memory>
+    // This phrase and its text come in the place of what was kept.
+    fn take(&mut self, phrase: Phrase, text: &[u8]) -> Result<(), Memory>
         ensures phrase { self.new.phrase ≡ Some phrase }
-        ensures text { OnOk result (self.new.text.items ≡ phrase_text (words book.now) phrase) }
+        ensures text { OnOk result (self.new.text.items ≡ text.now) }
     {
-        let alloc = *self.text.allocator();
         self.phrase = Some(phrase);
         self.text.clear();
-        put_phrase(&mut self.text, alloc, book, phrase)
-    }
-
-    // Appends the text of a phrase, which is kept here from then on.
-    fn put(&mut self, line: &mut Vec<u8>, phrase: Phrase, book: &Book) -> Result<(), Memory>
-        requires { IsTextOf (words book.now) self.old }
-        ensures kept { OnOk result (IsTextOf (words book.now) self.new) }
-        ensures ok { OnOk result (line.new.items ≡ line.old.items ++ phrase_text (words book.now) phrase) }
-    {
-        if !self.has(phrase) {
-            self.take(phrase, book)?;
-        }
-        put_bytes(line, self.text.as_slice())
+        self.text.extend_from_slice(text)?;
+        Ok(())
     }
 }
 
@@ -121,7 +82,7 @@ impl Drop for Phrases {
 impl Phrases {
     /// No texts, with room for those of a run of so many events.
     pub fn new(alloc: Global, events: usize) -> Result<Phrases, Memory>
-        ensures { IfOk result (λ p. (w : Words) → AreTextsOf w p.slots.items) }
+        ensures { IfOk result (λ p. (s : Spelling) → AreTextsOf s p.slots.items) }
     {
         let count = count_for(events);
         let mut slots = Vec::new(alloc);
@@ -139,7 +100,7 @@ impl Phrases {
 
     /// Has room for the texts of so many events, without texts where there was too little.
     pub fn fit(&mut self, events: usize) -> Result<(), Memory>
-        ensures { OnOk result ((w : Words) → AreTextsOf w self.old.slots.items → AreTextsOf w self.new.slots.items) }
+        ensures { OnOk result ((s : Spelling) → AreTextsOf s self.old.slots.items → AreTextsOf s self.new.slots.items) }
     {
         if self.slots.len() < count_for(events) as usize {
             let alloc = *self.slots.allocator();
@@ -156,14 +117,24 @@ impl Phrases {
         (mixed(phrase) & self.mask) as usize
     }
 
-    /// Appends the text of a phrase.
-    pub fn put(&mut self, line: &mut Vec<u8>, phrase: Phrase, book: &Book) -> Result<(), Memory>
-        requires { AreTextsOf (words book.now) self.old.slots.items }
-        ensures kept { OnOk result (AreTextsOf (words book.now) self.new.slots.items) }
-        ensures ok { OnOk result (line.new.items ≡ line.old.items ++ phrase_text (words book.now) phrase) }
+    /// The text of a phrase, if it is kept.
+    pub fn text(&self, phrase: Phrase) -> Option<&[u8]>
+        ensures { (s : Spelling) → AreTextsOf s self.now.slots.items → IfSome result (λ text. text.now ≡ s phrase) }
+    {
+        let slot = &self.slots[self.slot_of(phrase)];
+        if slot.has(phrase) {
+            Some(slot.text.as_slice())
+        } else {
+            None
+        }
+    }
+
+    /// Keeps the text of a phrase, in the place of one that was kept.
+    pub fn keep(&mut self, phrase: Phrase, text: &[u8]) -> Result<(), Memory>
+        ensures { OnOk result ((s : Spelling) → AreTextsOf s self.old.slots.items → text.now ≡ s phrase → AreTextsOf s self.new.slots.items) }
     {
         let place = self.slot_of(phrase);
         let slot = &mut self.slots[place];
-        slot.put(line, phrase, book)
+        slot.take(phrase, text)
     }
 }

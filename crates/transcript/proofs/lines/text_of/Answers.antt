@@ -1,5 +1,5 @@
 use Rattle.transcript.specs.Books.{words}
-use Rattle.transcript.proofs.lines.print_events.Goals as goal
+use Rattle.transcript.proofs.lines.text_of.Goals as goal
 
 pub put-requires-clause-ready : goal.put-requires-clause-ready
 put-requires-clause-ready c = c.in_ok-lines.ensures.ready (words c.args.book.now)
