@@ -6,11 +6,13 @@ ghost use Rattle.chor_base.specs.Expr.{term_of};
 ghost use Rattle.endpoint_code.specs.Code.{children_of};
 ghost use Rattle.endpoint_code.specs.Trees.{Joins, code_at, node_tree, trees_of};
 ghost use Rattle.endpoint_code.specs.Heads.{head_of, next_of};
+ghost use Rattle.endpoint_text.specs.Ascending.{ascending};
+ghost use Rattle.endpoint_text.specs.Places.{label_in};
 ghost use Rattle.endpoint_text.specs.Text.{action_text, code_text, term_text, spaced, listed, body_text};
 ghost use Rattle.endpoint_text.specs.Parts.{head_text, node_arm, node_text, operands_text};
 
 use crate::arms::{Arm, ascending_arms};
-use crate::words::{put_list, put_words};
+use crate::words::{put_role, put_sessions, put_words};
 use chor_base::{Expr, List, Memory, NameId, put_bytes, put_name};
 use chor_lexer::print_expr;
 use endpoint_code::{CodeId, CodeNode, Endpoints};
@@ -34,16 +36,12 @@ fn put_code(out: &mut Vec<u8>, alloc: Global, e: &Endpoints, id: CodeId) -> Resu
 {
     match put_actions(out, alloc, e, id)? {
         CodeNode::Branch(session, from, arms) => {
-            let sorted = ascending_arms(alloc, &e.names, arms.as_slice())?;
-            put_words(out, e, b"branch".as_slice(), [*session, *from].as_slice())?;
-            put_bytes(out, b" { ".as_slice())?;
+            let sorted = open_branch(out, alloc, e, (*session, *from), arms.as_slice())?;
             put_arms(out, alloc, e, sorted.as_slice())?;
             put_bytes(out, b"}".as_slice())
         }
         CodeNode::If(expr, first, second) => {
-            put_bytes(out, b"if ".as_slice())?;
-            print_expr(alloc, expr, &e.names, &e.texts, out)?;
-            put_bytes(out, b" { ".as_slice())?;
+            open_test(out, alloc, e, expr)?;
             put_code(out, alloc, e, *first)?;
             put_bytes(out, b" } else { ".as_slice())?;
             put_code(out, alloc, e, *second)?;
@@ -54,6 +52,32 @@ fn put_code(out: &mut Vec<u8>, alloc: Global, e: &Endpoints, id: CodeId) -> Resu
         }
         _ => put_bytes(out, b"end".as_slice()),
     }
+}
+
+// Appends what a branch has before its arms, and answers these as they are to be printed.
+fn open_branch(
+    out: &mut Vec<u8>,
+    alloc: Global,
+    e: &Endpoints,
+    place: (NameId, NameId),
+    arms: &[Arm],
+) -> Result<Vec<Arm>, Memory>
+    ensures text { OnOk result (out.new.items ≡ out.old.items ++ (codes "branch" ++ spaced e.now (place.0 ∷ place.1 ∷ []) ++ codes " { ")) }
+    ensures sorted { IfOk result (λ sorted. sorted.items ≡ ascending (label_in e.now.names) arms.now) }
+{
+    let (session, from) = place;
+    put_words(out, e, b"branch".as_slice(), [session, from].as_slice())?;
+    put_bytes(out, b" { ".as_slice())?;
+    ascending_arms(alloc, &e.names, arms)
+}
+
+// Appends what a test has before its first branch.
+fn open_test(out: &mut Vec<u8>, alloc: Global, e: &Endpoints, expr: &Expr) -> Result<(), Memory>
+    ensures { OnOk result (out.new.items ≡ out.old.items ++ (codes "if " ++ term_text e.now (term_of expr.now) ++ codes " { ")) }
+{
+    put_bytes(out, b"if ".as_slice())?;
+    print_expr(alloc, expr, &e.names, &e.texts, out)?;
+    put_bytes(out, b" { ".as_slice())
 }
 
 // Appends arms in the order in which they are given.
@@ -165,10 +189,8 @@ fn put_join(
 ) -> Result<(), Memory>
     ensures { OnOk result (out.new.items ≡ out.old.items ++ action_text e.now (Joins channel role session)) }
 {
-    put_words(out, e, b"join".as_slice(), [channel].as_slice())?;
-    put_bytes(out, b"[".as_slice())?;
-    put_name(out, &e.names, role)?;
-    put_bytes(out, b"](".as_slice())?;
+    put_role(out, e, b"join".as_slice(), channel, role)?;
+    put_bytes(out, b"(".as_slice())?;
     put_name(out, &e.names, session)?;
     put_bytes(out, b")".as_slice())
 }
@@ -216,7 +238,5 @@ fn put_call(
     ensures { OnOk result (out.new.items ≡ out.old.items ++ (codes "call" ++ spaced e.now (procedure ∷ param ∷ []) ++ codes " (" ++ listed e.now sessions.now ++ codes ")")) }
 {
     put_words(out, e, b"call".as_slice(), [procedure, param].as_slice())?;
-    put_bytes(out, b" (".as_slice())?;
-    put_list(out, e, sessions.as_slice())?;
-    put_bytes(out, b")".as_slice())
+    put_sessions(out, e, sessions.as_slice())
 }

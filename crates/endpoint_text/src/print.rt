@@ -5,8 +5,8 @@ ghost use Rattle.std.specs.List.{flat_map};
 ghost use Rattle.endpoint_text.specs.Text.{serving, channel_line, procedure_line, service_line, process_line, endpoints_text};
 
 use crate::code::put_body;
-use crate::words::{put_list, put_words};
-use chor_base::{Memory, NameId, put_bytes, put_name};
+use crate::words::{put_list, put_role, put_sessions, put_words};
+use chor_base::{Memory, NameId, put_bytes};
 use endpoint_code::{Channel, Endpoints, Procedure, Process, ServiceCode};
 use std::alloc::Global;
 
@@ -86,9 +86,7 @@ fn put_procedure(
         b"procedure".as_slice(),
         [procedure.name, procedure.param].as_slice(),
     )?;
-    put_bytes(out, b" (".as_slice())?;
-    put_list(out, e, procedure.sessions.as_slice())?;
-    put_bytes(out, b")".as_slice())?;
+    put_sessions(out, e, procedure.sessions.as_slice())?;
     put_body(out, alloc, e, procedure.body)
 }
 
@@ -110,10 +108,7 @@ fn put_service(
     requires { service.body.0 < length e.now.code.nodes }
     ensures { OnOk result (out.new.items ≡ out.old.items ++ service_line e.now service) }
 {
-    put_words(out, e, b"service".as_slice(), [service.channel].as_slice())?;
-    put_bytes(out, b"[".as_slice())?;
-    put_name(out, &e.names, service.role)?;
-    put_bytes(out, b"]".as_slice())?;
+    put_role(out, e, b"service".as_slice(), service.channel, service.role)?;
     put_body(out, alloc, e, service.body)
 }
 

@@ -21,11 +21,11 @@ put_code-put_code-requires-in-If t c =
 
 pub put_code-put_arms-requires : goal.put_code-put_arms-requires
 put_code-put_arms-requires t c =
-    let inside = sorted_below c.args.id.0 c.args.e.now (branch_below c.args.id.0 c.in_ok-session.field-0.now c.in-Branch.is c.in_ok-session.ensures.below) c.as_slice.ensures c.in_ok-sorted-in-Branch.ensures c.as_slice-in-Branch-4.ensures.value in
+    let inside = sorted_below c.args.id.0 c.args.e.now (branch_below c.args.id.0 c.in_ok-session.field-0.now c.in-Branch.is c.in_ok-session.ensures.below) c.as_slice.ensures c.in_ok-sorted-in-Branch.ensures.sorted c.as_slice-in-Branch.ensures.value in
     let least = above_least c.args.id.0 _ inside in
     (omega (arith, least, c.decreases), (λ k d lt. omega (arith, inside k d lt)))
 
 pub put_code-returns-in_ok-put_arms-in-Branch : goal.put_code-returns-in_ok-put_arms-in-Branch
 put_code-returns-in_ok-put_arms-in-Branch t c =
-    let text = branch_text c.args.e.now c.in_ok-session.field-0.now c.in-Branch.is c.as_slice.ensures c.in_ok-sorted-in-Branch.ensures c.as_slice-in-Branch-4.ensures.value in
+    let text = branch_text c.args.e.now c.in_ok-session.field-0.now c.in-Branch.is c.as_slice.ensures c.in_ok-sorted-in-Branch.ensures.sorted c.as_slice-in-Branch.ensures.value in
     grind (arith, common_steps, text)
