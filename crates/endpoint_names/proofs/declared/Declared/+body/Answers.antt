@@ -3,6 +3,7 @@ use Rattle.endpoint_names.specs.Bodies.{bodies_of}
 use Rattle.endpoint_names.specs.Functions.{setting_of}
 use Rattle.endpoint_names.proofs.Tables.{branch_below}
 use Rattle.endpoint_names.proofs.Walks.{arms_turn, branch_first}
+use Rattle.chor_base.proofs.Faults.{first_append}
 use Rattle.endpoint_names.proofs.declared.Declared.+body.Goals as goal
 
 pub first_in_arms-loop-arm-preserved : goal.first_in_arms-loop-arm-preserved
@@ -18,3 +19,9 @@ first_in_body-returns-in_ok-rest-in-Branch t c =
     branch_first (setting_of c.args.self.now.written.now c.args.self.now.functions) c.args.bound c.args.self.now.written.now.lines.items c.args.id c.line_at.result.now
     c.unbound-here.result c.in_ok-labels-in-Branch.labels c.in_ok-rest-in-Branch.rest c.earlier-in-Branch.result c.earlier-in-Branch-2.result c.line_at.ensures.body c.in-Branch.is
     c.unbound-here.ensures c.in_ok-labels-in-Branch.ensures c.as_slice.ensures c.in_ok-rest-in-Branch.ensures c.as_slice-in-Branch.ensures c.earlier-in-Branch.ensures c.earlier-in-Branch-2.ensures
+
+pub first_in_body-returns-in_ok-rest-in-Act : goal.first_in_body-returns-in_ok-rest-in-Act
+first_in_body-returns-in_ok-rest-in-Act t c = grind (arith, first_append)
+
+pub first_in_body-returns-in_ok-there-in-If : goal.first_in_body-returns-in_ok-there-in-If
+first_in_body-returns-in_ok-there-in-If t c = grind (arith, first_append)
