@@ -3,7 +3,6 @@
 ghost use Rattle.std.specs.Prelude.{◌≡◌, ◌++◌, OnOk, OnErr, IfSome, IfNone};
 ghost use Rattle.std.specs.Fmt.{signed_decimal};
 ghost use Rattle.chor_base.specs.declared.event.Event.TheVariants as event;
-ghost use Rattle.chor_base.specs.Writing.{};
 ghost use Rattle.transcript.specs.Text.{Words, process_text, value_text, load_text, parts_text, spaced, numbers_text, said, event_text};
 ghost use Rattle.transcript.specs.Phrases.{sending_verb, receiving_verb, verb_text, route_text, phrase_text, deed_text};
 ghost use Rattle.transcript.specs.Closing.{lane_text};
@@ -19,8 +18,7 @@ use kept_texts::{Phrase, Verb};
 use std::alloc::Global;
 
 /// Appends the text of an event with its number, without a line's end. A process of the beginning
-/// is written by its name, another as `%` and its number; a name or text that the book doesn't have
-/// adds no bytes.
+/// is written by its name, another as `%` and its number; what isn't in the book adds no bytes.
 pub fn print_event(
     alloc: Global,
     number: u64,
@@ -33,8 +31,7 @@ pub fn print_event(
 {
     let mut line = Vec::new(alloc);
     put_event(&mut line, alloc, number, event, book)?;
-    out.extend_from_slice(line.as_slice())?;
-    Ok(())
+    put_bytes(out, line.as_slice())
 }
 
 // Appends the text of an event, or some of it where there is no memory.
@@ -334,9 +331,8 @@ fn put_set(
 ) -> Result<(), Memory>
     ensures { OnOk result (line.new.items ≡ line.old.items ++ said (words book.now) (event.Set place.0 place.1 value.now)) }
 {
-    let (pid, var) = place;
-    put_doing(line, alloc, book, b" set ".as_slice(), pid)?;
-    put_name(line, book.names, var)?;
+    put_doing(line, alloc, book, b" set ".as_slice(), place.0)?;
+    put_name(line, book.names, place.1)?;
     put_bytes(line, b" ".as_slice())?;
     put_value(line, alloc, book, value)
 }
