@@ -1,27 +1,27 @@
 -- In each state that a run of a network reaches, each role is held once.
-use Rattle.std.proofs.Common.{◌≡◌, ◌≢◌, ℕ, zero, suc, ◌<◌, ◌==◌, ◌&&◌, ◌||◌, ◌⊎◌, inl, inr, Bool, true, false, List, [], ◌∷◌, ◌++◌, length, refl, sym, ap, ◌∙◌, subst, Option, Some, None, arith, if◌then◌else◌, append_assoc}
+use Rattle.std.proofs.Common.{◌≡◌, ◌≢◌, ℕ, zero, suc, ◌<◌, ◌==◌, ◌||◌, ◌⊎◌, inl, inr, Bool, true, false, List, [], ◌∷◌, ◌++◌, length, refl, sym, ap, ◌∙◌, subst, Option, Some, None, arith, append_assoc}
 use Rattle.std.specs.Prelude.{slice_get, slice_set, map}
 use Rattle.std.specs.FinMap as fin
 use Rattle.std.specs.Ordering.{nat_cmp}
-use Rattle.std.proofs.lemmas.Bool.Decides.{nat_tests}
+use Rattle.std.proofs.lemmas.Bool.{eq-eqb}
+use Rattle.std.proofs.lemmas.Option.{none-some, same_Some}
 use Rattle.std.proofs.lemmas.List.{append-nil}
 use Rattle.chor_base.specs.declared.names.NameId.{NameId}
 use Rattle.chor_base.specs.declared.event.Event.{Event}
 use Rattle.chor_base.specs.NameMap.{Variables}
 use Rattle.chor_base.specs.Meaning.{Hosts}
 use Rattle.endpoint_code.specs.declared.code.CodeId.{CodeId}
-use Rattle.endpoint_code.specs.declared.code.CodeNode.{CodeNode}
-use Rattle.endpoint_code.specs.declared.code.CodeNode.TheVariants.{Join, Send, Recv, Pick, Branch, Throw, Catch, Set, Show, Host, If, Call, End}
+use Rattle.endpoint_code.specs.declared.code.CodeNode.TheVariants.{Join}
 use Rattle.endpoint_code.specs.declared.endpoints.Channel.{Channel}
 use Rattle.endpoint_code.specs.declared.endpoints.Process.{Process as Named}
 use Rattle.endpoint_code.specs.declared.endpoints.Endpoints.{Endpoints}
 use Rattle.endpoint_code.specs.Faults.{AreDistinct, one_more, is_among, IsFaultless}
-use Rattle.endpoint_code.specs.Network.{Sessions, Machine, NetworkState, Place, Makes, place_of, moved, node_joins, place_joins, joins, one_joiner, joiners, with_machines, service_of, served, channel_of, begun, paired, one_pair, starts_with, channel_starts, starts, standing_all, NetworkSteps, acts, begins, first_state}
+use Rattle.endpoint_code.specs.Network.{Sessions, Machine, NetworkState, Place, Makes, place_of, moved, place_joins, joins, one_joiner, joiners, with_machines, service_of, served, channel_of, begun, paired, one_pair, starts_with, channel_starts, starts, standing_all, NetworkSteps, acts, begins, first_state}
 use Rattle.endpoint_code.specs.NetworkRuns.{NetworkLeads, IsNetworkRun}
 use Rattle.post_office.proofs.Steps.{get-set_other}
 use Rattle.post_office.proofs.Starting.{NotIn}
 use Rattle.post_office.proofs.Scoped.{IsSomewhere}
-use Rattle.post_office.proofs.Reached.{AreSomewhere, acted_somewhere, started_somewhere, first_somewhere, channel_has}
+use Rattle.post_office.proofs.Reached.{AreSomewhere, node_joined, made_same, acted_somewhere, started_somewhere, first_somewhere, channel_has}
 use Rattle.post_office.proofs.Held.{AreOnce, AreFrom, Holder, Process, Transit, held_by, HoldsAt, IsUnique, IsNowhere, added_unique, once_in, was_held, replaced_unique, get_bound, none_bound}
 use Rattle.post_office.proofs.Sound.{ArePlain, IsSound, plain_set, bound_split}
 use Rattle.post_office.proofs.Placed.{place_names, acted_sound}
@@ -40,64 +40,27 @@ record HasOneMore (e : Endpoints) (w : Machine) (c r : NameId) (s : ℕ) (m : Ma
 joined_more : (e : Endpoints) (w : Machine) (c r : NameId) (s : ℕ) (m : Machine) → IsSomewhere e w.at → AreOnce w.sessions → joins e (Some w) c r s ≡ Some m → HasOneMore e w c r s m
 joined_more e w c r s m somewhere once h = at_place (place_of e w) refl h
   where
-    at_node : (q : Place) → AreFrom q.sessions w.sessions × AreOnce q.sessions → (node : CodeNode) → node_joins node w.vars q.sessions c r s ≡ Some m → HasOneMore e w c r s m
-    at_node q names (Join d o k next) i = go ((d.0 == c.0) && (o.0 == r.0)) i
-      where
-        go : (b : Bool) → (if b then Some (record { at = next; vars = w.vars; sessions = fin.insert q.sessions k.0 (s, r) }) else None) ≡ Some m → HasOneMore e w c r s m
-        go false j = absurd cc
-        go true j =
-            let y : Machine = record { at = next; vars = w.vars; sessions = fin.insert q.sessions k.0 (s, r) } in
-            let same : y ≡ m = cc in
-            record { sessions = q.sessions; key = k.0; from = names.0; once = names.1; is = sym (ap (λ (z : Machine). z.sessions) same); vars = sym (ap (λ (z : Machine). z.vars) same) }
-    at_node q names (Send k b x next) i = absurd cc
-    at_node q names (Recv k a x next) i = absurd cc
-    at_node q names (Pick k b l next) i = absurd cc
-    at_node q names (Branch k a arms) i = absurd cc
-    at_node q names (Throw k b g next) i = absurd cc
-    at_node q names (Catch k a g next) i = absurd cc
-    at_node q names (Set x v next) i = absurd cc
-    at_node q names (Show v next) i = absurd cc
-    at_node q names (Host x g v u next) i = absurd cc
-    at_node q names (If v t u) i = absurd cc
-    at_node q names (Call g o ss) i = absurd cc
-    at_node q names End i = absurd cc
-
     at_place : (o : Option Place) → place_of e w ≡ o → place_joins o w.vars c r s ≡ Some m → HasOneMore e w c r s m
-    at_place None f i = absurd cc
-    at_place (Some q) f i = at_node q (place_names e w.at w.sessions q somewhere once f) q.node i
+    at_place None f i = absurd (none-some m i)
+    at_place (Some q) f i =
+        let names = place_names e w.at w.sessions q somewhere once f in
+        let j = node_joined q.node w.vars q.sessions c r s m i in
+        record { sessions = q.sessions; key = j.key.0; from = names.0; once = names.1; is = ap (λ (z : Machine). z.sessions) j.machine_is; vars = ap (λ (z : Machine). z.vars) j.machine_is }
+
+join_role : {d o k f p l : NameId} {a b : CodeId} → Join d o k a ≡ Join f p l b → o.0 ≡ p.0
+join_role h = cc
 
 -- a process joins a channel in one role only
 one_role : (e : Endpoints) (o : Option Machine) (c r q : NameId) (s : ℕ) (m k : Machine) → joins e o c r s ≡ Some m → joins e o c q s ≡ Some k → r.0 ≡ q.0
-one_role e None c r q s m k h g = absurd cc
+one_role e None c r q s m k h g = absurd (none-some m h)
 one_role e (Some w) c r q s m k h g = at_place (place_of e w) h g
   where
-    none : (b : Bool) (x y : Machine) → b ≡ false → (if b then Some x else None) ≡ Some y → ⊥
-    none true x y i j = absurd cc
-    none false x y i j = absurd cc
-
-    at_node : (node : CodeNode) (ss : Sessions) → node_joins node w.vars ss c r s ≡ Some m → node_joins node w.vars ss c q s ≡ Some k → r.0 ≡ q.0
-    at_node (Join d o y next) ss i j = go ((d.0 == c.0) && (o.0 == r.0)) refl ((d.0 == c.0) && (o.0 == q.0)) refl
-      where
-        go : (a : Bool) → ((d.0 == c.0) && (o.0 == r.0)) ≡ a → (b : Bool) → ((d.0 == c.0) && (o.0 == q.0)) ≡ b → r.0 ≡ q.0
-        go true x true z = grind (arith, nat_tests)
-        go false x b z = absurd (none ((d.0 == c.0) && (o.0 == r.0)) (record { at = next; vars = w.vars; sessions = fin.insert ss y.0 (s, r) }) m x i)
-        go true x false z = absurd (none ((d.0 == c.0) && (o.0 == q.0)) (record { at = next; vars = w.vars; sessions = fin.insert ss y.0 (s, q) }) k z j)
-    at_node (Send k b x next) ss i j = absurd cc
-    at_node (Recv k a x next) ss i j = absurd cc
-    at_node (Pick k b l next) ss i j = absurd cc
-    at_node (Branch k a arms) ss i j = absurd cc
-    at_node (Throw k b g next) ss i j = absurd cc
-    at_node (Catch k a g next) ss i j = absurd cc
-    at_node (Set x v next) ss i j = absurd cc
-    at_node (Show v next) ss i j = absurd cc
-    at_node (Host x g v u next) ss i j = absurd cc
-    at_node (If v t u) ss i j = absurd cc
-    at_node (Call g o ts) ss i j = absurd cc
-    at_node End ss i j = absurd cc
-
     at_place : (o : Option Place) → place_joins o w.vars c r s ≡ Some m → place_joins o w.vars c q s ≡ Some k → r.0 ≡ q.0
-    at_place None i j = absurd cc
-    at_place (Some x) i j = at_node x.node x.sessions i j
+    at_place None i j = absurd (none-some m i)
+    at_place (Some x) i j =
+        let one = node_joined x.node w.vars x.sessions c r s m i in
+        let two = node_joined x.node w.vars x.sessions c q s k j in
+        sym one.same_role ∙ join_role (sym one.node_is ∙ two.node_is) ∙ two.same_role
 
 -- in the middle of the start of session s: the roles that are still to come are not yet held
 record IsStarting (n : NetworkState) (s : ℕ) (roles : List NameId) : Type 0 where
@@ -106,7 +69,7 @@ record IsStarting (n : NetworkState) (s : ℕ) (roles : List NameId) : Type 0 wh
   plain : (p : ℕ) (m : Machine) → slice_get n.machines p ≡ Some m → ArePlain m.vars
 
 among_own : (r : NameId) (rs : List NameId) → is_among r (r ∷ rs) ≡ true
-among_own r rs = go (r.0 == r.0) (grind (arith, nat_tests))
+among_own r rs = go (r.0 == r.0) (eq-eqb r.0 r.0 refl)
   where
     go : (b : Bool) → b ≡ true → (b || is_among r rs) ≡ true
     go true h = refl
@@ -119,11 +82,14 @@ not_rest x r rs h = go (x.0 == r.0) h
     go true i = absurd cc
     go false i = i
 
+not_below : (s : ℕ) → s < s → ⊥
+not_below s lt = omega arith
+
 fresh : {n : NetworkState} {s : ℕ} {r : NameId} {rs : List NameId} → IsStarting n s (r ∷ rs) → IsNowhere n (s, r)
 fresh {n} {s} {r} {rs} starting l h = go (starting.started (s, r) l h)
   where
     go : (s < s) ⊎ ((s ≡ s) × (is_among r (r ∷ rs) ≡ false)) → ⊥
-    go (inl lt) = omega arith
+    go (inl lt) = not_below s lt
     go (inr x) = (let yes = among_own r rs in let no : is_among r (r ∷ rs) ≡ false = x.1 in cc)
 
 -- one more holder of a new role
@@ -181,11 +147,11 @@ not_again e n c s q m one (y ∷ ps) js h rs apart = (other, rest (λ ws f. not_
     other same = go (joins e (slice_get n.machines y.1) c y.0 s) refl (joiners e n c s ps) h
       where
         go : (o : Option Machine) → joins e (slice_get n.machines y.1) c y.0 s ≡ o → (os : Option (List (ℕ × Machine))) → one_joiner y.1 o os ≡ Some js → ⊥
-        go None f os i = absurd cc
+        go None f os i = absurd (none-some js i)
         go (Some k) f os i =
             let here : joins e (slice_get n.machines q.1) c y.0 s ≡ Some k = ap (λ x. joins e (slice_get n.machines x) c y.0 s) same ∙ f in
             let role : q.0.0 ≡ y.0.0 = one_role e (slice_get n.machines q.1) c q.0 y.0 s m k one here in
-            clash (q.0.0 == y.0.0) (grind (arith, nat_tests)) apart
+            clash (q.0.0 == y.0.0) (eq-eqb q.0.0 y.0.0 role) apart
           where
             clash : (b : Bool) → b ≡ true → (b || is_among q.0 (and_roles ps rs)) ≡ false → ⊥
             clash true a b = absurd cc
@@ -195,29 +161,29 @@ not_again e n c s q m one (y ∷ ps) js h rs apart = (other, rest (λ ws f. not_
     rest again = go (joins e (slice_get n.machines y.1) c y.0 s) (joiners e n c s ps) refl h
       where
         go : (o : Option Machine) (os : Option (List (ℕ × Machine))) → joiners e n c s ps ≡ os → one_joiner y.1 o os ≡ Some js → NotIn q.1 (map (λ x. x.1) ps)
-        go None os f i = absurd cc
-        go (Some k) None f i = absurd cc
+        go None os f i = absurd (none-some js i)
+        go (Some k) None f i = absurd (none-some js i)
         go (Some k) (Some ws) f i = again ws f
 
 -- the processes of a start join one after another
 joined_starting : (e : Endpoints) (n : NetworkState) (c : NameId) (s : ℕ) → AreSomewhere e n.machines → IsUnique n → (ps : List (NameId × ℕ)) (js : List (ℕ × Machine)) → joiners e n c s ps ≡ Some js → (rs : List NameId) → AreDistinct (and_roles ps rs)
     → (ms : List Machine) → Untouched n ms ps → IsStarting (record n { machines = ms }) s (and_roles ps rs) → IsStarting (record n { machines = with_machines ms js }) s rs
 unfolding Untouched
-joined_starting e n c s all unique [] js h rs d ms u starting = (let is : [] ≡ js = cc in subst (λ (w : List (ℕ × Machine)). IsStarting (record n { machines = with_machines ms w }) s rs) is starting)
+joined_starting e n c s all unique [] js h rs d ms u starting = (let is = same_Some [] js h in subst (λ (w : List (ℕ × Machine)). IsStarting (record n { machines = with_machines ms w }) s rs) is starting)
 joined_starting e n c s all unique (q ∷ ps) js h rs (one_more apart d) ms u starting =
     go (slice_get n.machines q.1) refl (joiners e n c s ps) refl h (λ ws f ns v more. joined_starting e n c s all unique ps ws f rs d ns v more)
   where
     go : (o : Option Machine) → slice_get n.machines q.1 ≡ o → (os : Option (List (ℕ × Machine))) → joiners e n c s ps ≡ os → one_joiner q.1 (joins e (slice_get n.machines q.1) c q.0 s) os ≡ Some js
         → ((ws : List (ℕ × Machine)) → joiners e n c s ps ≡ Some ws → (ns : List Machine) → Untouched n ns ps → IsStarting (record n { machines = ns }) s (and_roles ps rs) → IsStarting (record n { machines = with_machines ns ws }) s rs)
         → IsStarting (record n { machines = with_machines ms js }) s rs
-    go None f os g i again = (let j : one_joiner q.1 (joins e None c q.0 s) os ≡ Some js = sym (ap (λ (o : Option Machine). one_joiner q.1 (joins e o c q.0 s) os) f) ∙ i in absurd cc)
+    go None f os g i again = (let j : one_joiner q.1 (joins e None c q.0 s) os ≡ Some js = sym (ap (λ (o : Option Machine). one_joiner q.1 (joins e o c q.0 s) os) f) ∙ i in absurd (none-some js j))
     go (Some w) f os g i again = joined (joins e (slice_get n.machines q.1) c q.0 s) refl os g i
       where
         joined : (o : Option Machine) → joins e (slice_get n.machines q.1) c q.0 s ≡ o → (os : Option (List (ℕ × Machine))) → joiners e n c s ps ≡ os → one_joiner q.1 o os ≡ Some js → IsStarting (record n { machines = with_machines ms js }) s rs
-        joined None a os b j = absurd cc
-        joined (Some m) a None b j = absurd cc
+        joined None a os b j = absurd (none-some js j)
+        joined (Some m) a None b j = absurd (none-some js j)
         joined (Some m) a (Some ws) b j =
-            let is : (q.1, m) ∷ ws ≡ js = cc in
+            let is = same_Some ((q.1, m) ∷ ws) js j in
             subst (λ (x : List (ℕ × Machine)). IsStarting (record n { machines = with_machines ms x }) s rs) is
             (again ws b (slice_set ms q.1 m) (untouched_set n ms ps q.1 m (not_again e n c s q m a ps ws b rs apart) u.1) more)
           where
@@ -301,14 +267,20 @@ pair_roles (r ∷ rs) (p ∷ ps) qs h = go (paired rs ps) refl h (λ xs f. pair_
 pair_roles [] (p ∷ ps) qs h = absurd cc
 pair_roles (r ∷ rs) [] qs h = absurd cc
 
+one_less : (a b : ℕ) → a < b → a < suc b
+one_less a b lt = omega arith
+
+one_more_than : (a b : ℕ) → a ≡ b → a < suc b
+one_more_than a b is = omega arith
+
 started_sound : (e : Endpoints) → IsFaultless e → (n k : NetworkState) (c : NameId) (ps : List ℕ) (x : Event) → AreSomewhere e n.machines → IsSound n → starts e n c ps ≡ Some (Makes x k) → IsSound k
 started_sound e faultless n k c ps x all sound h = at_channel (channel_of e.channels c) refl h
   where
     at_joiners : (y : Channel) → channel_of e.channels c ≡ Some y → (qs : List (NameId × ℕ)) → paired y.active ps ≡ Some qs → (o : Option (List (ℕ × Machine))) → joiners e n c n.sid qs ≡ o → begun e n c y qs o ≡ Some (Makes x k) → IsSound k
-    at_joiners y f qs g None i j = absurd cc
+    at_joiners y f qs g None i j = absurd (none-some (Makes x k) j)
     at_joiners y f qs g (Some ms) i j =
         let last : NetworkState = record n { machines = with_machines n.machines ms ++ served e c n.sid y.serve; sid = suc n.sid } in
-        let is : last ≡ k = cc in
+        let is = made_same j in
         subst IsSound is sound_after
       where
         roles : and_roles qs y.serve ≡ y.active ++ y.serve
@@ -329,17 +301,17 @@ started_sound e faultless n k c ps x all sound h = at_channel (channel_of e.chan
         sound_after : IsSound (record n { machines = with_machines n.machines ms ++ served e c n.sid y.serve; sid = suc n.sid })
         sound_after = record {
           unique = serving.unique;
-          started = λ v l a. elim (serving.started v l a) [ inl lt ↦ (let less : v.0 < n.sid = lt in omega arith) | inr z ↦ (let same : v.0 ≡ n.sid = z.0 in omega arith) ];
+          started = λ v l a. elim (serving.started v l a) [ inl lt ↦ one_less v.0 n.sid lt | inr z ↦ one_more_than v.0 n.sid z.0 ];
           plain = serving.plain;
         }
 
     at_pairs : (y : Channel) → channel_of e.channels c ≡ Some y → (o : Option (List (NameId × ℕ))) → paired y.active ps ≡ o → starts_with e n c y o ≡ Some (Makes x k) → IsSound k
-    at_pairs y f None g i = absurd cc
-    at_pairs y f (Some []) g i = absurd cc
+    at_pairs y f None g i = absurd (none-some (Makes x k) i)
+    at_pairs y f (Some []) g i = absurd (none-some (Makes x k) i)
     at_pairs y f (Some (q ∷ qs)) g i = at_joiners y f (q ∷ qs) g (joiners e n c n.sid (q ∷ qs)) refl i
 
     at_channel : (o : Option Channel) → channel_of e.channels c ≡ o → channel_starts e n c ps o ≡ Some (Makes x k) → IsSound k
-    at_channel None f i = absurd cc
+    at_channel None f i = absurd (none-some (Makes x k) i)
     at_channel (Some y) f i = at_pairs y f (paired y.active ps) refl i
 
 first_sound : (e : Endpoints) → IsSound (first_state e)

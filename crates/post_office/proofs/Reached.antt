@@ -4,7 +4,8 @@ use Rattle.std.specs.Prelude.{slice_get, slice_set, All}
 use Rattle.std.specs.FinMap as fin
 use Rattle.std.proofs.lemmas.List.Elements.{All-head, All-tail}
 use Rattle.std.proofs.lemmas.Bool.Decides.{nat_tests}
-use Rattle.std.proofs.lemmas.Bool.{eqb-true, eqb-false}
+use Rattle.std.proofs.lemmas.Bool.{eqb-true, eqb-false, and_parts}
+use Rattle.std.proofs.lemmas.Option.{none-some, same_Some}
 use Rattle.chor_base.specs.declared.names.NameId.{NameId}
 use Rattle.chor_base.specs.declared.value.Value.TheVariants.{Int, Bool as Truth, Text, Part as Endpoint}
 use Rattle.chor_base.specs.declared.value.Load.{Load}
@@ -25,7 +26,47 @@ use Rattle.endpoint_code.specs.Network.{Sessions, Machine, NetworkState, Place, 
 use Rattle.endpoint_code.specs.NetworkRuns.{NetworkLeads, IsNetworkRun, joins_there}
 use Rattle.post_office.proofs.Casts.{name_same}
 use Rattle.post_office.proofs.Steps.{get-set_other}
-use Rattle.post_office.proofs.Scoped.{IsSomewhere, IsNext, IsPlaced, next_somewhere, is_placed, place_active}
+use Rattle.post_office.proofs.Scoped.{IsSomewhere, IsNext, next_somewhere, is_placed, place_active}
+
+-- ---- a process joins
+
+-- a node at which a process joins in a role: where it goes on, and what is bound
+pub record JoinsAs (node : CodeNode) (vars : Variables) (ss : Sessions) (r : NameId) (s : ℕ) (m : Machine) : Type 0 where
+  pub channel : NameId
+  pub role : NameId
+  pub key : NameId
+  pub next : CodeId
+  pub node_is : node ≡ Join channel role key next
+  pub same_role : role.0 ≡ r.0
+  pub machine_is : m ≡ record { at = next; vars = vars; sessions = fin.insert ss key.0 (s, r) }
+
+join_tested : (d o k : NameId) (next : CodeId) (vars : Variables) (ss : Sessions) (c r : NameId) (s : ℕ) (m : Machine) (b : Bool) → ((d.0 == c.0) && (o.0 == r.0)) ≡ b
+    → (if b then Some (record { at = next; vars = vars; sessions = fin.insert ss k.0 (s, r) }) else None) ≡ Some m → JoinsAs (Join d o k next) vars ss r s m
+join_tested d o k next vars ss c r s m false e h = absurd (none-some m h)
+join_tested d o k next vars ss c r s m true e h = record {
+  channel = d;
+  role = o;
+  key = k;
+  next = next;
+  node_is = refl;
+  same_role = eqb-true o.0 r.0 (and_parts (d.0 == c.0) (o.0 == r.0) e).1;
+  machine_is = sym (same_Some (record { at = next; vars = vars; sessions = fin.insert ss k.0 (s, r) }) m h);
+}
+
+pub node_joined : (node : CodeNode) (vars : Variables) (ss : Sessions) (c r : NameId) (s : ℕ) (m : Machine) → node_joins node vars ss c r s ≡ Some m → JoinsAs node vars ss r s m
+node_joined (Join d o k next) vars ss c r s m h = join_tested d o k next vars ss c r s m ((d.0 == c.0) && (o.0 == r.0)) refl h
+node_joined (Send k b x next) vars ss c r s m h = absurd (none-some m h)
+node_joined (Recv k a x next) vars ss c r s m h = absurd (none-some m h)
+node_joined (Pick k b l next) vars ss c r s m h = absurd (none-some m h)
+node_joined (Branch k a arms) vars ss c r s m h = absurd (none-some m h)
+node_joined (Throw k b g next) vars ss c r s m h = absurd (none-some m h)
+node_joined (Catch k a g next) vars ss c r s m h = absurd (none-some m h)
+node_joined (Set x v next) vars ss c r s m h = absurd (none-some m h)
+node_joined (Show v next) vars ss c r s m h = absurd (none-some m h)
+node_joined (Host x g v u next) vars ss c r s m h = absurd (none-some m h)
+node_joined (If v t u) vars ss c r s m h = absurd (none-some m h)
+node_joined (Call g o ts) vars ss c r s m h = absurd (none-some m h)
+node_joined End vars ss c r s m h = absurd (none-some m h)
 
 -- ---- one process goes on
 
@@ -58,10 +99,13 @@ arm_next arms a vars vs m ss (Picks l) h = (l, go (arm_at arms l) h)
     go None i = absurd cc
     go (Some b) i = let is : b ≡ a = cc in ap Some is
 
+pub made_same : {x y : Event} {n k : NetworkState} → Some (Makes x n) ≡ Some (Makes y k) → n ≡ k
+made_same h = cc
+
 module _ (p : ℕ) (node : CodeNode) (x : Event) (k : NetworkState) where
   goes_on : (n : NetworkState) (a : CodeId) (vars : Variables) (ss : Sessions) {y : Event} {j : NetworkState} → Some (Makes y j) ≡ Some (Makes x k) → j.machines ≡ slice_set n.machines p (record { at = a; vars = vars; sessions = ss }) → IsNext node a → GoesOn p node n k
   goes_on n a vars ss {y} {j} h is nx =
-      let same : j ≡ k = cc in
+      let same = made_same h in
       record { at = a; vars = vars; sessions = ss; machines = sym (ap (λ (w : NetworkState). w.machines) same) ∙ is; next = nx }
 
   put_goes : (cap : Option ℕ) (n : NetworkState) (a : CodeId) (vars : Variables) (ss : Sessions) (b : NameId) (o : Option (ℕ × NameId)) (ol : Option Load) → IsNext node a → puts cap (moved n p a vars ss) p b o ol ≡ Some (Makes x k) → GoesOn p node n k
@@ -115,6 +159,12 @@ get-set_own [] p m w h = absurd cc
 get-set_own (x ∷ ms) zero m w h = cc
 get-set_own (x ∷ ms) (suc p) m w h = get-set_own ms p m w h
 
+turned : (a b : ℕ) → (a == b) ≡ (b == a)
+turned a b = grind (arith, nat_tests)
+
+flipped : (a b c d : ℕ) → ((a == b) && (c == d)) ≡ ((b == a) && (d == c))
+flipped a b c d = ap (λ t. t && (c == d)) (turned a b) ∙ ap (λ t. (b == a) && t) (turned c d)
+
 module _ (e : Endpoints) where
   set_somewhere : (ms : List Machine) (p : ℕ) (m : Machine) → AreSomewhere e ms → IsSomewhere e m.at → AreSomewhere e (slice_set ms p m)
   set_somewhere ms p m all one q w h = go (q == p) refl
@@ -138,9 +188,6 @@ module _ (e : Endpoints) where
   first_somewhere (x ∷ ps) all (suc p) m h = first_somewhere ps (All-tail (λ (p : Process). IsScoped e p.body []) x ps all) p m h
 
   -- ---- services
-
-  flipped : (a b c d : ℕ) → ((a == b) && (c == d)) ≡ ((b == a) && (d == c))
-  flipped a b c d = grind (arith, nat_tests)
 
   service_somewhere : (ss : List ServiceCode) (c r : NameId) → All (λ s. IsScoped e s.body (s.channel ∷ [])) ss → has_service c r ss ≡ true → IsSomewhere e (service_of ss c r)
   service_somewhere [] c r all h = absurd cc
@@ -179,34 +226,16 @@ module _ (e : Endpoints) (faultless : IsFaultless e) where
   names = faultless.names
 
   joined_somewhere : (o : Option Machine) (c r : NameId) (s : ℕ) (m : Machine) → ((w : Machine) → o ≡ Some w → IsSomewhere e w.at) → joins e o c r s ≡ Some m → IsSomewhere e m.at
-  joined_somewhere None c r s m all h = absurd cc
+  joined_somewhere None c r s m all h = absurd (none-some m h)
   joined_somewhere (Some w) c r s m all h = at_place (place_of e w) refl h
     where
-      at_node : (q : Place) → IsPlaced e q → (node : CodeNode) → q.node ≡ node → node_joins node w.vars q.sessions c r s ≡ Some m → IsSomewhere e m.at
-      at_node q placed (Join d o k next) f i = go ((d.0 == c.0) && (o.0 == r.0)) i
-        where
-          go : (b : Bool) → (if b then Some (record { at = next; vars = w.vars; sessions = fin.insert q.sessions k.0 (s, r) }) else None) ≡ Some m → IsSomewhere e m.at
-          go false j = absurd cc
-          go true j =
-              let y : Machine = record { at = next; vars = w.vars; sessions = fin.insert q.sessions k.0 (s, r) } in
-              let is : y ≡ m = cc in
-              subst (λ (z : Machine). IsSomewhere e z.at) is (next_somewhere e placed.somewhere.1 (Join d o k next) next (placed.found ∙ ap (λ (z : CodeNode). Some z) f) refl)
-      at_node q placed (Send k b x next) f i = absurd cc
-      at_node q placed (Recv k a x next) f i = absurd cc
-      at_node q placed (Pick k b l next) f i = absurd cc
-      at_node q placed (Branch k a arms) f i = absurd cc
-      at_node q placed (Throw k b g next) f i = absurd cc
-      at_node q placed (Catch k a g next) f i = absurd cc
-      at_node q placed (Set x v next) f i = absurd cc
-      at_node q placed (Show v next) f i = absurd cc
-      at_node q placed (Host x g v u next) f i = absurd cc
-      at_node q placed (If v t u) f i = absurd cc
-      at_node q placed (Call g o ss) f i = absurd cc
-      at_node q placed End f i = absurd cc
-
       at_place : (o : Option Place) → place_of e w ≡ o → place_joins o w.vars c r s ≡ Some m → IsSomewhere e m.at
-      at_place None f i = absurd cc
-      at_place (Some q) f i = at_node q (is_placed e names w.at w.sessions q (all w refl) f) q.node refl i
+      at_place None f i = absurd (none-some m i)
+      at_place (Some q) f i =
+          let placed = is_placed e names w.at w.sessions q (all w refl) f in
+          let j = node_joined q.node w.vars q.sessions c r s m i in
+          let found = placed.found ∙ ap (λ (z : CodeNode). Some z) j.node_is in
+          subst (λ (z : Machine). IsSomewhere e z.at) (sym j.machine_is) (next_somewhere e placed.somewhere.1 (Join j.channel j.role j.key j.next) j.next found refl)
 
   joiners_somewhere : (n : NetworkState) (c : NameId) (s : ℕ) (ps : List (NameId × ℕ)) (js : List (ℕ × Machine)) → AreSomewhere e n.machines → joiners e n c s ps ≡ Some js → (ms : List Machine) → AreSomewhere e ms → AreSomewhere e (with_machines ms js)
   joiners_somewhere n c s [] js all h ms a = (let is : [] ≡ js = cc in subst (λ (w : List (ℕ × Machine)). AreSomewhere e (with_machines ms w)) is a)
@@ -228,7 +257,7 @@ module _ (e : Endpoints) (faultless : IsFaultless e) where
       at_joiners y f qs None g i = absurd cc
       at_joiners y f qs (Some ms) g i =
           let j : NetworkState = record n { machines = with_machines n.machines ms ++ served e c n.sid y.serve; sid = suc n.sid } in
-          let is : j ≡ k = cc in
+          let is = made_same i in
           let has = channel_has e (λ (z : Channel). All (λ r. has_service z.name r e.services ≡ true) z.serve) e.channels c y names.provided f in
           let provided : All (λ r. has_service c r e.services ≡ true) y.serve = subst (λ (z : NameId). All (λ r. has_service z r e.services ≡ true) y.serve) has.1 has.0 in
           subst (λ (z : NetworkState). AreSomewhere e z.machines) is

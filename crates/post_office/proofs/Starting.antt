@@ -1,8 +1,8 @@
 -- An office after the start of a session.
-use Rattle.std.proofs.Common.{◌≡◌, ◌≢◌, ℕ, zero, suc, ◌+◌, ◌<◌, ◌≤◌, ◌==◌, ◌^◌, ◌⊎◌, inl, inr, Bool, true, false, cond, List, [], ◌∷◌, ◌++◌, length, refl, sym, ap, ◌∙◌, subst, Option, Some, None, arith, length-append, if◌then◌else◌}
+use Rattle.std.proofs.Common.{◌≡◌, ◌≢◌, ℕ, zero, suc, ◌+◌, ◌-◌, ◌<◌, ◌≤◌, ◌==◌, ◌^◌, ◌⊎◌, inl, inr, Bool, true, false, cond, List, [], ◌∷◌, ◌++◌, length, take, refl, sym, ap, ◌∙◌, subst, Option, Some, None, arith, length-append, if◌then◌else◌}
 use Rattle.std.specs.Prelude.{slice_get, slice_set, map}
 use Rattle.std.proofs.Math.ListN.{replicate}
-use Rattle.std.proofs.lemmas.List.{length-set, length-replicate, map-append}
+use Rattle.std.proofs.lemmas.List.{length-set, length-replicate, map-append, take_all}
 use Rattle.std.proofs.lemmas.List.Elements.{All-head, All-tail}
 use Rattle.std.specs.FinMap as fin
 use Rattle.std.proofs.lemmas.Bool.{eqb-true, eqb-false, and_parts}
@@ -142,6 +142,13 @@ joined_post s (q ∷ qs) ds i = go (i == q.1) refl (joined_post s qs (slice_set 
     go b h (inl e) = inl e
     go true h (inr e) = inl (e.0 ∙ subst (λ j. post_at (slice_set ds q.1 desk) j ≡ Busy) (sym (eqb-true i q.1 h)) (busy_own ds q.1 (Some s)))
     go false h (inr e) = let apart = eqb-false i q.1 h in inr (e.0 ∙ post_other ds q.1 i desk apart, (apart, e.1))
+
+-- so many more are put after all
+pub resized : (ds : List Desk) (count n k : ℕ) (d x : Desk) → n ≡ length ds + count → k ≡ length ds → d ≡ x → take n ds ++ replicate (n - k) d ≡ ds ++ replicate count x
+resized ds count n k d x is long same =
+    let more : length ds ≤ n = omega arith in
+    let rest : n - k ≡ count = omega arith in
+    ap (λ (xs : List Desk). xs ++ replicate (n - k) d) (take_all n ds more) ∙ ap (λ i. ds ++ replicate i d) rest ∙ ap (λ (y : Desk). ds ++ replicate count y) same
 
 -- of a new process nothing is posted
 appended_post : (ds : List Desk) (n i : ℕ) → (post_at (ds ++ replicate n idle) i ≡ Busy) ⊎ ((post_at (ds ++ replicate n idle) i ≡ post_at ds i) × (i < length ds))

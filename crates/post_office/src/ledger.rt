@@ -1,11 +1,11 @@
 //! What is kept of a network beside its processes.
 
-ghost use Rattle.std.specs.Prelude.{◌≡◌, ◌<◌, ◌≤◌, ◌+◌, ◌-◌, ◌++◌, ◌∷◌, [], vec_len, vec_capacity};
+ghost use Rattle.std.specs.Prelude.{◌≡◌, ◌<◌, ◌≤◌, ◌+◌, ◌-◌, ◌++◌, ◌∷◌, [], vec_len, vec_capacity, OnOk, IsOk};
 ghost use Rattle.endpoint_code.specs.Network.{has_room};
 ghost use Rattle.post_office.specs.Views.{loads_at};
 
 use crate::queues::Queues;
-use chor_base::{Entry, Event, NameId};
+use chor_base::{Entry, Event, Memory, NameId};
 use std::alloc::Global;
 
 /// What is kept of a network beside its processes: the queues, the number of the next session, and
@@ -44,6 +44,17 @@ impl Ledger {
     {
         self.queues.has_room(self.capacity, sid, from, to)
     }
+}
+
+/// Takes memory for so many events.
+pub fn reserve_entries(history: &mut Vec<Entry>, count: usize) -> Result<(), Memory>
+    ensures items { history.new.items ≡ history.old.items }
+    ensures ok { OnOk result (count ≤ vec_capacity history.new - vec_len history.new) }
+    ensures kept { vec_capacity history.old - vec_len history.old ≤ vec_capacity history.new - vec_len history.new }
+    ensures succeeds { count ≤ vec_capacity history.old - vec_len history.old → IsOk result }
+{
+    history.reserve(count)?;
+    Ok(())
 }
 
 /// One event more, for which there is room.

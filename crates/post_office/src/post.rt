@@ -3,7 +3,7 @@
 use chor_base::{Load, NameId, Why};
 
 /// What a process is doing.
-#[derive(Clone, Copy, PartialEq, Eq)]
+#[derive(Clone, Copy)]
 pub enum Post {
     /// Nothing is known of it.
     Busy,
@@ -16,7 +16,7 @@ pub enum Post {
 }
 
 /// What became of a send.
-#[derive(Clone, Copy, PartialEq, Eq)]
+#[derive(Clone, Copy)]
 pub enum Sent {
     /// The message is the last of its queue.
     Sent,
@@ -25,7 +25,7 @@ pub enum Sent {
 }
 
 /// What became of a receipt.
-#[derive(Clone, Copy, PartialEq, Eq)]
+#[derive(Clone, Copy)]
 pub enum Received {
     /// This was the first message of the queue.
     Got(Load),
@@ -34,7 +34,7 @@ pub enum Received {
 }
 
 /// What became of a start.
-#[derive(Clone, Copy, PartialEq, Eq)]
+#[derive(Clone, Copy)]
 pub enum Started {
     /// The session of this number has started.
     Started(u32),

@@ -9,7 +9,7 @@ ghost use Rattle.post_office.specs.Answers.{IsSame, HasActed, AnswersSend, Answe
 use super::Office;
 use crate::desk::make_busy;
 use crate::entries::actor;
-use crate::ledger::append;
+use crate::ledger::{append, reserve_entries};
 use crate::post::{Received, Sent};
 use chor_base::{Event, Load, Memory, NameId};
 
@@ -21,7 +21,7 @@ impl Office<'_> {
         ensures place { OnOk result (1 ≤ room_on self.new.queues (sid, from, to)) }
         ensures succeeds { 1 ≤ self.old.room → 1 ≤ room_on self.old.queues (sid, from, to) → IsOk result }
     {
-        self.ledger.history.reserve(1)?;
+        reserve_entries(&mut self.ledger.history, 1)?;
         self.ledger.queues.reserve(sid, from, to)
     }
 
@@ -31,8 +31,7 @@ impl Office<'_> {
         ensures room { OnOk result (count ≤ self.new.room) }
         ensures succeeds { count ≤ self.old.room → IsOk result }
     {
-        self.ledger.history.reserve(count as usize)?;
-        Ok(())
+        reserve_entries(&mut self.ledger.history, count as usize)
     }
 
     /// The first message of a queue.

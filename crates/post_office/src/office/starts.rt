@@ -8,7 +8,7 @@ ghost use Rattle.post_office.specs.Starts.{least_posted, partner_for, first_abse
 
 use super::Office;
 use crate::desk::{Desk, join_all, posted};
-use crate::ledger::append;
+use crate::ledger::{append, reserve_entries};
 use crate::parts::{add_served, channel_named};
 use crate::post::{Post, Started};
 use chor_base::{Event, List, Memory, NameId};
@@ -88,19 +88,14 @@ impl Office<'_> {
         ensures err { OnErr result (IsSame self.old self.new) }
     {
         let sid = self.ledger.sid;
-        let alloc = *self.desks.allocator();
         add_served(
             &mut parts,
             channel.serve.as_slice(),
             self.desks.len() as u32,
         )?;
-        let mut new = vec![in alloc; Desk::idle(); channel.serve.len()]?;
-        self.ledger.history.reserve(1)?;
-        self.desks.reserve(new.len())?;
-        match self.desks.append(&mut new) {
-            Ok(()) => {}
-            Err(_) => unreachable!(),
-        }
+        reserve_entries(&mut self.ledger.history, 1)?;
+        self.desks
+            .resize(self.desks.len() + channel.serve.len(), Desk::idle())?;
         join_all(&mut self.desks, sid, parts.as_slice());
         let event = Event::Start {
             channel: channel.name,

@@ -1,4 +1,5 @@
 use Rattle.std.proofs.Common.{sym, subst, ap, refl, ◌≡◌, ◌∙◌, ◌+◌, ◌<◌, ◌^◌, ◌++◌, ◌∷◌, [], ℕ, length, arith, List, Some}
+use Rattle.std.specs.Prelude.{vec_len}
 use Rattle.std.proofs.Math.ListN.{replicate}
 use Rattle.chor_base.specs.declared.names.NameId.{NameId}
 use Rattle.chor_base.specs.declared.event.Entry.{Entry}
@@ -7,7 +8,7 @@ use Rattle.endpoint_code.specs.Network.{channel_of, served_parts}
 use Rattle.post_office.specs.declared.desk.Desk.{Desk}
 use Rattle.post_office.specs.Views.{OfficeView, idle, all_joined}
 use Rattle.post_office.specs.Starts.{AllPosted, FitsStart}
-use Rattle.post_office.proofs.Starting.{served_most, begun_kept}
+use Rattle.post_office.proofs.Starting.{served_most, resized, begun_kept}
 use Rattle.post_office.proofs.office.Office.begin.Goals as goal
 
 pub add_served-requires : goal.add_served-requires
@@ -31,11 +32,11 @@ invariant_of-self-2 c =
     let parts : c.add_served.new.parts ≡ c.args.parts ++ served_parts k.serve (length c.self.inside.desks.items) =
     c.in_ok-add_served.ensures ∙ ap (λ (rs : List NameId). c.args.parts ++ served_parts rs c.len.result) c.as_slice.ensures ∙ ap (λ i. c.args.parts ++ served_parts k.serve i) many in
     let is = ap (λ (ps : List (NameId × ℕ)). event.Start k.name s ps) parts in
-    let fresh : c.in_ok-new.new.items ≡ replicate (length k.serve) idle =
-    c.in_ok-new.ensures.items_if_clones_equal (λ y h. h) ∙ ap (λ i. replicate i c.idle.result) c.len-2.ensures ∙ ap (λ (d : Desk). replicate (length k.serve) d) c.idle.ensures in
-    let all : c.append.new.self.items ≡ c.self.inside.desks.items ++ replicate (length k.serve) idle =
-    c.in-Ok.ensures.items ∙ ap (λ (ds : List Desk). ds ++ c.in_ok-new.new.items) c.in_ok-reserve-2.ensures.items ∙ ap (λ (ds : List Desk). c.self.inside.desks.items ++ ds) fresh in
-    let desks = c.join_all.ensures ∙ ap (λ (ps : List (NameId × ℕ)). all_joined s ps c.append.new.self.items) (c.as_slice-2.ensures ∙ parts)
+    let size : c.len-2.result + c.len-3.result ≡ length c.self.inside.desks.items + length k.serve = omega (arith, c.len-2.ensures, c.len-3.ensures) in
+    let long : vec_len c.self.inside.desks ≡ length c.self.inside.desks.items = omega (arith, c.self.inside.desks.ok.0) in
+    let all : c.resize.new.self.items ≡ c.self.inside.desks.items ++ replicate (length k.serve) idle =
+    c.in_ok-resize.ensures.items ∙ resized c.self.inside.desks.items (length k.serve) (c.len-2.result + c.len-3.result) (vec_len c.self.inside.desks) c.idle.result idle size long c.idle.ensures in
+    let desks = c.join_all.ensures ∙ ap (λ (ps : List (NameId × ℕ)). all_joined s ps c.resize.new.self.items) (c.as_slice-2.ensures ∙ parts)
     ∙ ap (λ (ds : List Desk). all_joined s (c.args.parts ++ served_parts k.serve (length c.self.inside.desks.items)) ds) all in
-    let history = c.append-2.ensures.items ∙ ap (λ (es : List Entry). es ++ record { worker = c.args.worker; event = event.Start k.name s c.add_served.new.parts } ∷ []) c.in_ok-reserve.ensures.items in
-    begun_kept c.self.invariant k c.args.parts found posted c.requires.roles c.requires.some few _ c.args.worker (s + 1) c.append-2.new.history.items c.join_all.new.desks.items _ is history refl desks
+    let history = c.append.ensures.items ∙ ap (λ (es : List Entry). es ++ record { worker = c.args.worker; event = event.Start k.name s c.add_served.new.parts } ∷ []) c.reserve_entries.ensures.items in
+    begun_kept c.self.invariant k c.args.parts found posted c.requires.roles c.requires.some few _ c.args.worker (s + 1) c.append.new.history.items c.join_all.new.desks.items _ is history refl desks

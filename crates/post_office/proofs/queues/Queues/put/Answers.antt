@@ -1,5 +1,6 @@
-use Rattle.std.proofs.Common.{ℕ, List, [], ap, arith, false, length, rules, sym, ◌+◌, ◌++◌, ◌<◌, ◌∙◌, ◌∷◌, ◌≡◌, ◌≤◌}
+use Rattle.std.proofs.Common.{ℕ, List, [], ap, false, length, subst, sym, ◌+◌, ◌++◌, ◌<◌, ◌∙◌, ◌∷◌, ◌≡◌, ◌≤◌}
 use Rattle.std.specs.Prelude.{Some, slice_set}
+use Rattle.std.proofs.lemmas.Bool.{false≢true}
 use Rattle.chor_base.specs.declared.value.Load.{Load}
 use Rattle.chor_base.specs.Events.{Triple, triple_eq}
 use Rattle.endpoint_code.specs.Network.{loads_for, with_loads}
@@ -18,7 +19,7 @@ push-requires c =
     ∙ room_found _ c.self.inside.lanes.items t c.in-Some.place c.index_mut-lane.result.now
     (sym (c.in-Some.ensures.place ∙ ap (λ (v : QueuesView). lane_from 0 v.lanes t) (sym c.self.view_is))) c.index_mut-lane.ensures.value
     in
-    omega arith
+    subst (λ (n : ℕ). 1 ≤ n) e r
 
 pub open-requires-clause-absent : goal.open-requires-clause-absent
 open-requires-clause-absent c = sym c.in-None.ensures.place
@@ -30,7 +31,7 @@ open-requires-clause-room c =
     let e : room_on c.args.self.now t ≡ c.args.self.now.fresh = room_none c.args.self.now.fresh c.args.self.now.lanes t
     (sym (c.in-None.ensures.place))
     in
-    omega arith
+    subst (λ (n : ℕ). 1 ≤ n) e r
 
 pub returns-in-Some-clause-loads : goal.returns-in-Some-clause-loads
 returns-in-Some-clause-loads c =
@@ -66,9 +67,9 @@ returns-in-None-clause-room c =
     let ls = c.args.self.now.lanes in
     let none : is_there ls t ≡ false = none_there ls t (sym c.in-None.ensures.place) in
     record {
-      own = λ h. absurd cc;
+      own = λ h. absurd (false≢true (sym none ∙ h));
       others = λ u _ h. c.open.ensures.room u h;
-      unopened = λ u _ h. absurd cc;
+      unopened = λ u _ h. absurd (false≢true (sym none ∙ h));
     }
 
 pub returns-in-None-clause-loads : goal.returns-in-None-clause-loads
@@ -80,7 +81,7 @@ returns-in-None-clause-loads c =
 pub invariant_of-self : goal.invariant_of-self
 invariant_of-self c =
     let i = c.self.inside in
-    let within : c.in-Some.place < length i.lanes.items = search rules in
+    let within : c.in-Some.place < length i.lanes.items = subst (λ (v : QueuesView). c.in-Some.place < length v.lanes) (sym c.self.view_is) c.in-Some.ensures.within in
     record {
       same = indexed_put i.directions.keys i.lanes.items c.in-Some.place c.index_mut-lane.result.now c.push.new.self c.self.invariant.same within c.index_mut-lane.ensures.value c.push.ensures.triple;
       unused = c.self.invariant.unused;

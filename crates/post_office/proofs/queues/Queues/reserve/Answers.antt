@@ -1,4 +1,4 @@
-use Rattle.std.proofs.Common.{List, ap, arith, get_or, length, rules, sym, ◌<◌, ◌∙◌, ◌≡◌, ◌≤◌}
+use Rattle.std.proofs.Common.{List, ap, arith, get_or, length, subst, sym, ◌<◌, ◌∙◌, ◌≡◌, ◌≤◌}
 use Rattle.chor_base.specs.Events.{Triple}
 use Rattle.post_office.specs.Lanes.{LaneView, QueuesView, loads_in, room_among, room_on, lane_from}
 use Rattle.post_office.proofs.Lanes.{same_loads, room_found, room_kept, room_none, room_more, room_put_found, on_ok}
@@ -9,7 +9,7 @@ use Rattle.post_office.proofs.queues.Queues.reserve.Goals as goal
 pub returns-in-Some-clause-loads : goal.returns-in-Some-clause-loads
 returns-in-Some-clause-loads c =
     let l = c.index_mut-lane.result.now in
-    let within : c.in-Some.place < length c.self.inside.lanes.items = search rules in
+    let within : c.in-Some.place < length c.self.inside.lanes.items = subst (λ (v : QueuesView). c.in-Some.place < length v.lanes) (sym c.self.view_is) c.in-Some.ensures.within in
     same_loads c.self.inside.lanes.items c.in-Some.place l c.reserve.new.self within
     (c.reserve.ensures.triple ∙ ap (λ (n : LaneView). n.triple) c.index_mut-lane.ensures.value)
     (c.reserve.ensures.loads ∙ ap (λ (n : LaneView). n.loads) c.index_mut-lane.ensures.value)
@@ -27,7 +27,7 @@ returns-in-Some-clause-ok c =
 
 pub returns-in-Some-clause-kept : goal.returns-in-Some-clause-kept
 returns-in-Some-clause-kept c = λ t.
-    let within : c.in-Some.place < length c.self.inside.lanes.items = search rules in
+    let within : c.in-Some.place < length c.self.inside.lanes.items = subst (λ (v : QueuesView). c.in-Some.place < length v.lanes) (sym c.self.view_is) c.in-Some.ensures.within in
     let room : c.index_mut-lane.result.now.room ≡ (get_or c.self.inside.lanes.items c.in-Some.place c.index_mut-lane.result.now).room = ap (λ (n : LaneView). n.room) c.index_mut-lane.ensures.value in
     let kept : c.index_mut-lane.result.now.room ≤ c.reserve.new.self.room = c.reserve.ensures.kept in
     let same : room_on c.args.self.now t ≡ room_among (the_view c.self.inside).fresh c.self.inside.lanes.items t = ap (λ (v : QueuesView). room_on v t) (sym c.self.view_is) in
@@ -75,7 +75,7 @@ returns-in-None-clause-succeeds c = λ h.
 pub invariant_of-self : goal.invariant_of-self
 invariant_of-self c =
     let i = c.self.inside in
-    let within : c.in-Some.place < length i.lanes.items = search rules in
+    let within : c.in-Some.place < length i.lanes.items = subst (λ (v : QueuesView). c.in-Some.place < length v.lanes) (sym c.self.view_is) c.in-Some.ensures.within in
     record {
       same = indexed_put i.directions.keys i.lanes.items c.in-Some.place c.index_mut-lane.result.now c.reserve.new.self c.self.invariant.same within c.index_mut-lane.ensures.value c.reserve.ensures.triple;
       unused = c.self.invariant.unused;

@@ -1,4 +1,4 @@
-use Rattle.std.proofs.Common.{List, ap, arith, get_or, length, rules, sym, ◌<◌, ◌∙◌, ◌≡◌, ◌≤◌}
+use Rattle.std.proofs.Common.{List, ap, arith, get_or, length, subst, sym, ◌<◌, ◌∙◌, ◌≡◌, ◌≤◌}
 use Rattle.std.specs.Prelude.{drop, slice_get, IfSome, Option, Some, None}
 use Rattle.chor_base.specs.declared.value.Load.{Load}
 use Rattle.chor_base.specs.Events.{Triple}
@@ -38,7 +38,7 @@ pub returns-clause-room : goal.returns-clause-room
 returns-clause-room c = λ t.
     let ls = c.self.inside.lanes.items in
     let l = c.index_mut-lane.result.now in
-    let within : c.in_ok-place.place < length ls = search rules in
+    let within : c.in_ok-place.place < length ls = subst (λ (v : QueuesView). c.in_ok-place.place < length v.lanes) (sym c.self.view_is) c.in_ok-place.ensures.within in
     let room : l.room ≡ (get_or ls c.in_ok-place.place l).room = ap (λ (n : LaneView). n.room) c.index_mut-lane.ensures.value in
     let kept : l.room ≤ c.pop.new.self.room = c.pop.ensures.room in
     let same : room_on c.args.self.now t ≡ room_among (the_view c.self.inside).fresh ls t = ap (λ (v : QueuesView). room_on v t) (sym c.self.view_is) in
@@ -48,7 +48,7 @@ returns-clause-room c = λ t.
 pub invariant_of-self : goal.invariant_of-self
 invariant_of-self c =
     let i = c.self.inside in
-    let within : c.in_ok-place.place < length i.lanes.items = search rules in
+    let within : c.in_ok-place.place < length i.lanes.items = subst (λ (v : QueuesView). c.in_ok-place.place < length v.lanes) (sym c.self.view_is) c.in_ok-place.ensures.within in
     record {
       same = indexed_put i.directions.keys i.lanes.items c.in_ok-place.place c.index_mut-lane.result.now c.pop.new.self c.self.invariant.same within c.index_mut-lane.ensures.value c.pop.ensures.triple;
       unused = c.self.invariant.unused;
