@@ -14,12 +14,14 @@ use Rattle.waiting_processes.specs.declared.waits.Awaited.TheVariants.{Queue, Ch
 use Rattle.waiting_processes.specs.declared.lists.WaitingLists.{WaitingLists}
 use Rattle.waiting_processes.specs.Waits.{awaits_room, awaited_by, awaited_in, awaited_at, awaited_of}
 use Rattle.waiting_processes.specs.Lists.{waiting_for, same_awaited}
+use Rattle.waiting_processes.specs.Taken.{IsIn}
 use Rattle.waiting_processes.proofs.Left.{get_other}
 use Rattle.waiting_processes.proofs.Entries.{is_same, same_itself}
+use Rattle.waiting_processes.proofs.Taken.{in_none}
 use Rattle.net_core.specs.declared.candidates.Candidates.{Candidates}
 use Rattle.net_core.specs.Heads.{ended_at, is_listed_at, is_joining_head, Shows}
 use Rattle.endpoint_machine.specs.declared.head.Head.TheVariants as head
-use Rattle.net_core.specs.Candidates.{IsIn, AreWithin, ListsAll, IsKept, IsNoted, IsJudged, HasPlaces, HasGrownTo, IsSettled, Enters, Judges, Renews}
+use Rattle.net_core.specs.Candidates.{AreWithin, ListsAll, IsKept, IsNoted, IsJudged, HasPlaces, HasGrownTo, IsSettled, Enters, Judges, Renews}
 use Rattle.net_core.proofs.Lone.{taker}
 
 -- ---- lists
@@ -62,9 +64,6 @@ in_either ps p q (k, h) = go ps k h
 pub in_one : (p q : ℕ) → IsIn (p ∷ []) q → p ≡ q
 in_one p q (zero, h) = cc
 in_one p q (suc k, h) = absurd cc
-
-pub in_none : (q : ℕ) → IsIn [] q → ⊥
-in_none q (k, h) = cc
 
 -- ---- places
 

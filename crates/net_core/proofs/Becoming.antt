@@ -24,7 +24,8 @@ use Rattle.net_core.specs.Views.{NetworkView}
 use Rattle.net_core.specs.Steps.{HasStepped, HasGrown}
 use Rattle.net_core.proofs.Lone.{taker}
 use Rattle.net_core.specs.Heads.{Shows, ended_of, listed_of, is_listed_at}
-use Rattle.net_core.specs.Candidates.{joined_by, IsIn, ListsAll, IsKept, IsNoted, IsJudged, HasGrownTo, IsUpToDate, Enters, Renews, TakesTouched, HasMoved}
+use Rattle.waiting_processes.specs.Taken.{IsIn}
+use Rattle.net_core.specs.Candidates.{joined_by, ListsAll, IsKept, IsNoted, IsJudged, HasGrownTo, IsUpToDate, Enters, Renews, TakesTouched, HasMoved}
 
 -- ---- whether a process is among others
 

@@ -1,60 +1,18 @@
 -- The processes that an event may have moved, and those that may wait for what it has changed.
-use Rattle.std.proofs.Common.{◌≡◌, ◌⊎◌, inl, inr, ℕ, ◌+◌, ◌==◌, ◌<◌, Bool, true, false, List, [], ◌∷◌, ◌++◌, length, refl, sym, ap, ◌∙◌, subst, Option, Some, None, arith}
-use Rattle.std.specs.Prelude.{if◌then◌else◌}
+use Rattle.std.proofs.Common.{◌≡◌, ◌⊎◌, inl, inr, ℕ, ◌+◌, ◌==◌, ◌<◌, Bool, true, false, List, [], ◌∷◌, ◌++◌, length, refl, sym, subst, Option, Some, None, arith}
 use Rattle.std.proofs.lemmas.Bool.Decides.{nat_tests}
-use Rattle.std.specs.Map.{lookup}
 use Rattle.endpoint_code.specs.declared.endpoints.Endpoints.{Endpoints}
 use Rattle.endpoint_code.specs.Network.{NetworkState}
-use Rattle.endpoint_machine.specs.declared.head.Head.{Head}
 use Rattle.waiting_processes.specs.declared.waits.Awaited.{Awaited}
 use Rattle.waiting_processes.specs.declared.lists.WaitingLists.{WaitingLists}
 use Rattle.waiting_processes.specs.Waits.{awaited_by, touched_by}
-use Rattle.waiting_processes.specs.Lists.{waiting_for, same_awaited, list_of}
-use Rattle.waiting_processes.proofs.Entries.{is_same}
+use Rattle.waiting_processes.specs.Lists.{waiting_for}
+use Rattle.waiting_processes.specs.Taken.{IsIn, TakesWaiting}
+use Rattle.waiting_processes.proofs.Taken.{in_none, same_waiting}
 use Rattle.net_core.specs.declared.candidates.Candidates.{Candidates}
 use Rattle.net_core.specs.declared.candidates.Past.{Past}
-use Rattle.net_core.specs.Candidates.{IsIn, AreBelow, HasPlaces, TakesWaiting, HasTouched, TakesTouched, IsUpToDate}
-use Rattle.net_core.proofs.Anew.{in_front, in_last, in_either, in_none}
-
--- the list of what the head touches is taken out
-pub taken_list : (h : Head) (old new : WaitingLists) (ps : List ℕ) (t : Awaited) → touched_by h ≡ Some t → ps ≡ waiting_for old t
-    → ((w : Awaited) → waiting_for new w ≡ (if same_awaited t w then [] else waiting_for old w)) → TakesWaiting h old ps new
-taken_list h old new ps t is list rest = record {
-  waiting = λ w i. list ∙ ap (waiting_for old) (same w i);
-  none = λ i. let z : Some t ≡ None = sym is ∙ i in absurd cc;
-  fewer = fewer;
-  others = others;
-}
-  where
-    same : (w : Awaited) → touched_by h ≡ Some w → t ≡ w
-    same w i = let z : Some t ≡ Some w = sym is ∙ i in cc
-
-    fewer : (w : Awaited) (q : ℕ) → IsIn (waiting_for new w) q → IsIn (waiting_for old w) q
-    fewer w q i = go (same_awaited t w) (subst (λ (l : List ℕ). IsIn l q) (rest w) i)
-      where
-        go : (b : Bool) → IsIn (if b then [] else waiting_for old w) q → IsIn (waiting_for old w) q
-        go true j = absurd (in_none q j)
-        go false j = j
-
-    others : (w : Awaited) → (touched_by h ≡ Some w → ⊥) → waiting_for new w ≡ waiting_for old w
-    others w apart = rest w ∙ go (same_awaited t w) refl
-      where
-        go : (b : Bool) → same_awaited t w ≡ b → (if b then [] else waiting_for old w) ≡ waiting_for old w
-        go true j = absurd (apart (is ∙ ap (λ (v : Awaited). Some v) (is_same t w j)))
-        go false j = refl
-
--- lists that differ in memory alone
-pub same_waiting : (old new : WaitingLists) → new.lists ≡ old.lists → (w : Awaited) → waiting_for new w ≡ waiting_for old w
-same_waiting old new same w = ap (λ m. list_of (lookup (same_awaited w) m.entries)) same
-
--- the head touches nothing
-pub taken_none : (h : Head) (old new : WaitingLists) (ps : List ℕ) → touched_by h ≡ None → ps ≡ [] → new.lists ≡ old.lists → TakesWaiting h old ps new
-taken_none h old new ps is none same = record {
-  waiting = λ w i. let z : None ≡ Some w = sym is ∙ i in absurd cc;
-  none = λ i. none;
-  fewer = λ w q i. subst (λ (l : List ℕ). IsIn l q) (same_waiting old new same w) i;
-  others = λ w apart. same_waiting old new same w;
-}
+use Rattle.net_core.specs.Candidates.{AreBelow, HasPlaces, HasTouched, TakesTouched, IsUpToDate}
+use Rattle.net_core.proofs.Anew.{in_front, in_last, in_either}
 
 -- memory was given back
 pub given_back : (e : Endpoints) (cap : Option ℕ) (n : NetworkState) (listed unended : List Bool) (old new : WaitingLists) → new.lists ≡ old.lists
@@ -122,16 +80,13 @@ below_more count ps qs p below lt is q i = go (in_either ps p q (subst (λ (l : 
     go (inl j) = below q j
     go (inr j) = subst (λ k. k < count) j lt
 
-pub takes_touched : (cap : Option ℕ) (past : Past) (count : ℕ) (old new : Candidates) (first ps : List ℕ) → HasPlaces count old → new.listed ≡ old.listed → new.unended ≡ old.unended
-    → TakesWaiting past.head old.waiting first new.waiting → HasTouched cap past count old.waiting ps → AreBelow count ps → TakesTouched cap past count old ps new
-takes_touched cap past count old new first ps places listed unended takes touched below = record {
-  places = record {
-    listed = ap length listed ∙ places.listed;
-    unended = ap length unended ∙ places.unended;
-    within = λ w q i. places.within w q (takes.fewer w q i);
-  };
-  listed = listed;
-  unended = unended;
+pub takes_touched : (cap : Option ℕ) (past : Past) (count : ℕ) (old : Candidates) (lists : WaitingLists) (first ps : List ℕ) → HasPlaces count old
+    → TakesWaiting past.head old.waiting first lists → HasTouched cap past count old.waiting ps → AreBelow count ps
+    → TakesTouched cap past count old ps (record { listed = old.listed; unended = old.unended; waiting = lists })
+takes_touched cap past count old lists first ps places takes touched below = record {
+  places = record { listed = places.listed; unended = places.unended; within = λ w q i. places.within w q (takes.fewer w q i) };
+  listed = refl;
+  unended = refl;
   below = below;
   touched = touched;
   others = takes.others;

@@ -1,5 +1,5 @@
 -- Which processes the pick rule may take, as it is kept from event to event (this project's own).
-use Rattle.std.specs.Prelude.{ℕ, ◌≡◌, ◌<◌, ◌≤◌, length, not, Bool, false, List, [], Option, Some, None, slice_get}
+use Rattle.std.specs.Prelude.{ℕ, ◌≡◌, ◌<◌, ◌≤◌, length, not, Bool, false, List, Option, Some, None, slice_get}
 use Rattle.chor_base.specs.declared.names.NameId.{NameId}
 use Rattle.endpoint_code.specs.declared.endpoints.Endpoints.{Endpoints}
 use Rattle.endpoint_code.specs.Network.{NetworkState}
@@ -11,12 +11,10 @@ use Rattle.waiting_processes.specs.declared.lists.WaitingLists.{WaitingLists}
 use Rattle.waiting_processes.specs.Waits.{awaited_by, touched_by, awaited_at}
 use Rattle.waiting_processes.specs.Untouched.{IsAt, LeavesOthers}
 use Rattle.waiting_processes.specs.Lists.{waiting_for}
+use Rattle.waiting_processes.specs.Taken.{IsIn}
 use Rattle.net_core.specs.declared.candidates.Candidates.{Candidates}
 use Rattle.net_core.specs.declared.candidates.Past.{Past}
 use Rattle.net_core.specs.Heads.{ended_at, is_listed_at}
-
-abbrev pub IsIn : List ℕ → ℕ → Type 0
-IsIn ps q = (k : ℕ) × (slice_get ps k ≡ Some q)
 
 abbrev pub AreBelow : ℕ → List ℕ → Type 0
 AreBelow count ps = (q : ℕ) → IsIn ps q → q < count
@@ -101,13 +99,6 @@ pub record Renews (e : Endpoints) (cap : Option ℕ) (n : NetworkState) (done : 
   pub came : (p : ℕ) (c : NameId) → IsIn ps p → awaited_at e cap n p ≡ Some (Channel c) → (done ≡ Some c → ⊥) → (q : ℕ) → q < length n.machines → awaited_at e cap n q ≡ Some (Channel c) → IsJudged e cap n new q
 
 -- ---- after an event
-
--- these are the processes that may wait for what an event at this head changes, and they are in no list any more
-pub record TakesWaiting (h : Head) (old : WaitingLists) (ps : List ℕ) (new : WaitingLists) : Type 0 where
-  pub waiting : (w : Awaited) → touched_by h ≡ Some w → ps ≡ waiting_for old w
-  pub none : touched_by h ≡ None → ps ≡ []
-  pub fewer : (w : Awaited) (q : ℕ) → IsIn (waiting_for new w) q → IsIn (waiting_for old w) q
-  pub others : (w : Awaited) → (touched_by h ≡ Some w → ⊥) → waiting_for new w ≡ waiting_for old w
 
 -- among these are the processes that an event may have moved, of new ones those below a number, and all that may wait for what it has changed
 pub record HasTouched (cap : Option ℕ) (past : Past) (count : ℕ) (old : WaitingLists) (ps : List ℕ) : Type 0 where

@@ -5,8 +5,9 @@ ghost use Rattle.endpoint_code.specs.declared.endpoints.Endpoints.{Endpoints as 
 ghost use Rattle.endpoint_code.specs.Network.{NetworkState};
 ghost use Rattle.endpoint_code.specs.NetworkRuns.{all_ended};
 ghost use Rattle.endpoint_code.specs.Scheduled.{picked};
+ghost use Rattle.waiting_processes.specs.Taken.{IsIn};
 ghost use Rattle.net_core.specs.Heads.{Shows, is_listed_at};
-ghost use Rattle.net_core.specs.Candidates.{joined_by, IsIn, IsUpToDate, HasPlaces, HasGrownTo, AreBelow, ListsAll, IsNoted, IsJudged, IsSettled, Enters, Judges, Renews, TakesWaiting, TakesTouched, HasMoved};
+ghost use Rattle.net_core.specs.Candidates.{joined_by, IsUpToDate, HasPlaces, HasGrownTo, AreBelow, ListsAll, IsNoted, IsJudged, IsSettled, Enters, Judges, Renews, TakesTouched, HasMoved};
 
 use crate::answer::Picked;
 use crate::network::Network;
@@ -18,7 +19,7 @@ use chor_host::HostTable;
 use counted_bits::CountedBits;
 use endpoint_machine::Head;
 use std::alloc::Global;
-use waiting_processes::{Awaited, WaitingLists, awaited_by, touched_by};
+use waiting_processes::{Awaited, WaitingLists, awaited_by};
 
 /// Where a process stood before its event, and how many processes there were.
 #[derive(Clone, Copy)]
@@ -119,7 +120,7 @@ impl Candidates {
         requires kept { past.count ≤ count }
         ensures { IfOk result (λ pids. TakesTouched capacity past count self.old pids.items self.new) }
     {
-        let mut pids = self.take_waiting(past.head);
+        let mut pids = self.waiting.take_touched(past.head);
         if awaited_by(capacity, past.head).is_none() {
             pids.push(past.pid)?;
         }
@@ -127,18 +128,6 @@ impl Candidates {
             pids.push(pid)?;
         }
         Ok(pids)
-    }
-
-    // Takes out of the lists the processes that may wait for what an event at a head changes.
-    fn take_waiting(&mut self, head: Head) -> Vec<u32>
-        ensures listed { self.new.listed ≡ self.old.listed }
-        ensures unended { self.new.unended ≡ self.old.unended }
-        ensures takes { TakesWaiting head self.old.waiting result.items self.new.waiting }
-    {
-        match touched_by(head) {
-            Some(touched) => self.waiting.take(touched),
-            None => self.waiting.nobody(),
-        }
     }
 
     // Has places for so many processes.

@@ -1,3 +1,4 @@
 pub mod Left
 pub mod Listing
 pub mod Entries
+pub mod Taken

@@ -1,3 +1,4 @@
 pub mod Waits
 pub mod Untouched
 pub mod Lists
+pub mod Taken

@@ -3,9 +3,11 @@
 ghost use Rattle.std.specs.Prelude.{◌≡◌, ◌++◌, ◌∷◌, [], OnOk, if◌then◌else◌};
 ghost use Rattle.waiting_processes.specs.declared.waits.Awaited.{Awaited as AnyAwaited};
 ghost use Rattle.waiting_processes.specs.Lists.{same_awaited, waiting_for, IsPlaceOf, HasCome};
+ghost use Rattle.waiting_processes.specs.Taken.{TakesWaiting};
 
-use crate::waits::Awaited;
+use crate::waits::{Awaited, touched_by};
 use chor_base::Memory;
+use endpoint_machine::Head;
 use indexmap::IndexMap;
 use recent_places::RecentPlaces;
 use std::alloc::Global;
@@ -144,8 +146,8 @@ impl WaitingLists {
         Ok(())
     }
 
-    /// No processes, with the memory that was given back.
-    pub fn nobody(&mut self) -> Vec<u32>
+    // No processes, with the memory that was given back.
+    fn nobody(&mut self) -> Vec<u32>
         ensures list { result.items ≡ [] }
         ensures same { self.new.lists ≡ self.old.lists }
     {
@@ -161,8 +163,8 @@ impl WaitingLists {
         self.spare = memory;
     }
 
-    /// Takes out a list, and leaves it empty.
-    pub fn take(&mut self, wait: Awaited) -> Vec<u32>
+    // Takes out a list, and leaves it empty.
+    fn take(&mut self, wait: Awaited) -> Vec<u32>
         ensures list { result.items ≡ waiting_for self.old wait }
         ensures rest { (w : AnyAwaited) → waiting_for self.new w ≡ (if same_awaited wait w then [] else waiting_for self.old w) }
     {
@@ -173,6 +175,16 @@ impl WaitingLists {
         match self.lists.get_index_mut(place) {
             Some(waiting) => waiting.take(memory),
             None => unreachable!(),
+        }
+    }
+
+    /// Takes out the list of those that may wait for what an event at a head changes, or nobody.
+    pub fn take_touched(&mut self, head: Head) -> Vec<u32>
+        ensures { TakesWaiting head self.old result.items self.new }
+    {
+        match touched_by(head) {
+            Some(touched) => self.take(touched),
+            None => self.nobody(),
         }
     }
 }

@@ -1,6 +1,6 @@
 use Rattle.std.proofs.Common.{sym, subst, List, ℕ}
 use Rattle.waiting_processes.specs.declared.waits.Awaited.TheVariants.{Channel}
-use Rattle.net_core.specs.Candidates.{IsIn}
+use Rattle.waiting_processes.specs.Taken.{IsIn}
 use Rattle.net_core.proofs.candidates.is_listed.Goals as goal
 
 pub are_joined_among-requires-clause-there : goal.are_joined_among-requires-clause-there

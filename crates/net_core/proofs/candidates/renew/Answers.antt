@@ -2,7 +2,8 @@ use Rattle.std.proofs.Common.{◌≡◌, ◌∙◌, sym, ap, subst, Option, Some
 use Rattle.waiting_processes.specs.declared.waits.Awaited.{Awaited}
 use Rattle.waiting_processes.specs.declared.waits.Awaited.TheVariants.{Channel}
 use Rattle.waiting_processes.specs.Waits.{awaited_at, awaited_by}
-use Rattle.net_core.specs.Candidates.{IsIn, Judges}
+use Rattle.waiting_processes.specs.Taken.{IsIn}
+use Rattle.net_core.specs.Candidates.{Judges}
 use Rattle.net_core.proofs.Anew.{awaits, renewed_channel}
 use Rattle.net_core.proofs.candidates.renew.Goals as goal
 

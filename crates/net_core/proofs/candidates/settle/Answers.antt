@@ -1,5 +1,6 @@
 use Rattle.std.proofs.Common.{◌∙◌, sym, refl}
-use Rattle.net_core.proofs.Anew.{judged_one, settled_one, in_none}
+use Rattle.waiting_processes.proofs.Taken.{in_none}
+use Rattle.net_core.proofs.Anew.{judged_one, settled_one}
 use Rattle.net_core.proofs.candidates.settle.Goals as goal
 
 pub returns : goal.returns

@@ -1,5 +1,6 @@
 use Rattle.std.proofs.Common.{subst, sym, ◌∙◌, ℕ, List, ◌<◌, Option, length}
-use Rattle.net_core.specs.Candidates.{IsIn, HasGrownTo, Enters, Renews, TakesTouched}
+use Rattle.waiting_processes.specs.Taken.{IsIn}
+use Rattle.net_core.specs.Candidates.{HasGrownTo, Enters, Renews, TakesTouched}
 use Rattle.net_core.proofs.Taken.{given_back}
 use Rattle.net_core.proofs.Becoming.{renewed_on, lists_all}
 use Rattle.net_core.proofs.candidates.Candidates.follow.Goals as goal

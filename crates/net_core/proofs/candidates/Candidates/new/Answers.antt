@@ -2,8 +2,8 @@ use Rattle.std.proofs.Common.{◌∙◌, sym, ap, subst, refl, length, List, ℕ
 use Rattle.std.specs.Prelude.{slice_get}
 use Rattle.waiting_processes.specs.declared.lists.WaitingLists.{WaitingLists}
 use Rattle.waiting_processes.specs.Lists.{waiting_for}
-use Rattle.net_core.specs.Candidates.{IsIn}
-use Rattle.net_core.proofs.Anew.{in_none}
+use Rattle.waiting_processes.specs.Taken.{IsIn}
+use Rattle.waiting_processes.proofs.Taken.{in_none}
 use Rattle.net_core.proofs.candidates.Candidates.new.Goals as goal
 
 pub grow-requires-clause-places : goal.grow-requires-clause-places

@@ -10,15 +10,15 @@ pub loop-pid-init : goal.loop-pid-init
 loop-pid-init c =
     let past = c.args.past in
     let old = c.args.self.now.waiting in
-    let taken = c.take_waiting-pids.result.items in
-    let takes = c.take_waiting-pids.ensures.takes in
-    let below = waiting_below c.args.capacity past old c.take_waiting-pids.new.self.waiting taken takes c.args.count c.requires.places.within in
+    let taken = c.take_touched-pids.result.items in
+    let takes = c.take_touched-pids.ensures in
+    let below = waiting_below c.args.capacity past old c.take_touched-pids.new.self taken takes c.args.count c.requires.places.within in
     elim c.if-is_none.branch [
       | then-is_none+in_ok-push w ↦
           (let is = ap (λ (v : Vec ℕ Global). v.items) w.pids-is ∙ w.in_ok-push.ensures.items in
           let lt : past.pid < c.args.count = let a = c.requires.there in let b = c.requires.kept in omega arith in
           record {
-            touched = touched_own c.args.capacity past old c.take_waiting-pids.new.self.waiting taken takes c.if-is_none.pids.items is;
+            touched = touched_own c.args.capacity past old c.take_touched-pids.new.self taken takes c.if-is_none.pids.items is;
             below = below_more c.args.count taken c.if-is_none.pids.items past.pid below lt is;
           })
       | else-is_none w ↦
@@ -29,7 +29,7 @@ loop-pid-init c =
           cc)
           in
           record {
-            touched = subst (λ (l : List ℕ). HasTouched c.args.capacity past past.count old l) (sym is) (touched_waiting c.args.capacity past old c.take_waiting-pids.new.self.waiting taken takes some);
+            touched = subst (λ (l : List ℕ). HasTouched c.args.capacity past past.count old l) (sym is) (touched_waiting c.args.capacity past old c.take_touched-pids.new.self taken takes some);
             below = subst (AreBelow c.args.count) (sym is) below;
           })
     ]
@@ -48,6 +48,6 @@ returns c =
     let last : c.loop-pid.pid ≤ c.args.count = c.loop-pid.auto.pid-end c.requires.kept in
     let past_last : c.args.count ≤ c.loop-pid.pid = c.loop-pid-test.false in
     let all : c.loop-pid.pid ≡ c.args.count = omega arith in
-    takes_touched c.args.capacity past c.args.count c.args.self.now c.take_waiting-pids.new.self c.take_waiting-pids.result.items c.loop-pid.pids.items c.requires.places c.take_waiting-pids.ensures.listed c.take_waiting-pids.ensures.unended c.take_waiting-pids.ensures.takes
+    takes_touched c.args.capacity past c.args.count c.args.self.now c.take_touched-pids.new.self c.take_touched-pids.result.items c.loop-pid.pids.items c.requires.places c.take_touched-pids.ensures
     (subst (λ (k : ℕ). HasTouched c.args.capacity past k c.args.self.now.waiting c.loop-pid.pids.items) all c.loop-pid.invariant.touched)
     c.loop-pid.invariant.below
