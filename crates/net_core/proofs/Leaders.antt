@@ -1,8 +1,7 @@
 -- Where a process can step, the pick rule may take one.
 use Rattle.std.proofs.Common.{◌≡◌, ℕ, zero, suc, ◌<◌, ◌==◌, ◌&&◌, ◌||◌, Bool, true, false, cond, List, [], ◌∷◌, length, refl, sym, ap, ◌∙◌, Option, Some, None, arith, is_some}
 use Rattle.std.specs.Prelude.{slice_get}
-use Rattle.std.proofs.lemmas.Bool.{and_parts}
-use Rattle.std.proofs.lemmas.Bool.Decides.{nat_tests}
+use Rattle.std.proofs.lemmas.Bool.{and_parts, eq-eqb}
 use Rattle.std.proofs.lemmas.Option.{slice_get_within}
 use Rattle.chor_base.specs.declared.names.NameId.{NameId}
 use Rattle.chor_base.specs.declared.event.Why.{Why}
@@ -125,7 +124,7 @@ leader e cap n i m c r there p active steps = go active.0.active refl
     self_joins : joins_there (place_of e m) c r ≡ true
     self_joins =
         ap (λ (o : Option Place). joins_there o c r) p.is
-        ∙ ap (λ (b : Bool). b && (r.0 == r.0)) (let a : (c.0 == c.0) ≡ true = grind (arith, nat_tests) in a) ∙ (let a : (r.0 == r.0) ≡ true = grind (arith, nat_tests) in a)
+        ∙ ap (λ (b : Bool). b && (r.0 == r.0)) (eq-eqb c.0 c.0 refl) ∙ eq-eqb r.0 r.0 refl
 
     joined : is_joined e n.machines c r ≡ true
     joined = joined_by e n.machines c r i m there self_joins
@@ -148,7 +147,7 @@ leader e cap n i m c r there p active steps = go active.0.active refl
         let leads : listed_at e (place_of e first.1) ≡ true =
         ap (listed_at e) place.is ∙ ap (λ (o : Option Channel). first_role o f) active.1
         ∙ ap (λ (rs : List NameId). first_role (Some (record active.0 { active = rs })) f) s
-        ∙ (let a : (f.0 == f.0) ≡ true = grind (arith, nat_tests) in a)
+        ∙ eq-eqb f.0 f.0 refl
         in
         (first.0, first.1, first.2, ap (λ (b : Bool). b && listed_at e (place_of e first.1)) (join_steps e cap n first.1 c f place none) ∙ leads)
 

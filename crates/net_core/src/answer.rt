@@ -16,7 +16,7 @@ pub enum Step {
 }
 
 /// What became of an event that the network was to follow.
-#[derive(Clone, Copy, PartialEq, Eq)]
+#[derive(Clone, Copy)]
 pub enum Followed {
     /// It was made, and is now the last of the history.
     Did,
@@ -27,7 +27,7 @@ pub enum Followed {
 }
 
 /// How a scheduled run closed.
-#[derive(Clone, Copy, PartialEq, Eq)]
+#[derive(Clone, Copy)]
 pub enum Picked {
     /// Every process has ended.
     Ended,

@@ -1,4 +1,5 @@
 use Rattle.std.proofs.Common.{inr, ◌∙◌, sym, refl, subst, ◌≡◌, ◌<◌, ℕ, true}
+use Rattle.std.proofs.lemmas.Option.{none-some}
 use Rattle.chor_host.specs.Functions.{hosts_in}
 use Rattle.chor_host.specs.Tables.{functions_of}
 use Rattle.endpoint_code.specs.NetworkRuns.{none_can_step}
@@ -14,7 +15,7 @@ returns-then-have_ended g c =
     let v = c.args.network.now in
     record {
       turns = record { same = record { endpoints = refl; capacity = refl; state = refl; history = refl }; closes = ended (sym (c.have_ended.ensures v.endpoints v.capacity v.state c.requires.kept) ∙ c.if-have_ended.true) };
-      kept = λ i. absurd cc;
+      kept = λ i. absurd (none-some _ (sym i));
     }
 
 pub returns-then-events-steps : goal.returns-then-events-steps
@@ -25,7 +26,7 @@ returns-then-events-steps g c =
         same = record { endpoints = refl; capacity = refl; state = refl; history = refl };
         closes = limit (sym (c.have_ended.ensures v.endpoints v.capacity v.state c.requires.kept) ∙ c.if-have_ended.false) (sym c.events.ensures.events ∙ c.if-events-steps.true);
       };
-      kept = λ i. absurd cc;
+      kept = λ i. absurd (none-some _ (sym i));
     }
 
 pub returns-in_default : goal.returns-in_default
@@ -35,7 +36,7 @@ returns-in_default g c =
     none_listed v.endpoints v.capacity v.state c.count-count.ensures.stand (none_picked (listed v.endpoints v.capacity v.state) _ (sym (c.pick.ensures.picks v.endpoints v.capacity v.state c.requires.kept) ∙ c.in_default.is)) in
     record {
       turns = stuck_closes (hosts_in v.endpoints.names (functions_of c.args.hosts.now)) c.args.seed c.args.steps v c.stuck.result c.stuck.ensures (λ h. c.if-events-steps.false (c.events.ensures.events ∙ h)) none;
-      kept = λ i. absurd cc;
+      kept = λ i. absurd (none-some _ (sym i));
     }
 
 pub stuck-requires-clause-unended : goal.stuck-requires-clause-unended

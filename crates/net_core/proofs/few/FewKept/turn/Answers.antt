@@ -1,5 +1,6 @@
-use Rattle.std.proofs.Common.{◌∙◌, ◌+◌, ◌<◌, sym, refl, ap, subst, ◌≡◌, Option, Some, List, ℕ, length, true, inl, arith}
+use Rattle.std.proofs.Common.{◌∙◌, ◌+◌, ◌<◌, ◌≤◌, sym, refl, ap, subst, ◌≡◌, Option, Some, List, ℕ, length, true, inl, arith}
 use Rattle.std.specs.Prelude.{slice_get}
+use Rattle.std.proofs.lemmas.Option.{none-some}
 use Rattle.chor_host.specs.Functions.{hosts_in}
 use Rattle.chor_host.specs.Tables.{functions_of}
 use Rattle.endpoint_code.specs.declared.endpoints.Endpoints.{Endpoints}
@@ -22,13 +23,16 @@ picked_among e cap n seed events p pids lists is = picked_steps e cap n seed eve
 shown_kept : (e : Endpoints) (n : NetworkState) (p : ℕ) (heads kept : List Head) (h : Head) → EachStands e n → ShowsAll e n heads → kept ≡ heads → slice_get kept p ≡ Some h → Shows e n p h
 shown_kept e n p heads kept h stand all same is = shown_in e n p heads h stand all (ap (λ (l : List Head). slice_get l p) (sym same) ∙ is)
 
+still_there : (p k m : ℕ) → p < k → k ≤ m → p < m
+still_there p k m lt le = omega arith
+
 pub returns-in_default : goal.returns-in_default
-returns-in_default g c = record { turns = inl (record { endpoints = refl; capacity = refl; state = refl; history = refl }); kept = λ i. absurd cc }
+returns-in_default g c = record { turns = inl (record { endpoints = refl; capacity = refl; state = refl; history = refl }); kept = λ i. absurd (none-some _ (sym i)) }
 
 pub returns-then-ended : goal.returns-then-ended
 returns-then-ended g c = record {
   turns = record { same = record { endpoints = refl; capacity = refl; state = refl; history = refl }; closes = ended (sym c.in-Ok.ensures.ended ∙ c.if-ended.true) };
-  kept = λ i. absurd cc;
+  kept = λ i. absurd (none-some _ (sym i));
 }
 
 pub returns-then-events-steps : goal.returns-then-events-steps
@@ -37,7 +41,7 @@ returns-then-events-steps g c = record {
     same = record { endpoints = refl; capacity = refl; state = refl; history = refl };
     closes = limit (sym c.in-Ok.ensures.ended ∙ c.if-ended.false) (sym c.events.ensures.events ∙ c.if-events-steps.true);
   };
-  kept = λ i. absurd cc;
+  kept = λ i. absurd (none-some _ (sym i));
 }
 
 pub stuck-requires-clause-none : goal.stuck-requires-clause-none
@@ -54,7 +58,7 @@ returns-in_default-pick g c =
     none_listed v.endpoints v.capacity v.state c.in-Ok.ensures.stand (none_picked all _ (sym (ap (λ (l : List ℕ). picked_of l (c.args.seed + c.events-2.result)) c.in-Ok.ensures.listed) ∙ sym c.pick.ensures ∙ c.in_default-pick.is)) in
     record {
       turns = stuck_closes (hosts_in v.endpoints.names (functions_of c.args.hosts.now)) c.args.seed c.args.steps v c.stuck.result c.stuck.ensures (λ h. c.if-events-steps.false (c.events.ensures.events ∙ h)) none;
-      kept = λ i. absurd cc;
+      kept = λ i. absurd (none-some _ (sym i));
     }
 
 pub head-head-requires : goal.head-head-requires
@@ -78,8 +82,7 @@ pub follow-requires-clause-there : goal.follow-requires-clause-there
 follow-requires-clause-there g c =
     let v = c.args.network.now in
     let there = (picked_among v.endpoints v.capacity v.state c.args.seed c.events-2.result c.in-Some.pid _ c.in-Ok.ensures.listed c.in-Some.ensures).0 in
-    let kept = c.in-Ok-go.ensures.grown.kept in
-    omega arith
+    still_there c.in-Some.pid _ _ there c.in-Ok-go.ensures.grown.kept
 
 pub follow-requires-clause-others : goal.follow-requires-clause-others
 follow-requires-clause-others g c =

@@ -1,4 +1,5 @@
 use Rattle.std.proofs.Common.{subst, Some, sym}
+use Rattle.std.proofs.lemmas.Option.{none-some}
 use Rattle.chor_host.specs.Functions.{hosts_in, names_of}
 use Rattle.chor_host.specs.Tables.{functions_of}
 use Rattle.endpoint_code.specs.declared.endpoints.Endpoints.{Endpoints}
@@ -15,7 +16,7 @@ returns-in-Some g c =
     let first = c.args.self.now in
     let old = c.loop-self.self in
     let turned = subst (λ (e : Endpoints). Turns (hosts_in e.names (functions_of c.args.hosts.now)) c.args.seed c.args.steps old (Some c.in-Some.picked) c.turn.new.self) c.loop-self.invariant.gone.endpoints c.in-Some.ensures in
-    record { runs = closes_run (hosts_in first.endpoints.names (functions_of c.args.hosts.now)) c.args.seed c.args.steps first old c.turn.new.self c.in-Some.picked c.loop-self.invariant turned; more = λ h. absurd cc }
+    record { runs = closes_run (hosts_in first.endpoints.names (functions_of c.args.hosts.now)) c.args.seed c.args.steps first old c.turn.new.self c.in-Some.picked c.loop-self.invariant turned; more = λ h. absurd (none-some _ (sym h)) }
 
 pub loop-self-preserved : goal.loop-self-preserved
 loop-self-preserved g c =
