@@ -15,7 +15,7 @@ use Rattle.endpoint_code.specs.NetworkRuns.{joins_there}
 use Rattle.session_starts.specs.Machines.{standing_of, is_reserved}
 use Rattle.endpoint_machine.specs.declared.head.Head.TheVariants as head
 use Rattle.endpoint_machine.specs.Bound.{IsBound}
-use Rattle.endpoint_machine.specs.Heads.{place_head, head_of}
+use Rattle.endpoint_machine.specs.Heads.{place_head, head_of, is_join}
 use Rattle.endpoint_machine.specs.Steps.{HasJoined}
 use Rattle.endpoint_machine.specs.Views.{MachineView}
 use Rattle.session_starts.specs.Starts.{AllJoin, AreApart, one_part, reserved_of, reserved_in, machines_alone, Joined, JoinsOne}
@@ -72,6 +72,9 @@ joining_place (Some q) c r h = go q.node h
     go (If v t u) h = absurd cc
     go (Call f o ss) h = absurd cc
     go End h = absurd cc
+
+pub joins_here : (e : Endpoints) (ms : List MachineView) (p : ℕ) (d : MachineView) (c r : NameId) → p < length ms → joins_there (place_at e (slice_get (map standing_of ms) p)) c r ≡ true → is_join (head_of e (standing_of (get_or ms p d))) ≡ true
+joins_here e ms p d c r lt h = ap is_join (joining_place (place_of e (standing_of (get_or ms p d))) c r (subst (λ (o : Option Machine). joins_there (place_at e o) c r ≡ true) (runner_in ms p d lt) h))
 
 pub joining_head : (e : Endpoints) (ms : List MachineView) (p : ℕ) (d : MachineView) (c r : NameId) → p < length ms → joins_there (place_at e (slice_get (map standing_of ms) p)) c r ≡ true → head_of e (get_or ms p d).machine ≡ Some (head.Join c r)
 joining_head e ms p d c r lt h = joining_place (place_at e (Some (get_or ms p d).machine)) c r (sym (ap (λ (o : Option Machine). joins_there (place_at e o) c r) (runner_in ms p d lt)) ∙ h)

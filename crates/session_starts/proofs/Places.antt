@@ -1,8 +1,7 @@
 -- Names, and the room of a process.
-use Rattle.std.proofs.Common.{◌≡◌, ℕ, ◌==◌, ◌&&◌, Bool, true, ap, ◌∙◌, arith}
+use Rattle.std.proofs.Common.{◌≡◌, ℕ, ◌==◌, ◌&&◌, true, ap}
 use Rattle.std.specs.Prelude.{nat_lt}
-use Rattle.std.proofs.lemmas.Bool.{eqb-true, and_parts}
-use Rattle.std.proofs.lemmas.Bool.Decides.{nat_tests}
+use Rattle.std.proofs.lemmas.Bool.{eqb-true, ltb-true, lt-ltb, and_parts, and_from}
 use Rattle.chor_base.specs.declared.names.NameId.{NameId}
 use Rattle.endpoint_code.specs.declared.endpoints.Endpoints.{Endpoints}
 use Rattle.endpoint_code.specs.Network.{node_at}
@@ -17,14 +16,13 @@ pub reserved_is : (e : Endpoints) (m : MachineView) → is_reserved e m ≡ true
 reserved_is e m h =
     let parts = and_parts (nat_lt 0 m.room.variables) (nat_lt 0 m.room.sessions && nat_lt (passes (node_at e m.machine.at)) m.room.beyond) h in
     let others = and_parts (nat_lt 0 m.room.sessions) (nat_lt (passes (node_at e m.machine.at)) m.room.beyond) parts.1 in
-    let a : nat_lt 0 m.room.variables ≡ true = parts.0 in
-    let b : nat_lt 0 m.room.sessions ≡ true = others.0 in
-    let c : nat_lt (passes (node_at e m.machine.at)) m.room.beyond ≡ true = others.1 in
-    record { variables = grind (arith, nat_tests); sessions = grind (arith, nat_tests); beyond = grind (arith, nat_tests) }
+    record {
+      variables = ltb-true 0 m.room.variables parts.0;
+      sessions = ltb-true 0 m.room.sessions others.0;
+      beyond = ltb-true (passes (node_at e m.machine.at)) m.room.beyond others.1;
+    }
 
 pub is_room : (e : Endpoints) (m : MachineView) → IsReserved e m → is_reserved e m ≡ true
 is_room e m r =
-    let a : nat_lt 0 m.room.variables ≡ true = (let i = r.variables in grind (arith, nat_tests)) in
-    let b : nat_lt 0 m.room.sessions ≡ true = (let i = r.sessions in grind (arith, nat_tests)) in
-    let c : nat_lt (passes (node_at e m.machine.at)) m.room.beyond ≡ true = (let i = r.beyond in grind (arith, nat_tests)) in
-    ap (λ (t : Bool). t && (nat_lt 0 m.room.sessions && nat_lt (passes (node_at e m.machine.at)) m.room.beyond)) a ∙ ap (λ (t : Bool). t && nat_lt (passes (node_at e m.machine.at)) m.room.beyond) b ∙ c
+    and_from _ _ (lt-ltb 0 m.room.variables r.variables)
+    (and_from _ _ (lt-ltb 0 m.room.sessions r.sessions) (lt-ltb (passes (node_at e m.machine.at)) m.room.beyond r.beyond))

@@ -1,5 +1,7 @@
 -- The processes of service roles.
-use Rattle.std.proofs.Common.{◌≡◌, ℕ, ◌==◌, ◌&&◌, ◌||◌, Bool, true, false, cond, List, [], ◌∷◌, refl, sym, ap, ◌∙◌, subst, Some, arith}
+use Rattle.std.proofs.Common.{◌≡◌, ℕ, suc, ◌+◌, ◌<◌, ◌==◌, ◌&&◌, ◌||◌, Bool, true, false, cond, List, [], ◌∷◌, ◌++◌, length, map, drop, get_or, refl, sym, ap, ◌∙◌, subst, Some, arith, append_assoc}
+use Rattle.std.proofs.Math.Seq.{drop-cons}
+use Rattle.std.proofs.lemmas.List.{map-append}
 use Rattle.std.specs.Prelude.{All}
 use Rattle.std.specs.FinMap as fin
 use Rattle.std.proofs.lemmas.Bool.{and_parts}
@@ -10,10 +12,12 @@ use Rattle.endpoint_code.specs.declared.code.CodeId.{CodeId}
 use Rattle.endpoint_code.specs.declared.endpoints.Channel.{Channel}
 use Rattle.endpoint_code.specs.declared.endpoints.ServiceCode.{ServiceCode}
 use Rattle.endpoint_code.specs.declared.endpoints.Endpoints.{Endpoints}
-use Rattle.endpoint_code.specs.Network.{service_of, served, channel_of}
+use Rattle.endpoint_code.specs.Network.{Machine, service_of, served, served_parts, channel_of}
 use Rattle.endpoint_code.specs.Faults.{IsFaultless, IsScoped, has_service}
 use Rattle.endpoint_machine.specs.Bound.{IsBound, AreBound}
+use Rattle.endpoint_machine.specs.Views.{MachineView}
 use Rattle.endpoint_machine.proofs.Scopes.{bound_put}
+use Rattle.session_starts.specs.Machines.{standing_of, number_of}
 use Rattle.session_starts.proofs.Places.{name_same}
 
 eq_sym : (a b : ℕ) → (a == b) ≡ (b == a)
@@ -72,3 +76,34 @@ served_bound e c s (r ∷ rs) faultless all =
       bound = bound_put fin.empty [] c (s, r) none_bound;
     })
     (served_bound e c s rs faultless (All-tail (λ (x : NameId). has_service c x e.services ≡ true) r rs all))
+
+-- ---- one process more, for the next service role
+
+next_role : (roles : List NameId) (i : ℕ) (d : NameId) → i < length roles → drop i roles ≡ get_or roles i d ∷ drop (i + 1) roles
+next_role roles i d lt = drop-cons roles i d lt ∙ ap (λ (k : ℕ). get_or roles i d ∷ drop k roles) (let e : suc i ≡ i + 1 = omega arith in e)
+
+abbrev pub new_at : CodeId → NameId → ℕ → NameId → Machine
+new_at body c s r = record { at = body; vars = fin.empty; sessions = fin.insert fin.empty c.0 (s, r) }
+
+module _ (i : ℕ) (roles : List NameId) (d : NameId) (ms new : List MachineView) (m : MachineView) (lt : i < length roles) (put : new ≡ ms ++ m ∷ []) where
+  pub served_more : (e : Endpoints) (c : NameId) (s : ℕ) → m.machine ≡ new_at (service_of e.services c (get_or roles i d)) c s (get_or roles i d)
+      → map standing_of ms ++ served e c s (drop i roles) ≡ served e c s roles → map standing_of new ++ served e c s (drop (i + 1) roles) ≡ served e c s roles
+  served_more e c s is before =
+      ap (λ (l : List MachineView). map standing_of l ++ served e c s (drop (i + 1) roles)) put
+      ∙ ap (λ (l : List Machine). l ++ served e c s (drop (i + 1) roles)) (map-append standing_of ms (m ∷ []))
+      ∙ append_assoc (map standing_of ms) (m.machine ∷ []) (served e c s (drop (i + 1) roles))
+      ∙ ap (λ (x : Machine). map standing_of ms ++ x ∷ served e c s (drop (i + 1) roles)) is
+      ∙ ap (λ (rs : List NameId). map standing_of ms ++ served e c s rs) (sym (next_role roles i d lt))
+      ∙ before
+
+  pub numbers_more : (first : ℕ) → m.number ≡ first + i → map number_of ms ++ map (λ (q : NameId × ℕ). q.1) (served_parts (drop i roles) (first + i)) ≡ map (λ (q : NameId × ℕ). q.1) (served_parts roles first)
+      → map number_of new ++ map (λ (q : NameId × ℕ). q.1) (served_parts (drop (i + 1) roles) (first + (i + 1))) ≡ map (λ (q : NameId × ℕ). q.1) (served_parts roles first)
+  numbers_more first is before =
+      let next : first + (i + 1) ≡ suc (first + i) = omega arith in
+      ap (λ (k : ℕ). map number_of new ++ map (λ (q : NameId × ℕ). q.1) (served_parts (drop (i + 1) roles) k)) next
+      ∙ ap (λ (l : List MachineView). map number_of l ++ map (λ (q : NameId × ℕ). q.1) (served_parts (drop (i + 1) roles) (suc (first + i)))) put
+      ∙ ap (λ (l : List ℕ). l ++ map (λ (q : NameId × ℕ). q.1) (served_parts (drop (i + 1) roles) (suc (first + i)))) (map-append number_of ms (m ∷ []))
+      ∙ append_assoc (map number_of ms) (m.number ∷ []) (map (λ (q : NameId × ℕ). q.1) (served_parts (drop (i + 1) roles) (suc (first + i))))
+      ∙ ap (λ (n : ℕ). map number_of ms ++ n ∷ map (λ (q : NameId × ℕ). q.1) (served_parts (drop (i + 1) roles) (suc (first + i)))) is
+      ∙ ap (λ (rs : List NameId). map number_of ms ++ map (λ (q : NameId × ℕ). q.1) (served_parts rs (first + i))) (sym (next_role roles i d lt))
+      ∙ before

@@ -18,6 +18,15 @@ length-served_parts : (rs : List NameId) (p : ℕ) → length (served_parts rs p
 length-served_parts [] p = refl
 length-served_parts (r ∷ rs) p = ap suc (length-served_parts rs (suc p))
 
+few_in_all : (a b c d n : ℕ) → n ≡ a + b → a ≡ c → b ≡ d → c + d < 2 ^ 32 → n < 2 ^ 32
+few_in_all a b c d n sum same new few = omega arith
+
+pub few_among : (a b n : ℕ) → n ≡ a → a + b < 2 ^ 32 → n < 2 ^ 32
+few_among a b n same few = omega arith
+
+pub same_long : (first ms : List MachineView) → map number_of ms ≡ map number_of first → length ms ≡ length first
+same_long first ms same = sym (length-map ms number_of) ∙ ap length same ∙ length-map first number_of
+
 module _ (e : Endpoints) (k : Channel) (s : ℕ) (first ms ns all : List MachineView) (is : all ≡ ms ++ ns) where
   pub started_bound : IsFaultless e → channel_of e.channels k.name ≡ Some k → All (IsBound e) (map standing_of ms) → map standing_of ns ≡ served e k.name s k.serve → All (IsBound e) (map standing_of all)
   started_bound faultless found bound new =
@@ -25,22 +34,13 @@ module _ (e : Endpoints) (k : Channel) (s : ℕ) (first ms ns all : List Machine
       (All-append (IsBound e) (map standing_of ms) (map standing_of ns) bound
       (subst (All (IsBound e)) (sym new) (served_bound e k.name s k.serve faultless (provided e k.name k faultless found))))
 
-  so_many : map number_of ms ≡ map number_of first → length ms ≡ length first
-  so_many same = (let a = length-map ms number_of in let b = length-map first number_of in let c : length (map number_of ms) ≡ length (map number_of first) = ap length same in omega arith)
-
   pub started_counted : AreCounted first → map number_of ms ≡ map number_of first → map number_of ns ≡ map (λ q. q.1) (served_parts k.serve (length first)) → AreCounted all
   started_counted counted same new =
       subst AreCounted (sym is)
       (counted_more ms ns k.serve (counted_same first ms same counted)
-      (new ∙ ap (λ (i : ℕ). map (λ q. q.1) (served_parts k.serve i)) (sym (so_many same))))
+      (new ∙ ap (λ (i : ℕ). map (λ q. q.1) (served_parts k.serve i)) (sym (same_long first ms same))))
 
   pub started_few : map number_of ms ≡ map number_of first → map number_of ns ≡ map (λ q. q.1) (served_parts k.serve (length first)) → length first + length k.serve < 2 ^ 32 → length all < 2 ^ 32
   started_few same new few =
-      let long : length all ≡ length (ms ++ ns) = ap length is in
-      let a = length-append ms ns in
-      let b = so_many same in
-      let c = length-map ns number_of in
-      let d : length (map number_of ns) ≡ length (map (λ (q : NameId × ℕ). q.1) (served_parts k.serve (length first))) = ap length new in
-      let f = length-map (served_parts k.serve (length first)) (λ (q : NameId × ℕ). q.1) in
-      let g = length-served_parts k.serve (length first) in
-      omega arith
+      few_in_all (length ms) (length ns) (length first) (length k.serve) (length all) (ap length is ∙ length-append ms ns) (same_long first ms same)
+      (sym (length-map ns number_of) ∙ ap length new ∙ length-map (served_parts k.serve (length first)) (λ (q : NameId × ℕ). q.1) ∙ length-served_parts k.serve (length first)) few

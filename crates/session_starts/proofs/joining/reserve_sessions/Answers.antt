@@ -1,4 +1,4 @@
-use Rattle.std.proofs.Common.{◌≡◌, ◌<◌, ◌∙◌, sym, subst, get_or, length, ℕ, arith, true, List}
+use Rattle.std.proofs.Common.{◌≡◌, ◌<◌, ◌∙◌, sym, subst, get_or, length, ℕ, true, List}
 use Rattle.std.specs.Prelude.{All}
 use Rattle.std.proofs.lemmas.List.{take_all}
 use Rattle.chor_base.specs.declared.names.NameId.{NameId}
@@ -17,7 +17,7 @@ reserve-requires-clause-bound c =
     let ms = c.loop-part.machines in
     let q = get_or parts i (record { 0 = 0 }, 0) in
     let d = c.index-machines-part.result in
-    let within : q.1 < length ms = (let a : q.1 < length c.args.machines.now = c.requires.within i (record { 0 = 0 }, 0) c.loop-part-test.true in let b : length ms ≡ length c.args.machines.now = c.loop-part.auto.machines in omega arith) in
+    let within : q.1 < length ms = subst (λ (n : ℕ). q.1 < n) (sym c.loop-part.auto.machines) (c.requires.within i (record { 0 = 0 }, 0) c.loop-part-test.true) in
     bound_here c.args.endpoints.now ms q.1 d (subst (All (IsBound c.args.endpoints.now)) (sym c.loop-part.invariant.standing) c.requires.bound) within
 
 pub returns-in_err-reserve-clause-standing : goal.returns-in_err-reserve-clause-standing
@@ -27,7 +27,7 @@ returns-in_err-reserve-clause-standing c =
     let ms = c.loop-part.machines in
     let q = get_or parts i (record { 0 = 0 }, 0) in
     let d = c.index-machines-part.result in
-    let within : q.1 < length ms = (let a : q.1 < length c.args.machines.now = c.requires.within i (record { 0 = 0 }, 0) c.loop-part-test.true in let b : length ms ≡ length c.args.machines.now = c.loop-part.auto.machines in omega arith) in
+    let within : q.1 < length ms = subst (λ (n : ℕ). q.1 < n) (sym c.loop-part.auto.machines) (c.requires.within i (record { 0 = 0 }, 0) c.loop-part-test.true) in
     mapped_get standing_of ms q.1 d c.reserve.new.self within c.reserve.ensures.machine ∙ c.loop-part.invariant.standing
 
 pub returns-in_err-reserve-clause-numbers : goal.returns-in_err-reserve-clause-numbers
@@ -37,7 +37,7 @@ returns-in_err-reserve-clause-numbers c =
     let ms = c.loop-part.machines in
     let q = get_or parts i (record { 0 = 0 }, 0) in
     let d = c.index-machines-part.result in
-    let within : q.1 < length ms = (let a : q.1 < length c.args.machines.now = c.requires.within i (record { 0 = 0 }, 0) c.loop-part-test.true in let b : length ms ≡ length c.args.machines.now = c.loop-part.auto.machines in omega arith) in
+    let within : q.1 < length ms = subst (λ (n : ℕ). q.1 < n) (sym c.loop-part.auto.machines) (c.requires.within i (record { 0 = 0 }, 0) c.loop-part-test.true) in
     mapped_get number_of ms q.1 d c.reserve.new.self within c.reserve.ensures.number ∙ c.loop-part.invariant.numbers
 
 pub loop-part-preserved : goal.loop-part-preserved
@@ -47,7 +47,7 @@ loop-part-preserved c =
     let ms = c.loop-part.machines in
     let q = get_or parts i (record { 0 = 0 }, 0) in
     let d = c.index-machines-part.result in
-    let within : q.1 < length ms = (let a : q.1 < length c.args.machines.now = c.requires.within i (record { 0 = 0 }, 0) c.loop-part-test.true in let b : length ms ≡ length c.args.machines.now = c.loop-part.auto.machines in omega arith) in
+    let within : q.1 < length ms = subst (λ (n : ℕ). q.1 < n) (sym c.loop-part.auto.machines) (c.requires.within i (record { 0 = 0 }, 0) c.loop-part-test.true) in
     let e = c.args.endpoints.now in
     record {
       standing = mapped_get standing_of ms q.1 d c.reserve.new.self within c.reserve.ensures.machine ∙ c.loop-part.invariant.standing;

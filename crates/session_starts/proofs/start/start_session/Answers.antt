@@ -1,16 +1,24 @@
-use Rattle.std.proofs.Common.{◌≡◌, ◌∙◌, ◌++◌, ◌<◌, ap, sym, subst, List, length, map, take, ℕ}
+use Rattle.std.proofs.Common.{◌≡◌, ◌∙◌, ◌++◌, ◌<◌, ap, sym, subst, List, length, map, take, true, ℕ, Result, Ok, Err}
 use Rattle.std.specs.Prelude.{All}
 use Rattle.std.specs.Vec.{with_items}
-use Rattle.std.proofs.lemmas.List.{with_items_is}
+use Rattle.std.specs.Result.{OnErr}
+use Rattle.std.proofs.lemmas.List.{with_items_is, map-append}
 use Rattle.std.proofs.Math.Seq.{take-append_seam}
 use Rattle.chor_base.specs.declared.names.NameId.{NameId}
-use Rattle.endpoint_code.specs.Network.{served_parts}
+use Rattle.endpoint_code.specs.Network.{Machine, served_parts}
+use Rattle.endpoint_machine.specs.Bound.{IsBound}
 use Rattle.endpoint_machine.specs.Views.{MachineView}
-use Rattle.session_starts.specs.Machines.{number_of}
+use Rattle.session_starts.specs.Machines.{standing_of, number_of, AreCounted}
+use Rattle.session_starts.specs.Starts.{AllJoin, AreApart, reserved_in, Joined}
+use Rattle.session_starts.proofs.Counts.{counted_same}
 use Rattle.session_starts.proofs.Joins.{all_within}
 use Rattle.session_starts.proofs.Served.{provided}
-use Rattle.session_starts.proofs.Started.{started_bound, started_counted, started_few}
+use Rattle.session_starts.proofs.Started.{same_long, few_among, started_bound, started_counted, started_few}
 use Rattle.session_starts.proofs.start.start_session.Goals as goal
+
+on_err : {A E P : Type 0} (r : Result A E) → P → OnErr r P
+on_err (Ok x) p = tt
+on_err (Err e) p = p
 
 pub serve-requires-clause-provided : goal.serve-requires-clause-provided
 serve-requires-clause-provided c = provided c.args.endpoints.now c.args.channel.now.name c.args.channel.now c.requires.faultless c.requires.channel
@@ -66,3 +74,88 @@ returns-clause-few c =
     started_few c.args.endpoints.now c.args.channel.now c.args.sid c.args.machines.now.items last c.in_ok-new.new.items c.append.new.self.items new same
     (c.in_ok-new.ensures.numbers ∙ ap (λ (n : ℕ). map (λ (q : NameId × ℕ). q.1) (served_parts c.args.channel.now.serve n)) (c.len-first.ensures ∙ c.args.machines.now.ok.0))
     c.requires.fits
+
+pub join_all-requires : goal.join_all-requires
+join_all-requires c =
+    let e = c.args.endpoints.now in
+    let name = c.args.channel.now.name in
+    let ps = c.args.parts in
+    let active : take c.len-joining.result c.as_slice-2.result.now ≡ ps =
+    ap (take c.len-joining.result) (c.as_slice-2.ensures ∙ c.in_ok-add_served.ensures)
+    ∙ ap (λ (n : ℕ). take n (ps ++ served_parts c.as_slice.result.now c.len-first.result)) c.len-joining.ensures
+    ∙ take-append_seam ps (served_parts c.as_slice.result.now c.len-first.result)
+    in
+    let second = with_items_is c.reserve.new.self c.reserve_sessions.new.machines (c.reserve_sessions.auto.machines ∙ c.as_mut_slice.ensures.len) in
+    let still : map standing_of c.as_mut_slice-2.result.now ≡ map standing_of c.args.machines.now.items =
+    ap (map standing_of) (c.as_mut_slice-2.ensures.value ∙ second) ∙ c.in_ok-reserve_sessions.ensures.standing ∙ ap (map standing_of) (c.as_mut_slice.ensures.value ∙ c.in_ok-reserve.ensures.items)
+    in
+    record {
+      faultless = c.requires.faultless;
+      bound = subst (All (IsBound e)) (sym still) c.requires.bound;
+      joins = subst (λ (ms : List Machine). AllJoin e ms name (take c.len-joining.result c.as_slice-2.result.now)) (sym still) (subst (AllJoin e (map standing_of c.args.machines.now.items) name) (sym active) c.requires.joins);
+      room = subst (λ (ms : List MachineView). All (λ (q : NameId × ℕ). reserved_in e ms q.1 ≡ true) (take c.len-joining.result c.as_slice-2.result.now)) (sym (c.as_mut_slice-2.ensures.value ∙ second)) c.in_ok-reserve_sessions.ensures.ok;
+      apart = subst AreApart (sym active) c.requires.apart;
+    }
+
+pub returns-clause-started : goal.returns-clause-started
+returns-clause-started c =
+    let e = c.args.endpoints.now in
+    let k = c.args.channel.now in
+    let last = c.join_all.new.machines in
+    let ps = c.args.parts in
+    let active : take c.len-joining.result c.as_slice-2.result.now ≡ ps =
+    ap (take c.len-joining.result) (c.as_slice-2.ensures ∙ c.in_ok-add_served.ensures)
+    ∙ ap (λ (n : ℕ). take n (ps ++ served_parts c.as_slice.result.now c.len-first.result)) c.len-joining.ensures
+    ∙ take-append_seam ps (served_parts c.as_slice.result.now c.len-first.result)
+    in
+    let second = with_items_is c.reserve.new.self c.reserve_sessions.new.machines (c.reserve_sessions.auto.machines ∙ c.as_mut_slice.ensures.len) in
+    let still : map standing_of c.as_mut_slice-2.result.now ≡ map standing_of c.args.machines.now.items =
+    ap (map standing_of) (c.as_mut_slice-2.ensures.value ∙ second) ∙ c.in_ok-reserve_sessions.ensures.standing ∙ ap (map standing_of) (c.as_mut_slice.ensures.value ∙ c.in_ok-reserve.ensures.items)
+    in
+    let mid = with_items c.reserve.new.self c.reserve_sessions.new.machines in
+    let new : c.append.new.self.items ≡ last ++ c.in_ok-new.new.items =
+    c.in-Ok.ensures.items ∙ ap (λ (ms : List MachineView). ms ++ c.in_ok-new.new.items) (with_items_is mid last (c.join_all.auto.machines ∙ c.as_mut_slice-2.ensures.len))
+    in
+    record {
+      joined = map standing_of last;
+      joins =
+          subst (λ (ms : List Machine). Joined e k.name c.args.sid ms ps (map standing_of last)) still
+          (subst (λ (qs : List (NameId × ℕ)). Joined e k.name c.args.sid (map standing_of c.as_mut_slice-2.result.now) qs (map standing_of last)) active c.join_all.ensures.joined);
+      serves = ap (map standing_of) new ∙ map-append standing_of last c.in_ok-new.new.items ∙ ap (λ (ns : List Machine). map standing_of last ++ ns) c.in_ok-new.ensures.machines;
+    }
+
+pub returns-in_err-reserve_sessions-clause-same : goal.returns-in_err-reserve_sessions-clause-same
+returns-in_err-reserve_sessions-clause-same c =
+    let here : List MachineView = c.args.machines.now.items in
+    let first = c.reserve_sessions.new.machines in
+    let after = with_items_is c.reserve.new.self first (c.reserve_sessions.auto.machines ∙ c.as_mut_slice.ensures.len) in
+    let items : c.as_mut_slice.result.now ≡ here = c.as_mut_slice.ensures.value ∙ c.in_ok-reserve.ensures.items in
+    let standing = ap (map standing_of) after ∙ c.in_err-reserve_sessions.ensures.standing ∙ ap (map standing_of) items in
+    on_err c.from_residual-in_err-reserve_sessions.result standing
+
+pub returns-in_err-reserve_sessions-clause-bound : goal.returns-in_err-reserve_sessions-clause-bound
+returns-in_err-reserve_sessions-clause-bound c =
+    let here : List MachineView = c.args.machines.now.items in
+    let first = c.reserve_sessions.new.machines in
+    let after = with_items_is c.reserve.new.self first (c.reserve_sessions.auto.machines ∙ c.as_mut_slice.ensures.len) in
+    let items : c.as_mut_slice.result.now ≡ here = c.as_mut_slice.ensures.value ∙ c.in_ok-reserve.ensures.items in
+    let standing = ap (map standing_of) after ∙ c.in_err-reserve_sessions.ensures.standing ∙ ap (map standing_of) items in
+    subst (All (IsBound c.args.endpoints.now)) (sym standing) c.requires.bound
+
+pub returns-in_err-reserve_sessions-clause-counted : goal.returns-in_err-reserve_sessions-clause-counted
+returns-in_err-reserve_sessions-clause-counted c =
+    let here : List MachineView = c.args.machines.now.items in
+    let first = c.reserve_sessions.new.machines in
+    let after = with_items_is c.reserve.new.self first (c.reserve_sessions.auto.machines ∙ c.as_mut_slice.ensures.len) in
+    let items : c.as_mut_slice.result.now ≡ here = c.as_mut_slice.ensures.value ∙ c.in_ok-reserve.ensures.items in
+    let numbers : map number_of first ≡ map number_of here = c.in_err-reserve_sessions.ensures.numbers ∙ ap (map number_of) items in
+    subst AreCounted (sym after) (counted_same here first numbers c.requires.counted)
+
+pub returns-in_err-reserve_sessions-clause-few : goal.returns-in_err-reserve_sessions-clause-few
+returns-in_err-reserve_sessions-clause-few c =
+    let here : List MachineView = c.args.machines.now.items in
+    let first = c.reserve_sessions.new.machines in
+    let after = with_items_is c.reserve.new.self first (c.reserve_sessions.auto.machines ∙ c.as_mut_slice.ensures.len) in
+    let items : c.as_mut_slice.result.now ≡ here = c.as_mut_slice.ensures.value ∙ c.in_ok-reserve.ensures.items in
+    let numbers : map number_of first ≡ map number_of here = c.in_err-reserve_sessions.ensures.numbers ∙ ap (map number_of) items in
+    few_among (length here) (length c.args.channel.now.serve) _ (ap length after ∙ same_long here first numbers) c.requires.fits
