@@ -5,6 +5,7 @@ use Rattle.std.proofs.lemmas.List.{drop_more, drop_all}
 use Rattle.std.specs.Ordering.{nat_cmp, eq_by_cmp}
 use Rattle.std.specs.FinMap as fin
 use Rattle.std.proofs.lemmas.Cmp.{nat_cmp_total}
+use Rattle.std.proofs.lemmas.Bool.{eqb-true, eqb-false, eq-eqb}
 use Rattle.std.proofs.lemmas.Bool.Decides.{nat_tests}
 use Rattle.chor_base.specs.declared.names.NameId.{NameId}
 use Rattle.endpoint_code.specs.Network.{Sessions, passed, passed_one}
@@ -49,12 +50,12 @@ lookup_without (b ∷ bs) x q = go (b.session.0 == x) refl (lookup_without bs x 
     same h false e = sym (ap (λ t. cond t (Some (b.sid, b.role)) (lookup bs q)) (ap (λ y. y == q) h ∙ e))
 
     apart : (b.session.0 == x) ≡ false → (t u : Bool) → (x == q) ≡ t → (b.session.0 == q) ≡ u → cond u (Some (b.sid, b.role)) (cond t None (lookup bs q)) ≡ cond t None (cond u (Some (b.sid, b.role)) (lookup bs q))
-    apart h true true e f = absurd (grind (arith, nat_tests))
+    apart h true true e f = absurd (eqb-false b.session.0 x h (eqb-true b.session.0 q f ∙ sym (eqb-true x q e)))
     apart h true false e f = refl
     apart h false u e f = refl
 
     go : (t : Bool) → (b.session.0 == x) ≡ t → lookup rest q ≡ cond (x == q) None (lookup bs q) → lookup (cond (not t) (b ∷ rest) rest) q ≡ cond (x == q) None (cond (b.session.0 == q) (Some (b.sid, b.role)) (lookup bs q))
-    go true h before = before ∙ same (grind (arith, nat_tests)) (x == q) refl
+    go true h before = before ∙ same (eqb-true b.session.0 x h) (x == q) refl
     go false h before = ap (cond (b.session.0 == q) (Some (b.sid, b.role))) before ∙ apart h (x == q) (b.session.0 == q) refl refl
 
 lookup_push : (bs : List Binding) (b : Binding) (q : ℕ) → lookup bs q ≡ None → lookup (bs ++ b ∷ []) q ≡ cond (b.session.0 == q) (Some (b.sid, b.role)) None
@@ -164,8 +165,8 @@ passed_over params names m i q le = ap (λ (n : Sessions). fin.get n q) (passed_
 
 kept : (p n : NameId) (b : Binding) → (p.0 == b.session.0) ≡ true → (n.0 == b.session.0) ≡ true → passed (p ∷ []) (n ∷ []) (sessions_of (b ∷ [])) ≡ sessions_of (b ∷ [])
 kept p n b hp hn =
-    let same : p.0 ≡ b.session.0 = grind (arith, nat_tests) in
-    let back : (b.session.0 == n.0) ≡ true = grind (arith, nat_tests) in
+    let same = eqb-true p.0 b.session.0 hp in
+    let back = eq-eqb b.session.0 n.0 (sym (eqb-true n.0 b.session.0 hn)) in
     ap (λ (o : Option (ℕ × NameId)). passed_one o p fin.empty) (get_sessions (b ∷ []) n.0 ∙ taken _ _ _ back)
     ∙ ap (λ (k : ℕ). fin.insert fin.empty k (b.sid, b.role)) same
     ∙ sym (put_last [] b)

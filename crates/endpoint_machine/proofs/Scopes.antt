@@ -4,8 +4,7 @@ use Rattle.std.specs.Prelude.{All}
 use Rattle.std.specs.FinMap as fin
 use Rattle.std.specs.Ordering.{nat_cmp, eq_by_cmp}
 use Rattle.std.proofs.lemmas.Cmp.{nat_cmp_total}
-use Rattle.std.proofs.lemmas.Bool.{and_parts, and_from}
-use Rattle.std.proofs.lemmas.Bool.Decides.{nat_tests}
+use Rattle.std.proofs.lemmas.Bool.{and_parts, and_from, eqb-true, eqb-false, ne_eqb}
 use Rattle.std.proofs.lemmas.Option.{slice_get_within}
 use Rattle.std.proofs.lemmas.List.Elements.{All-head, All-tail}
 use Rattle.chor_base.specs.declared.names.NameId.{NameId}
@@ -90,7 +89,7 @@ bound_put m names k b bound q h = ap is_some (get_put m k.0 q.0 b) ∙ go (k.0 =
   where
     go : (t : Bool) → (k.0 == q.0) ≡ t → (u : Bool) → (q.0 == k.0) ≡ u → (u || is_among q names) ≡ true → is_some (cond t (Some b) (fin.get m q.0)) ≡ true
     go true e u f h = refl
-    go false e true f h = absurd (grind (arith, nat_tests))
+    go false e true f h = absurd (eqb-false k.0 q.0 e (sym (eqb-true q.0 k.0 f)))
     go false e false f h = bound q h
 
 among_without : (h q : NameId) (names : List NameId) → is_among q (without h names) ≡ true → ((h.0 == q.0) ≡ false) × (is_among q names ≡ true)
@@ -106,7 +105,7 @@ among_without h q (y ∷ ys) a = go (h.0 == y.0) refl a (among_without h q ys)
     go false e a before = other (q.0 == y.0) refl a
       where
         other : (u : Bool) → (q.0 == y.0) ≡ u → (u || is_among q (without h ys)) ≡ true → ((h.0 == q.0) ≡ false) × ((u || is_among q ys) ≡ true)
-        other true f a = ((grind (arith, nat_tests)), refl)
+        other true f a = (ne_eqb h.0 q.0 (λ i. eqb-false h.0 y.0 e (i ∙ eqb-true q.0 y.0 f)), refl)
         other false f a = before a
 
 pub bound_removed : (m : Sessions) (names : List NameId) (h : NameId) → AreBound m names → AreBound (fin.remove m h.0) (without h names)

@@ -1,11 +1,21 @@
 use Rattle.std.proofs.Common.{◌≡◌, ℤ, ap, sym, ◌∙◌, subst, w64, to_z, of_z, rules}
-use Rattle.chor_host.specs.Functions.{hosts_in}
+use Rattle.chor_host.specs.Functions.{hosts_in, names_of}
 use Rattle.chor_host.specs.Tables.{functions_of}
 use Rattle.endpoint_machine.specs.Acts.{node_event}
 use Rattle.endpoint_machine.specs.Places.{sessions_at}
 use Rattle.endpoint_machine.specs.Steps.{CanMake}
-use Rattle.endpoint_machine.proofs.Actings.{alone_there, makes_there, makes_only}
+use Rattle.endpoint_machine.proofs.Actings.{alone_there, known_there, numbered_there, makes_there, makes_only}
 use Rattle.endpoint_machine.proofs.machine.Machine.may.Goals as goal
+
+pub answer_at-answer-requires-clause-there : goal.answer_at-answer-requires-clause-there
+answer_at-answer-requires-clause-there g c = numbered_there c.args.endpoints.now c.args.self.now.machine c.place-place.result.node.now _ c.place-place.ensures.stands
+
+pub answer_at-answer-requires-clause-known : goal.answer_at-answer-requires-clause-known
+answer_at-answer-requires-clause-known g c =
+    known_there (names_of (functions_of c.args.hosts.now)) c.args.endpoints.now c.args.self.now.machine c.place-place.result.node.now _ c.requires.faultless c.place-place.ensures.stands
+
+pub event_at-requires : goal.event_at-requires
+event_at-requires g c = alone_there c.args.endpoints.now c.args.self.now.machine c.place-place.result.node.now _ c.place-place.ensures.stands c.requires.alone
 
 pub returns : goal.returns
 returns g c =
