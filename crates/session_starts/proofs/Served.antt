@@ -1,7 +1,7 @@
 -- The processes of service roles.
-use Rattle.std.proofs.Common.{◌≡◌, ℕ, suc, ◌+◌, ◌<◌, ◌==◌, ◌&&◌, ◌||◌, Bool, true, false, cond, List, [], ◌∷◌, ◌++◌, length, map, drop, get_or, refl, sym, ap, ◌∙◌, subst, Some, arith, append_assoc}
+use Rattle.std.proofs.Common.{◌≡◌, ℕ, suc, ◌+◌, ◌<◌, ◌≤◌, ◌==◌, ◌&&◌, ◌||◌, Bool, true, false, cond, List, [], ◌∷◌, ◌++◌, length, map, drop, get_or, refl, sym, ap, ◌∙◌, subst, Some, arith, append_assoc}
 use Rattle.std.proofs.Math.Seq.{drop-cons}
-use Rattle.std.proofs.lemmas.List.{map-append}
+use Rattle.std.proofs.lemmas.List.{append-nil, drop_all, map-append}
 use Rattle.std.specs.Prelude.{All}
 use Rattle.std.specs.FinMap as fin
 use Rattle.std.proofs.lemmas.Bool.{and_parts}
@@ -107,3 +107,24 @@ module _ (i : ℕ) (roles : List NameId) (d : NameId) (ms new : List MachineView
       ∙ ap (λ (n : ℕ). map number_of ms ++ n ∷ map (λ (q : NameId × ℕ). q.1) (served_parts (drop (i + 1) roles) (suc (first + i)))) is
       ∙ ap (λ (rs : List NameId). map number_of ms ++ map (λ (q : NameId × ℕ). q.1) (served_parts rs (first + i))) (sym (next_role roles i d lt))
       ∙ before
+
+-- ---- before the first of them, and after the last
+
+pub none_served : (e : Endpoints) (c : NameId) (s : ℕ) (roles : List NameId) (ms : List MachineView) → ms ≡ [] → map standing_of ms ++ served e c s roles ≡ served e c s roles
+none_served e c s roles ms none = ap (λ (l : List MachineView). map standing_of l ++ served e c s roles) none
+
+pub none_numbered : (first : ℕ) (roles : List NameId) (ms : List MachineView) → ms ≡ []
+    → map number_of ms ++ map (λ (q : NameId × ℕ). q.1) (served_parts roles (first + 0)) ≡ map (λ (q : NameId × ℕ). q.1) (served_parts roles first)
+none_numbered first roles ms none =
+    let same : first + 0 ≡ first = omega arith in
+    ap (λ (l : List MachineView). map number_of l ++ map (λ (q : NameId × ℕ). q.1) (served_parts roles (first + 0))) none
+    ∙ ap (λ (k : ℕ). map (λ (q : NameId × ℕ). q.1) (served_parts roles k)) same
+
+module _ (roles : List NameId) (i : ℕ) (ms : List MachineView) (le : length roles ≤ i) where
+  pub all_served : (e : Endpoints) (c : NameId) (s : ℕ) → map standing_of ms ++ served e c s (drop i roles) ≡ served e c s roles → map standing_of ms ≡ served e c s roles
+  all_served e c s h = sym (append-nil (map standing_of ms)) ∙ sym (ap (λ (rs : List NameId). map standing_of ms ++ served e c s rs) (drop_all i roles le)) ∙ h
+
+  pub all_numbered : (first p : ℕ) → map number_of ms ++ map (λ (q : NameId × ℕ). q.1) (served_parts (drop i roles) p) ≡ map (λ (q : NameId × ℕ). q.1) (served_parts roles first)
+      → map number_of ms ≡ map (λ (q : NameId × ℕ). q.1) (served_parts roles first)
+  all_numbered first p h =
+      sym (append-nil (map number_of ms)) ∙ sym (ap (λ (rs : List NameId). map number_of ms ++ map (λ (q : NameId × ℕ). q.1) (served_parts rs p)) (drop_all i roles le)) ∙ h

@@ -1,4 +1,4 @@
-use Rattle.std.proofs.Common.{◌≡◌, ◌∙◌, ◌++◌, ◌<◌, ap, sym, subst, List, length, map, take, true, ℕ, Result, Ok, Err}
+use Rattle.std.proofs.Common.{◌≡◌, ◌∙◌, ◌++◌, ◌<◌, ap, refl, sym, subst, List, length, map, take, true, ℕ, Result, Ok, Err}
 use Rattle.std.specs.Prelude.{All}
 use Rattle.std.specs.Vec.{with_items}
 use Rattle.std.specs.Result.{OnErr}
@@ -159,3 +159,27 @@ returns-in_err-reserve_sessions-clause-few c =
     let items : c.as_mut_slice.result.now ≡ here = c.as_mut_slice.ensures.value ∙ c.in_ok-reserve.ensures.items in
     let numbers : map number_of first ≡ map number_of here = c.in_err-reserve_sessions.ensures.numbers ∙ ap (map number_of) items in
     few_among (length here) (length c.args.channel.now.serve) _ (ap length after ∙ same_long here first numbers) c.requires.fits
+
+pub returns-in_err-add_served-clause-same : goal.returns-in_err-add_served-clause-same
+returns-in_err-add_served-clause-same c = on_err c.from_residual.result refl
+
+pub returns-in_err-add_served-clause-few : goal.returns-in_err-add_served-clause-few
+returns-in_err-add_served-clause-few c = few_among (length c.args.machines.now.items) (length c.args.channel.now.serve) _ refl c.requires.fits
+
+pub returns-in_err-new-clause-same : goal.returns-in_err-new-clause-same
+returns-in_err-new-clause-same c = on_err c.from_residual-in_err-new.result refl
+
+pub returns-in_err-new-clause-few : goal.returns-in_err-new-clause-few
+returns-in_err-new-clause-few c = few_among (length c.args.machines.now.items) (length c.args.channel.now.serve) _ refl c.requires.fits
+
+pub returns-in_err-reserve-clause-same : goal.returns-in_err-reserve-clause-same
+returns-in_err-reserve-clause-same c = on_err c.from_residual-in_err-reserve.result (ap (map standing_of) c.in_err-reserve.ensures.items)
+
+pub returns-in_err-reserve-clause-bound : goal.returns-in_err-reserve-clause-bound
+returns-in_err-reserve-clause-bound c = subst (λ (ms : List MachineView). All (IsBound c.args.endpoints.now) (map standing_of ms)) (sym c.in_err-reserve.ensures.items) c.requires.bound
+
+pub returns-in_err-reserve-clause-counted : goal.returns-in_err-reserve-clause-counted
+returns-in_err-reserve-clause-counted c = subst AreCounted (sym c.in_err-reserve.ensures.items) c.requires.counted
+
+pub returns-in_err-reserve-clause-few : goal.returns-in_err-reserve-clause-few
+returns-in_err-reserve-clause-few c = few_among (length c.args.machines.now.items) (length c.args.channel.now.serve) _ (ap length c.in_err-reserve.ensures.items) c.requires.fits
