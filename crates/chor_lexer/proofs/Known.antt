@@ -1,6 +1,6 @@
 -- The words of a file's tokens have numbers that are in the table.
-use Rattle.std.proofs.Common.{◌≡◌, ◌<◌, ℕ, List, [], ◌∷◌, length, ap, sym, subst}
-use Rattle.std.specs.List.{AllByRecursion, AllZip}
+use Rattle.std.proofs.Common.{◌≡◌, ◌<◌, ℕ, List, [], ◌∷◌, length, subst}
+use Rattle.std.specs.List.{AllByRecursion}
 use Rattle.std.proofs.lemmas.Option.{slice_get_within}
 use Rattle.chor_base.specs.declared.names.NameId.{NameId}
 use Rattle.chor_lexer.specs.declared.token.Kind.{Kind}

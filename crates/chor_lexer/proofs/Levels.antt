@@ -1,9 +1,10 @@
 -- What a token is at a level, and what the grammar makes of it.
 use Rattle.std.proofs.Common.{◌≡◌, ◌≢◌, ◌==◌, ℕ, Bool, true, false, List, ◌∷◌, Option, Some, None, refl, sym, ap, ◌∙◌, subst}
 use Rattle.std.specs.Prelude.{if◌then◌else◌}
+use Rattle.std.proofs.lemmas.Bool.{false≢true}
 use Rattle.std.proofs.lemmas.Bool.Decides.{Decides-eqb}
+use Rattle.std.proofs.lemmas.Option.{none-some, same_Some}
 use Rattle.chor_base.specs.declared.expr.UnOp.{UnOp}
-use Rattle.chor_base.specs.declared.expr.UnOp.TheVariants as unop
 use Rattle.chor_base.specs.declared.expr.BinOp.{BinOp}
 use Rattle.chor_base.specs.declared.expr.BinOp.TheVariants as binop
 use Rattle.chor_base.specs.Expr.{Term, Binary}
@@ -20,17 +21,17 @@ use Rattle.chor_lexer.specs.Turns.{stronger, strength_at, repeats, LevelIs, Leve
 -- ---- marks
 
 pub binary_is : (k : Kind) (op : BinOp) → binary_of k ≡ Some op → k ≡ Mark (binary_mark op)
-binary_is (Mark Plus) op e = let same : binop.Add ≡ op = cc in subst (λ o. Mark Plus ≡ Mark (binary_mark o)) same refl
-binary_is (Mark Minus) op e = let same : binop.Sub ≡ op = cc in subst (λ o. Mark Minus ≡ Mark (binary_mark o)) same refl
-binary_is (Mark Star) op e = let same : binop.Mul ≡ op = cc in subst (λ o. Mark Star ≡ Mark (binary_mark o)) same refl
-binary_is (Mark Slash) op e = let same : binop.Div ≡ op = cc in subst (λ o. Mark Slash ≡ Mark (binary_mark o)) same refl
-binary_is (Mark Equal) op e = let same : binop.Eq ≡ op = cc in subst (λ o. Mark Equal ≡ Mark (binary_mark o)) same refl
-binary_is (Mark NotEqual) op e = let same : binop.Ne ≡ op = cc in subst (λ o. Mark NotEqual ≡ Mark (binary_mark o)) same refl
-binary_is (Mark Less) op e = let same : binop.Lt ≡ op = cc in subst (λ o. Mark Less ≡ Mark (binary_mark o)) same refl
-binary_is (Mark LessEqual) op e = let same : binop.Le ≡ op = cc in subst (λ o. Mark LessEqual ≡ Mark (binary_mark o)) same refl
-binary_is (Mark And) op e = let same : binop.And ≡ op = cc in subst (λ o. Mark And ≡ Mark (binary_mark o)) same refl
-binary_is (Mark Or) op e = let same : binop.Or ≡ op = cc in subst (λ o. Mark Or ≡ Mark (binary_mark o)) same refl
-binary_is _ op e = absurd cc
+binary_is (Mark Plus) op e = subst (λ o. Mark Plus ≡ Mark (binary_mark o)) (same_Some _ _ e) refl
+binary_is (Mark Minus) op e = subst (λ o. Mark Minus ≡ Mark (binary_mark o)) (same_Some _ _ e) refl
+binary_is (Mark Star) op e = subst (λ o. Mark Star ≡ Mark (binary_mark o)) (same_Some _ _ e) refl
+binary_is (Mark Slash) op e = subst (λ o. Mark Slash ≡ Mark (binary_mark o)) (same_Some _ _ e) refl
+binary_is (Mark Equal) op e = subst (λ o. Mark Equal ≡ Mark (binary_mark o)) (same_Some _ _ e) refl
+binary_is (Mark NotEqual) op e = subst (λ o. Mark NotEqual ≡ Mark (binary_mark o)) (same_Some _ _ e) refl
+binary_is (Mark Less) op e = subst (λ o. Mark Less ≡ Mark (binary_mark o)) (same_Some _ _ e) refl
+binary_is (Mark LessEqual) op e = subst (λ o. Mark LessEqual ≡ Mark (binary_mark o)) (same_Some _ _ e) refl
+binary_is (Mark And) op e = subst (λ o. Mark And ≡ Mark (binary_mark o)) (same_Some _ _ e) refl
+binary_is (Mark Or) op e = subst (λ o. Mark Or ≡ Mark (binary_mark o)) (same_Some _ _ e) refl
+binary_is _ op e = absurd (none-some op e)
 
 pub is_binary : (op : BinOp) → binary_of (Mark (binary_mark op)) ≡ Some op
 is_binary binop.Add = refl
@@ -45,17 +46,17 @@ is_binary binop.And = refl
 is_binary binop.Or = refl
 
 pub unary_is : (k : Kind) (op : UnOp) → unary_of k ≡ Some op → k ≡ Mark (unary_mark op)
-unary_is (Mark Minus) op e = let same : unop.Neg ≡ op = cc in subst (λ o. Mark Minus ≡ Mark (unary_mark o)) same refl
-unary_is (Mark Not) op e = let same : unop.Not ≡ op = cc in subst (λ o. Mark Not ≡ Mark (unary_mark o)) same refl
-unary_is _ op e = absurd cc
+unary_is (Mark Minus) op e = subst (λ o. Mark Minus ≡ Mark (unary_mark o)) (same_Some _ _ e) refl
+unary_is (Mark Not) op e = subst (λ o. Mark Not ≡ Mark (unary_mark o)) (same_Some _ _ e) refl
+unary_is _ op e = absurd (none-some op e)
 
 pub open_is : (k : Kind) → is_open k ≡ true → k ≡ Mark OpenParen
 open_is (Mark OpenParen) e = refl
-open_is _ e = absurd cc
+open_is _ e = absurd (false≢true e)
 
 pub close_is : (k : Kind) → is_close k ≡ true → k ≡ Mark CloseParen
 close_is (Mark CloseParen) e = refl
-close_is _ e = absurd cc
+close_is _ e = absurd (false≢true e)
 
 -- ---- operators
 
@@ -65,7 +66,7 @@ pub record IsAt (l : Level) (k : Kind) (op : BinOp) : Type 0 where
   pub strong : strength op ≡ strength_at l
 
 pub level_is : (l : Level) (o : Option BinOp) (op : BinOp) → of_level l o ≡ Some op → (o ≡ Some op) × (strength op ≡ strength_at l)
-level_is l None op e = absurd cc
+level_is l None op e = absurd (none-some op e)
 level_is l (Some p) op e = go (strength p == strength_at l) refl
   where
     go : (b : Bool) → (strength p == strength_at l) ≡ b → (Some p ≡ Some op) × (strength op ≡ strength_at l)

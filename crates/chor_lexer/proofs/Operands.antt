@@ -1,6 +1,9 @@
 -- One step of a reader of operands, and what the grammar and the parts that are due make of it.
 use Rattle.std.proofs.Common.{◌≡◌, ◌≢◌, ◌<◌, ◌+◌, ℕ, Bool, true, false, List, [], ◌∷◌, ◌++◌, length, Option, Some, None, refl, sym, ap, ◌∙◌, subst, arith, slice_get, bytes_eq, codes}
 use Rattle.std.specs.List.{list_any}
+use Rattle.std.specs.Prelude.{if◌then◌else◌}
+use Rattle.std.proofs.lemmas.Bool.{false≢true}
+use Rattle.std.proofs.lemmas.Option.{none-some, same_Some}
 use Rattle.std.proofs.lemmas.Slice.Eq.{bytes_eq-Decides}
 use Rattle.chor_base.specs.Writing.{truth_text}
 use Rattle.chor_base.specs.declared.names.NameId.{NameId}
@@ -113,22 +116,22 @@ IsOperand names t x = (rest : List Token) → UnIs names (t ∷ rest) x rest
 truth_is : (names : List (List ℕ)) (t : Token) (x : NameId) (w : List ℕ) → t.kind ≡ Word x → slice_get names x.0 ≡ Some w → (b : Bool) (y : Term) → w ≡ truth_text b → Constant (value.Bool b) ≡ y → IsOperand names t y
 truth_is names t x w k s b y e same = λ rest. subst (λ z. UnIs names (t ∷ rest) z rest) same (a_truth (record { number = x; kind = k; word = s ∙ ap Some e }))
 
+abbrev chosen : Bool → Bool → Bool → NameId → Option Term
+chosen a b k x = if a then Some (Constant (value.Bool true)) else (if b then Some (Constant (value.Bool false)) else (if k then None else Some (Variable x)))
+
+-- a word that is an operand is a truth value or a name
+chosen_is : {R : Type 0} (a b k : Bool) (x : NameId) (y : Term) → chosen a b k x ≡ Some y → (a ≡ true → Constant (value.Bool true) ≡ y → R) → (b ≡ true → Constant (value.Bool false) ≡ y → R) → (k ≡ false → Variable x ≡ y → R) → R
+chosen_is true b k x y e if_true if_false if_name = if_true refl (same_Some _ _ e)
+chosen_is false true k x y e if_true if_false if_name = if_false refl (same_Some _ _ e)
+chosen_is false false true x y e if_true if_false if_name = absurd (none-some y e)
+chosen_is false false false x y e if_true if_false if_name = if_name refl (same_Some _ _ e)
+
 word_is : (names : List (List ℕ)) (t : Token) (x : NameId) (w : List ℕ) → t.kind ≡ Word x → slice_get names x.0 ≡ Some w → (y : Term) → word_operand x w ≡ Some y → IsOperand names t y
-word_is names t x w k s y e = first (bytes_eq w (codes "true")) refl
-  where
-    third : (b : Bool) → list_any (bytes_eq w) keywords ≡ b → bytes_eq w (codes "true") ≡ false → bytes_eq w (codes "false") ≡ false → IsOperand names t y
-    third true h n m = absurd cc
-    third false h n m =
-        let same : Variable x ≡ y = cc in
-        λ rest. subst (λ z. UnIs names (t ∷ rest) z rest) same (a_name (record { word = w; kind = k; is = s; name = h }))
-
-    second : (b : Bool) → bytes_eq w (codes "false") ≡ b → bytes_eq w (codes "true") ≡ false → IsOperand names t y
-    second true h n = let same : Constant (value.Bool false) ≡ y = cc in truth_is names t x w k s false y ((bytes_eq-Decides w (codes "false")).0 h) same
-    second false h n = third (list_any (bytes_eq w) keywords) refl n h
-
-    first : (b : Bool) → bytes_eq w (codes "true") ≡ b → IsOperand names t y
-    first true h = let same : Constant (value.Bool true) ≡ y = cc in truth_is names t x w k s true y ((bytes_eq-Decides w (codes "true")).0 h) same
-    first false h = second (bytes_eq w (codes "false")) refl h
+word_is names t x w k s y e =
+    chosen_is (bytes_eq w (codes "true")) (bytes_eq w (codes "false")) (list_any (bytes_eq w) keywords) x y e
+    (λ h same. truth_is names t x w k s true y ((bytes_eq-Decides w (codes "true")).0 h) same)
+    (λ h same. truth_is names t x w k s false y ((bytes_eq-Decides w (codes "false")).0 h) same)
+    (λ h same rest. subst (λ z. UnIs names (t ∷ rest) z rest) same (a_name (record { word = w; kind = k; is = s; name = h })))
 
 pub operand_is : (names : List (List ℕ)) (t : Token) (x : Term) → operand_of names t.kind ≡ Some x → IsOperand names t x
 operand_is names t x e = go t.kind refl (ap (operand_of names) refl ∙ e)
@@ -137,17 +140,17 @@ operand_is names t x e = go t.kind refl (ap (operand_of names) refl ∙ e)
     go (Word n) q f = named (slice_get names n.0) refl f
       where
         named : (o : Option (List ℕ)) → slice_get names n.0 ≡ o → named_operand n o ≡ Some x → IsOperand names t x
-        named None h g = absurd cc
+        named None h g = absurd (none-some x g)
         named (Some w) h g = word_is names t n w q h x g
-    go (Number z) q f = let same : Constant (value.Int z) ≡ x = cc in λ rest. subst (λ y. UnIs names (t ∷ rest) y rest) same (a_number q)
-    go (Text n) q f = let same : Constant (value.Text n) ≡ x = cc in λ rest. subst (λ y. UnIs names (t ∷ rest) y rest) same (a_text q)
-    go (Mark m) q f = absurd cc
-    go Last q f = absurd cc
+    go (Number z) q f = λ rest. subst (λ y. UnIs names (t ∷ rest) y rest) (same_Some _ _ f) (a_number q)
+    go (Text n) q f = λ rest. subst (λ y. UnIs names (t ∷ rest) y rest) (same_Some _ _ f) (a_text q)
+    go (Mark m) q f = absurd (none-some x f)
+    go Last q f = absurd (none-some x f)
 
 -- ---- what a reader of an operand without operators answers
 
 pub reads_operand : (names : List (List ℕ)) (ts rest : List Token) (x : Term) → operand_of names (front ts) ≡ Some x → rest ≡ tail ts → Reads names level.Un ts x rest
-reads_operand names [] rest x e r = absurd cc
+reads_operand names [] rest x e r = absurd (none-some x e)
 reads_operand names (t ∷ ts) rest x e r =
     subst (λ l. Reads names level.Un (t ∷ ts) x l) (sym r) (record {
       read = operand_is names t x e ts;
@@ -156,7 +159,7 @@ reads_operand names (t ∷ ts) rest x e r =
     })
 
 pub reads_unary : (names : List (List ℕ)) (ts mid rest : List Token) (op : UnOp) (x : Term) → operand_of names (front ts) ≡ None → Some op ≡ unary_of (front ts) → mid ≡ tail ts → Reads names level.Un mid x rest → Reads names level.Un ts (Unary op x) rest
-reads_unary names [] mid rest op x e f m r = absurd cc
+reads_unary names [] mid rest op x e f m r = absurd (none-some op (sym f))
 reads_unary names (t ∷ ts) mid rest op x e f m r =
     let r2 : Reads names level.Un ts x rest = subst (λ l. Reads names level.Un l x rest) m r in
     record {
@@ -167,7 +170,7 @@ reads_unary names (t ∷ ts) mid rest op x e f m r =
 
 pub stops_unary : (names : List (List ℕ)) (ts mid : List Token) (op : UnOp) (e : Stop) → operand_of names (front ts) ≡ None → Some op ≡ unary_of (front ts) → mid ≡ tail ts → StopsAt names level.Un mid e → StopsAt names level.Un ts e
 stops_unary names ts mid op Memory e f m h = tt
-stops_unary names [] mid op (Wrong at) e f m h = absurd cc
+stops_unary names [] mid op (Wrong at) e f m h = absurd (none-some op (sym f))
 stops_unary names (t ∷ ts) mid op (Wrong at) e f m h = λ b ss vs.
     run_unary names b ss vs t ts op e (sym f) ∙ ap (run names b (operand level.Un ∷ act (wrap op) ∷ ss) vs) (sym m) ∙ h b (act (wrap op) ∷ ss) vs
 
@@ -175,8 +178,8 @@ pub no_operand : (names : List (List ℕ)) (ts : List Token) → operand_of name
 no_operand names ts e f g b ss vs = run_not_begun names b ss vs ts (begins_of names (front ts) _ _ _ e (sym f) g)
 
 pub reads_parens : (names : List (List ℕ)) (ts mid end rest : List Token) (x : Term) → operand_of names (front ts) ≡ None → None ≡ unary_of (front ts) → is_open (front ts) ≡ true → mid ≡ tail ts → Reads names level.Or mid x end → is_close (front end) ≡ true → rest ≡ tail end → Reads names level.Un ts x rest
-reads_parens names [] mid end rest x e f g m r c q = absurd cc
-reads_parens names (t ∷ ts) mid [] rest x e f g m r c q = absurd cc
+reads_parens names [] mid end rest x e f g m r c q = absurd (false≢true g)
+reads_parens names (t ∷ ts) mid [] rest x e f g m r c q = absurd (false≢true c)
 reads_parens names (t ∷ ts) mid (u ∷ end) rest x e f g m r c q =
     let r2 : Reads names level.Or ts x (u ∷ end) = subst (λ l. Reads names level.Or l x (u ∷ end)) m r in
     subst (λ l. Reads names level.Un (t ∷ ts) x l) (sym q) (record {
@@ -187,12 +190,12 @@ reads_parens names (t ∷ ts) mid (u ∷ end) rest x e f g m r c q =
 
 pub stops_parens : (names : List (List ℕ)) (ts mid : List Token) (e : Stop) → operand_of names (front ts) ≡ None → None ≡ unary_of (front ts) → is_open (front ts) ≡ true → mid ≡ tail ts → StopsAt names level.Or mid e → StopsAt names level.Un ts e
 stops_parens names ts mid Memory e f g m h = tt
-stops_parens names [] mid (Wrong at) e f g m h = absurd cc
+stops_parens names [] mid (Wrong at) e f g m h = absurd (false≢true g)
 stops_parens names (t ∷ ts) mid (Wrong at) e f g m h = λ b ss vs.
     run_open names b ss vs t ts e (sym f) g ∙ ap (run names b (operand level.Or ∷ close ∷ ss) vs) (sym m) ∙ h b (close ∷ ss) vs
 
 pub stops_unclosed : (names : List (List ℕ)) (ts mid end : List Token) (x : Term) → operand_of names (front ts) ≡ None → None ≡ unary_of (front ts) → is_open (front ts) ≡ true → mid ≡ tail ts → Reads names level.Or mid x end → is_close (front end) ≡ false → (b : Bool) (ss : List Due) (vs : List Term) → run names b (operand level.Un ∷ ss) vs ts ≡ Stops end
-stops_unclosed names [] mid end x e f g m r c b ss vs = absurd cc
+stops_unclosed names [] mid end x e f g m r c b ss vs = absurd (false≢true g)
 stops_unclosed names (t ∷ ts) mid end x e f g m r c b ss vs =
     run_open names b ss vs t ts e (sym f) g ∙ ap (run names b (operand level.Or ∷ close ∷ ss) vs) (sym m) ∙ r.goes_on b (close ∷ ss) vs ∙ run_no_close names b ss (x ∷ vs) end c
 
@@ -229,7 +232,7 @@ taken_on names l t ts rest a c op e r b ss vs =
     ∙ run_act names b (again l (repeats l) ++ ss) vs op a c rest
 
 pub comes_on : (names : List (List ℕ)) (l k : Level) (ts mid after rest : List Token) (a c : Term) (op : BinOp) → IsOperandOf l k → Comes names l ts a mid → Some op ≡ operator_at l (front mid) → after ≡ tail mid → Reads names k after c rest → repeats l ≡ true → Comes names l ts (Binary op a c) rest
-comes_on names l k ts [] after rest a c op o h e m r q = let none : operator_at l Last ≡ None = refl in absurd cc
+comes_on names l k ts [] after rest a c op o h e m r q = absurd (none-some op (sym e))
 comes_on names l k ts (t ∷ mid) after rest a c op o h e m r q =
     let r2 : Reads names (stronger l) mid c rest = subst (λ p. Reads names (stronger l) p c rest) m (at_stronger names l k after rest c o r) in
     record {
@@ -241,7 +244,7 @@ comes_on names l k ts (t ∷ mid) after rest a c op o h e m r q =
     }
 
 pub reads_once : (names : List (List ℕ)) (l k : Level) (ts mid after rest : List Token) (a c : Term) (op : BinOp) → IsOperandOf l k → Comes names l ts a mid → Some op ≡ operator_at l (front mid) → after ≡ tail mid → Reads names k after c rest → repeats l ≡ false → Reads names l ts (Binary op a c) rest
-reads_once names l k ts [] after rest a c op o h e m r q = let none : operator_at l Last ≡ None = refl in absurd cc
+reads_once names l k ts [] after rest a c op o h e m r q = absurd (none-some op (sym e))
 reads_once names l k ts (t ∷ mid) after rest a c op o h e m r q =
     let r2 : Reads names (stronger l) mid c rest = subst (λ p. Reads names (stronger l) p c rest) m (at_stronger names l k after rest c o r) in
     record {
@@ -254,7 +257,7 @@ reads_once names l k ts (t ∷ mid) after rest a c op o h e m r q =
 
 pub stops_on : (names : List (List ℕ)) (l k : Level) (ts mid after : List Token) (a : Term) (op : BinOp) (e : Stop) → IsOperandOf l k → Comes names l ts a mid → Some op ≡ operator_at l (front mid) → after ≡ tail mid → StopsAt names k after e → StopsAt names l ts e
 stops_on names l k ts mid after a op Memory i h o m s = tt
-stops_on names l k ts [] after a op (Wrong at) i h o m s = let none : operator_at l Last ≡ None = refl in absurd cc
+stops_on names l k ts [] after a op (Wrong at) i h o m s = absurd (none-some op (sym o))
 stops_on names l k ts (t ∷ mid) after a op (Wrong at) i h o m s = λ b ss vs.
     h.goes_on b ss vs
     ∙ run_operator names b l ss (a ∷ vs) t mid op (sym o)

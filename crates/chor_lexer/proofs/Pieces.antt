@@ -304,6 +304,10 @@ pub space_is : (bs : List ℕ) → 1 ≤ length bs → is_space (get_or bs 0 0) 
 space_is [] n h = absurd (omega arith)
 space_is (b ∷ bs) n h = space h
 
+pub begins_at : (bs : List ℕ) (P : ℕ → Type 0) → 1 ≤ length bs → P (get_or bs 0 0) → Begins bs P
+begins_at [] P n h = absurd (omega arith)
+begins_at (b ∷ bs) P n h = record { first = b; rest = bs; parts = refl; holds = h }
+
 pub begins_some : (bs : List ℕ) (P : ℕ → Type 0) → Begins bs P → 1 ≤ length bs
 begins_some bs P b = omega (arith, ap length b.parts)
 

@@ -87,3 +87,7 @@ expr_text names texts (Binary op e f) =
     operand_text (left_needs op) (strength_of e) (expr_text names texts e)
     ++ (codes " " ++ spelling (binary_mark op) ++ codes " ")
     ++ operand_text (right_needs op) (strength_of f) (expr_text names texts f)
+
+-- the same as an operand where so much strength is needed
+abbrev pub needed_text : List (List ℕ) → List (List ℕ) → ℕ → Term → List ℕ
+needed_text names texts needed e = operand_text needed (strength_of e) (expr_text names texts e)

@@ -1,9 +1,9 @@
 //! The canonical text of expressions.
 
-ghost use Rattle.std.specs.Prelude.{◌≡◌, ◌++◌, [], if◌then◌else◌, codes, OnOk, OnErr};
+ghost use Rattle.std.specs.Prelude.{◌≡◌, ◌≤◌, ◌++◌, [], if◌then◌else◌, codes, OnOk, OnErr};
 ghost use Rattle.chor_base.specs.Expr.{term_of};
 ghost use Rattle.chor_lexer.specs.Mark.{spelling};
-ghost use Rattle.chor_lexer.specs.Canonical.{unary_mark, binary_mark, strength, strength_of, left_needs, right_needs, operand_text, constant_text, expr_text};
+ghost use Rattle.chor_lexer.specs.Canonical.{unary_mark, binary_mark, strength, left_needs, right_needs, constant_text, expr_text, needed_text};
 
 use crate::mark::Mark;
 use chor_base::{
@@ -25,52 +25,44 @@ pub fn print_expr(
     ensures err { OnErr result (out.new.items ≡ out.old.items) }
 {
     let mut text = Vec::new(alloc);
-    put_expr(&mut text, alloc, expr, names, texts)?;
+    put_operand(&mut text, expr, 0, names, texts)?;
     put_bytes(out, text.as_slice())
 }
 
-// Appends the text of an expression, or some of it where there is no memory.
-fn put_expr(
+// Appends the text of an operand, in parentheses where it binds less than is needed, or some of
+// that where there is no memory.
+fn put_operand(
     text: &mut Vec<u8>,
-    alloc: Global,
-    expr: &Expr,
+    operand: &Expr,
+    needed: u8,
     names: &Names,
     texts: &Texts,
 ) -> Result<(), Memory>
-    ensures { OnOk result (text.new.items ≡ text.old.items ++ expr_text names.now texts.now (term_of expr.now)) }
+    requires { needed ≤ 6 }
+    ensures { OnOk result (text.new.items ≡ text.old.items ++ needed_text names.now texts.now needed (term_of operand.now)) }
 {
-    match expr {
-        Expr::Lit(value) => put_constant(text, alloc, *value, texts),
+    match operand {
+        Expr::Lit(value) => put_constant(text, *value, texts),
         Expr::Var(name) => put_name(text, names, *name),
         Expr::Un(op, operand) => {
-            let weak = strength_of(operand) < 6;
             put_bytes(text, unary_mark(*op).spelling())?;
-            put_if(text, weak, b"(".as_slice())?;
-            put_expr(text, alloc, operand, names, texts)?;
-            put_if(text, weak, b")".as_slice())
+            put_operand(text, operand, 6, names, texts)
         }
         Expr::Bin(op, left, right) => {
-            let weak = strength_of(left) < left_needs(*op);
+            let weak = strength(*op) < needed;
             put_if(text, weak, b"(".as_slice())?;
-            put_expr(text, alloc, left, names, texts)?;
-            put_if(text, weak, b")".as_slice())?;
+            put_operand(text, left, left_needs(*op), names, texts)?;
             put_operator(text, *op)?;
-            let weak = strength_of(right) <= strength(*op);
-            put_if(text, weak, b"(".as_slice())?;
-            put_expr(text, alloc, right, names, texts)?;
+            put_operand(text, right, right_needs(*op), names, texts)?;
             put_if(text, weak, b")".as_slice())
         }
     }
 }
 
-fn put_constant(
-    text: &mut Vec<u8>,
-    alloc: Global,
-    value: Value,
-    texts: &Texts,
-) -> Result<(), Memory>
+fn put_constant(text: &mut Vec<u8>, value: Value, texts: &Texts) -> Result<(), Memory>
     ensures { OnOk result (text.new.items ≡ text.old.items ++ constant_text texts.now value) }
 {
+    let alloc = *text.allocator();
     match value {
         Value::Int(number) => put_int(text, alloc, number),
         Value::Bool(truth) => put_truth(text, truth),
@@ -138,15 +130,6 @@ pub fn strength(op: BinOp) -> u8
     }
 }
 
-fn strength_of(expr: &Expr) -> u8
-    ensures { result ≡ strength_of (term_of expr.now) }
-{
-    match expr {
-        Expr::Bin(op, _, _) => strength(*op),
-        _ => 6,
-    }
-}
-
 // The least strength of a left operand without parentheses: a comparison has no comparison as its
 // operand, and all other operators group to the left.
 fn left_needs(op: BinOp) -> u8
@@ -156,4 +139,11 @@ fn left_needs(op: BinOp) -> u8
         3 => 4,
         own => own,
     }
+}
+
+// The least strength of a right operand without parentheses.
+fn right_needs(op: BinOp) -> u8
+    ensures { result ≡ right_needs op }
+{
+    strength(op) + 1
 }

@@ -1,7 +1,7 @@
 //! Expressions, read from tokens.
 
 ghost use Rattle.std.specs.Prelude.{◌≡◌, ◌+◌, ◌<◌, ◌^◌, length, drop, IfOk, IfErr, MatchOption, slice_get, Some, None};
-ghost use Rattle.chor_base.specs.Expr.{term_of};
+ghost use Rattle.chor_base.specs.Expr.{term_of, Unary, Binary};
 ghost use Rattle.chor_lexer.specs.Turns.{front, tail, operand_of, word_operand, unary_of, binary_of, operator_at, is_open, is_close};
 ghost use Rattle.chor_lexer.specs.Reading.{IsRead, IsRefusal, HasPlace, IsRefusalAt, IsFound, Misses, Reads, StopsAt};
 
@@ -12,7 +12,7 @@ use crate::lex::refused;
 use crate::mark::Mark;
 use crate::token::{Kind, Token, Tokens};
 use chor_base::{BinOp, Denied, Expr, Memory, NameId, Names, Rule, UnOp, Value};
-use std::alloc::{AllocError, AllocFailed, Global};
+use std::alloc::Global;
 
 /// The most tokens that an expression may have.
 const LONGEST: usize = 255;
@@ -24,24 +24,13 @@ pub enum Stop<'a> {
     Wrong(&'a [Token]),
 }
 
-impl From<AllocError> for Stop<'_> {
+impl From<Memory> for Stop<'_> {
     ghost use Rattle.std.specs.Prelude.{◌≡◌};
     ghost use Rattle.chor_lexer.specs.declared.expression.Stop.TheVariants.{Memory};
 
     ghost from_gives = { λ _ e. e ≡ Memory };
 
-    fn from(_error: AllocError) -> Self {
-        Stop::Memory
-    }
-}
-
-impl<T: Drop> From<AllocFailed<T>> for Stop<'_> {
-    ghost use Rattle.std.specs.Prelude.{◌≡◌};
-    ghost use Rattle.chor_lexer.specs.declared.expression.Stop.TheVariants.{Memory};
-
-    ghost from_gives = { λ _ e. e ≡ Memory };
-
-    fn from(_error: AllocFailed<T>) -> Self {
+    fn from(_error: Memory) -> Self {
         Stop::Memory
     }
 }
@@ -117,7 +106,7 @@ fn read_level<'a>(
     let (mut left, mut rest) = read_level(alloc, tokens, names, operand)?;
     while let Some(op) = operator_at(level, front(rest)) {
         let (right, after) = read_level(alloc, rest_of(rest), names, operand)?;
-        left = Expr::Bin(op, Box::new(alloc, left)?, Box::new(alloc, right)?);
+        left = join(alloc, op, left, right)?;
         rest = after;
         if !level.repeats() {
             return Ok((left, rest));
@@ -143,7 +132,7 @@ fn read_unary<'a>(
     }
     if let Some(op) = unary_of(kind) {
         let (operand, after) = read_unary(alloc, rest, names)?;
-        return Ok((Expr::Un(op, Box::new(alloc, operand)?), after));
+        return Ok((apply(alloc, op, operand)?, after));
     }
     if !is_open(kind) {
         return Err(Stop::Wrong(tokens));
@@ -153,6 +142,21 @@ fn read_unary<'a>(
         return Err(Stop::Wrong(after));
     }
     Ok((expr, rest_of(after)))
+}
+
+// An operator with both operands.
+fn join(alloc: Global, op: BinOp, left: Expr, right: Expr) -> Result<Expr, Memory>
+    ensures { IfOk result (λ e. term_of e ≡ Binary op (term_of left) (term_of right)) }
+{
+    let left = Box::new(alloc, left)?;
+    Ok(Expr::Bin(op, left, Box::new(alloc, right)?))
+}
+
+// An operator with its operand.
+fn apply(alloc: Global, op: UnOp, operand: Expr) -> Result<Expr, Memory>
+    ensures { IfOk result (λ e. term_of e ≡ Unary op (term_of operand)) }
+{
+    Ok(Expr::Un(op, Box::new(alloc, operand)?))
 }
 
 // ---- tokens

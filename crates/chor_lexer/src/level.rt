@@ -4,7 +4,7 @@ ghost use Rattle.std.specs.Prelude.{◌≡◌, MatchOption};
 ghost use Rattle.chor_lexer.specs.Turns.{IsOperandOf, strength_at, repeats};
 
 /// What an operand is: an expression whose operators are of this level or stronger.
-#[derive(Clone, Copy, PartialEq, Eq)]
+#[derive(Clone, Copy)]
 pub enum Level {
     /// Operands joined by `||`.
     Or,

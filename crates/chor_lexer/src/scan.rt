@@ -15,7 +15,7 @@ use crate::text::{body_len, wrong_escape};
 use chor_base::Rule;
 
 // What kind of token it is.
-#[derive(Clone, Copy, PartialEq, Eq)]
+#[derive(Clone, Copy)]
 pub enum Form {
     Word,
     Number(i64),
@@ -24,14 +24,14 @@ pub enum Form {
 }
 
 // White space or a comment of so many bytes, or a token.
-#[derive(Clone, Copy, PartialEq, Eq)]
+#[derive(Clone, Copy)]
 pub enum Piece {
     Blank(usize),
     Token(Form, usize),
 }
 
 // A rule that is violated so many bytes further on.
-#[derive(Clone, Copy, PartialEq, Eq)]
+#[derive(Clone, Copy)]
 pub struct Fault {
     pub rule: Rule,
     pub offset: usize,

@@ -8,7 +8,7 @@ use chor_base::Memory;
 use std::alloc::Global;
 
 // What stands at the front of the rest of a text.
-#[derive(Clone, Copy, PartialEq, Eq)]
+#[derive(Clone, Copy)]
 pub enum Part {
     // The quote that closes the text.
     Quote,

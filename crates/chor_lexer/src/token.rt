@@ -7,7 +7,7 @@ use crate::mark::Mark;
 use chor_base::{List, NameId, Place};
 
 /// What a token is.
-#[derive(Clone, Copy, PartialEq, Eq)]
+#[derive(Clone, Copy)]
 pub enum Kind {
     /// A keyword or a name, by its number.
     Word(NameId),
@@ -22,7 +22,7 @@ pub enum Kind {
 }
 
 /// A token and where it begins.
-#[derive(Clone, Copy, PartialEq, Eq)]
+#[derive(Clone, Copy)]
 pub struct Token {
     pub kind: Kind,
     pub place: Place,

@@ -19,14 +19,14 @@ read_level-returns-in_err-right-clause-err t c =
 
 pub read_level-returns-then-not-repeats-clause-ok : goal.read_level-returns-then-not-repeats-clause-ok
 read_level-returns-then-not-repeats-clause-ok t c =
-    rw (c.in_ok-new.ensures.ok, c.in_ok-new-2.ensures.ok) (reads_once _ _ _ _ _ _ _ _ _ _ c.in-Some.ensures c.loop-op.invariant (c.in-Some-operator_at.ensures ∙ ap (operator_at c.args.level) c.front.ensures) c.rest_of.ensures c.in_ok-right.ensures.ok (sym c.repeats.ensures ∙ c.if-not-repeats.true))
+    rw c.in_ok-left-2.ensures (reads_once _ _ _ _ _ _ _ _ _ _ c.in-Some.ensures c.loop-op.invariant (c.in-Some-operator_at.ensures ∙ ap (operator_at c.args.level) c.front.ensures) c.rest_of.ensures c.in_ok-right.ensures.ok (sym c.repeats.ensures ∙ c.if-not-repeats.true))
 
 pub read_level-loop-op-smaller : goal.read_level-loop-op-smaller
 read_level-loop-op-smaller t c = omega (arith, c.in_ok-right.ensures.ok.shorter, tail_shorter c.loop-op.rest.now, ap length c.rest_of.ensures)
 
 pub read_level-loop-op-preserved : goal.read_level-loop-op-preserved
 read_level-loop-op-preserved t c =
-    rw (c.in_ok-new.ensures.ok, c.in_ok-new-2.ensures.ok) (comes_on _ _ _ _ _ _ _ _ _ _ c.in-Some.ensures c.loop-op.invariant (c.in-Some-operator_at.ensures ∙ ap (operator_at c.args.level) c.front.ensures) c.rest_of.ensures c.in_ok-right.ensures.ok (sym c.repeats.ensures ∙ c.if-not-repeats.false))
+    rw c.in_ok-left-2.ensures (comes_on _ _ _ _ _ _ _ _ _ _ c.in-Some.ensures c.loop-op.invariant (c.in-Some-operator_at.ensures ∙ ap (operator_at c.args.level) c.front.ensures) c.rest_of.ensures c.in_ok-right.ensures.ok (sym c.repeats.ensures ∙ c.if-not-repeats.false))
 
 pub read_level-returns-clause-ok : goal.read_level-returns-clause-ok
 read_level-returns-clause-ok t c = reads_level _ _ _ _ _ c.loop-op.invariant (c.in_default-operator_at.ensures ∙ ap (operator_at c.args.level) c.front.ensures)
@@ -41,7 +41,7 @@ read_unary-returns-in_err-operand-clause-err t c =
 
 pub read_unary-returns-in-Some-unary_of-clause-ok : goal.read_unary-returns-in-Some-unary_of-clause-ok
 read_unary-returns-in-Some-unary_of-clause-ok t c =
-    rw c.in_ok-new.ensures.ok (reads_unary _ _ _ _ _ _ (sym (ap (operand_of c.args.names.now) c.front-kind.ensures) ∙ c.in_default.ensures) (c.in-Some-unary_of.ensures ∙ ap unary_of c.front-kind.ensures) c.rest_of-rest.ensures c.in_ok-operand.ensures.ok)
+    rw c.in_ok-apply.ensures (reads_unary _ _ _ _ _ _ (sym (ap (operand_of c.args.names.now) c.front-kind.ensures) ∙ c.in_default.ensures) (c.in-Some-unary_of.ensures ∙ ap unary_of c.front-kind.ensures) c.rest_of-rest.ensures c.in_ok-operand.ensures.ok)
 
 pub read_unary-returns-then-not-is_open-clause-err : goal.read_unary-returns-then-not-is_open-clause-err
 read_unary-returns-then-not-is_open-clause-err t c =

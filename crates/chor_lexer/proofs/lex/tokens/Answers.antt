@@ -2,6 +2,7 @@ use Rattle.std.proofs.Common.{◌∙◌, sym, refl}
 use Rattle.std.proofs.lemmas.Bool.{eqb-true}
 use Rattle.chor_lexer.proofs.Known.{are_known}
 use Rattle.chor_lexer.proofs.Progress.{progress_none, progress_blank, progress_token, progress_fault, progress_end, progress_ended, denied_malformed, names_on, texts_on}
+use Rattle.chor_lexer.proofs.Spelled.{grows_none}
 use Rattle.chor_lexer.proofs.lex.tokens.Goals as goal
 
 pub returns-in-Err-clause-denied : goal.returns-in-Err-clause-denied
@@ -50,3 +51,27 @@ returns-clause-found c = progress_end _ _ _ _ _ _ _ _ _ c.loop-rest.invariant c.
 
 pub returns-clause-known : goal.returns-clause-known
 returns-clause-known c = are_known _ _ _ _ _ _ (progress_end _ _ _ _ _ _ _ _ _ c.loop-rest.invariant c.in_default.ensures.cases.1 (eqb-true _ _ (sym c.loop-rest-test.ensures)) c.in_ok-push.ensures.ok)
+
+pub returns-in-Err-clause-names : goal.returns-in-Err-clause-names
+returns-in-Err-clause-names c = grows_none _ _ _ refl
+
+pub returns-in-Err-piece_at-clause-names : goal.returns-in-Err-piece_at-clause-names
+returns-in-Err-piece_at-clause-names c = c.loop-rest.invariant.names_grow
+
+pub returns-in_err-push-clause-names : goal.returns-in_err-push-clause-names
+returns-in_err-push-clause-names c = c.loop-rest.invariant.names_grow
+
+pub returns-clause-names : goal.returns-clause-names
+returns-clause-names c = c.loop-rest.invariant.names_grow
+
+pub returns-in-Err-clause-texts : goal.returns-in-Err-clause-texts
+returns-in-Err-clause-texts c = grows_none _ _ _ refl
+
+pub returns-in-Err-piece_at-clause-texts : goal.returns-in-Err-piece_at-clause-texts
+returns-in-Err-piece_at-clause-texts c = c.loop-rest.invariant.texts_grow
+
+pub returns-in_err-push-clause-texts : goal.returns-in_err-push-clause-texts
+returns-in_err-push-clause-texts c = c.loop-rest.invariant.texts_grow
+
+pub returns-clause-texts : goal.returns-clause-texts
+returns-clause-texts c = c.loop-rest.invariant.texts_grow
