@@ -2,11 +2,11 @@
 use Rattle.std.proofs.Common.{◌≡◌, ◌-◌, inl, inr, ℕ, List, [], ◌∷◌, ◌++◌, length, ap, sym, ◌∙◌, subst, arith, codes, append_assoc, length-append}
 use Rattle.std.proofs.Common.{Result, IfOk, IfErr, drop}
 use Rattle.std.proofs.lemmas.List.{append-nil}
-use Rattle.std.proofs.lemmas.Result.{IfOk-weaker, MatchResult-weaker}
+use Rattle.std.proofs.lemmas.Result.{IfOk-weaker, IfErr-weaker}
 use Rattle.chor_base.specs.declared.value.Sort.{Sort}
 use Rattle.chor_base.specs.declared.rule.Rule.TheVariants.{P1, P3}
 use Rattle.chor_base.specs.declared.rule.Denied.{Denied}
-use Rattle.chor_lexer.specs.declared.mark.Mark.TheVariants.{OpenBrace, OpenParen, CloseParen, Semicolon, Colon, Arrow, Bar}
+use Rattle.chor_lexer.specs.declared.mark.Mark.TheVariants.{OpenBrace, OpenParen, CloseParen, Comma, Semicolon, Colon, Arrow, Bar}
 use Rattle.chor_lexer.specs.declared.token.Token.{Token}
 use Rattle.chor_tree.specs.declared.file.Named.{Named}
 use Rattle.chor_tree.specs.declared.protocol.State.{State}
@@ -123,6 +123,9 @@ served_leads n b = leads_on (same_leads (served_alike n)) (leads_on (option_lead
 pub none_served_read : {names : List (List ℕ)} {ts : List Token} (n : ℕ) → ((t : List Token) → MarkIs Bar ts t → ⊥) → Reads (ServedPart n) OrBar names ts [] ts
 none_served_read n h = same_reads (served_alike n) (without_reads (then_begins (mark_begins Bar)) (mark_stable Bar) (λ k. no_mark_head h k))
 
+pub not_comma_close_paren : CloseParen ≡ Comma → ⊥
+not_comma_close_paren e = absurd cc
+
 pub paren_leads : {names : List (List ℕ)} {ts rest : List Token} → MarkIs OpenParen ts rest → Leads VariablesPart AParen names ts (Then VarsPart (MarkPart CloseParen)) Nothing rest (λ v. v.0)
 paren_leads o = leads_on (same_leads variables_alike) (leads_on (option_leads paren_begins (mark_stable OpenParen) (nothing_among AParen) (λ names t h. h) (mark_head o)) (after_mark o))
 
@@ -180,6 +183,11 @@ pub hands_on : {A B : Type 0} {R : Part A} {S : Part B} {C D : Further} {names :
 hands_on {R = R} {S = S} {C = C} {D = D} {names = names} {ts = ts} {mid = mid} {f = f} r tokens l h =
     IfOk-weaker r (λ x. Reads S D names mid x.0 (drop x.1 tokens)) (λ x. Reads R C names ts (f x.0) (drop x.1 tokens)) (λ x k. l.reads x.0 (drop x.1 tokens) k) h
 
-pub hands_back : {A B : Type 0} {R : Part A} {S : Part B} {C D : Further} {names : List (List ℕ)} {ts mid : List Token} {f : B → A} (r : Result (B × ℕ) Denied) → Leads R C names ts S D mid f → IfErr r (λ d. Halts S D names mid d) → IfErr r (λ d. Halts R C names ts d)
+-- the same where the value that is answered stands for that of the part
+pub hands_by : {A B X : Type 0} {R : Part A} {S : Part B} {C D : Further} {names : List (List ℕ)} {ts mid : List Token} {f : B → A} (value : X → B) (r : Result (X × ℕ) Denied) (tokens : List Token) → Leads R C names ts S D mid f → IfOk r (λ x. Reads S D names mid (value x.0) (drop x.1 tokens)) → IfOk r (λ x. Reads R C names ts (f (value x.0)) (drop x.1 tokens))
+hands_by {R = R} {S = S} {C = C} {D = D} {names = names} {ts = ts} {mid = mid} {f = f} value r tokens l h =
+    IfOk-weaker r (λ x. Reads S D names mid (value x.0) (drop x.1 tokens)) (λ x. Reads R C names ts (f (value x.0)) (drop x.1 tokens)) (λ x k. l.reads (value x.0) (drop x.1 tokens) k) h
+
+pub hands_back : {A B X : Type 0} {R : Part A} {S : Part B} {C D : Further} {names : List (List ℕ)} {ts mid : List Token} {f : B → A} (r : Result X Denied) → Leads R C names ts S D mid f → IfErr r (λ d. Halts S D names mid d) → IfErr r (λ d. Halts R C names ts d)
 hands_back {R = R} {S = S} {C = C} {D = D} {names = names} {ts = ts} {mid = mid} r l h =
-    MatchResult-weaker r {P = λ x. Unit {0}} {P' = λ x. Unit {0}} {Q = λ d. Halts S D names mid d} {Q' = λ d. Halts R C names ts d} h (λ x t. t) (λ d k. l.halts d k)
+    IfErr-weaker r (λ d. Halts S D names mid d) (λ d. Halts R C names ts d) (λ d k. l.halts d k) h

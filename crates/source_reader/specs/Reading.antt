@@ -1,21 +1,24 @@
 -- What the readers answer, in the words of the grammar.
 use Rattle.std.specs.Prelude.{◌≡◌, ℕ, List, [], ◌∷◌, drop}
-use Rattle.chor_base.specs.Expr.{term_of}
-use Rattle.chor_lexer.specs.declared.mark.Mark.TheVariants.{Colon, Arrow}
+use Rattle.chor_base.specs.Expr.{Term, term_of}
+use Rattle.chor_lexer.specs.declared.mark.Mark.TheVariants.{Colon, Arrow, Dot}
 use Rattle.chor_lexer.specs.declared.token.Kind.TheVariants as kind
 use Rattle.chor_lexer.specs.declared.token.Token.{Token}
 use Rattle.chor_tree.specs.declared.file.Named.{Named}
 use Rattle.chor_tree.specs.declared.tree.NodeId.{NodeId}
+use Rattle.chor_tree.specs.declared.tree.Part.{Part as Role}
 use Rattle.chor_tree.specs.declared.tree.Form.{Form}
 use Rattle.chor_tree.specs.declared.tree.Form.TheVariants as form
 use Rattle.chor_base.specs.declared.rule.Denied.{Denied}
-use Rattle.token_grammar.specs.Symbols.{Part, Further, Nothing, Reads, Halts, Leads}
+use Rattle.token_grammar.specs.Symbols.{Part, Further, Nothing, Reads, Halts, Leads, As}
+use Rattle.token_grammar.specs.Values.{After}
 use Rattle.source_reader.specs.declared.input.Input.{Input}
 use Rattle.source_reader.specs.declared.block.Line.{Line}
 use Rattle.source_reader.specs.declared.statement.Statement.{Statement as Read}
 use Rattle.source_reader.specs.declared.statement.Statement.TheVariants as read
 use Rattle.chor_tree.specs.Source.{Statement, Starts, Sends, Selects, Gives, Sets, Asks, Shows, Block, Then}
 use Rattle.source_grammar.specs.Grammar.{MarkIs, WordIs, NameIs}
+use Rattle.source_grammar.specs.Parts.{MarkPart, NamePart, PartPart}
 
 -- the words by their numbers
 abbrev pub names_of : Input → List (List ℕ)
@@ -43,6 +46,10 @@ abbrev pub AfterColon : List (List ℕ) → Named → Named → List Token → (
 AfterColon names a b ts P =
     (t0 t1 t2 t3 : List Token)
     → NameIs names t0 a t1 → MarkIs Arrow t1 t2 → NameIs names t2 b t3 → MarkIs Colon t3 ts → P t0
+
+-- after role "." expr
+abbrev pub ReceiverTail : Role → Term → Part Statement
+ReceiverTail a e = After (MarkPart Arrow) (λ u. After PartPart (λ b. After (MarkPart Dot) (λ v. After NamePart (λ x. After (MarkPart Colon) (λ w. As NamePart (λ k. Sends a e b x.name k))))))
 
 -- ---- by places
 

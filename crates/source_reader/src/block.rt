@@ -185,8 +185,7 @@ fn read_tail(
     }
     if let Some(after) = input.after_word(at, b"call") {
         room_for_statement(input, at, room.statements)?;
-        let (call, at) = read_call(alloc, input, after, tree, place)?;
-        return Ok((call, at));
+        return read_call(alloc, input, after, tree, place);
     }
     let Some(after) = input.after_word(at, b"if") else {
         return Err(input.refused(Rule::P1, at));
@@ -196,8 +195,7 @@ fn read_tail(
         blocks: room.blocks,
         statements: room.statements - 1,
     };
-    let (branch, at) = read_if(alloc, input, after, tree, left, place)?;
-    Ok((branch, at))
+    read_if(alloc, input, after, tree, left, place)
 }
 
 // "call" NAME "(" [ names [ ";" names ] ] ")", after its keyword

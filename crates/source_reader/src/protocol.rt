@@ -79,8 +79,7 @@ fn read_step(alloc: Global, input: &Input, at: usize) -> Result<(ProtoStep, usiz
     let at = input.take_mark(at, Mark::Arrow)?;
     let (to, at) = input.take_name(at)?;
     if let Some(at) = input.after_mark(at, Mark::Colon) {
-        let (value, at) = read_value_step(from, to, input, at)?;
-        return Ok((value, at));
+        return read_value_step(from, to, input, at);
     }
     let at = input.take_mark(at, Mark::OpenBrace)?;
     let (arms, at) = read_arms(alloc, input, at)?;

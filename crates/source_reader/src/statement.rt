@@ -3,8 +3,11 @@
 ghost use Rattle.std.specs.Prelude.{◌≡◌, IfOk, IfErr};
 ghost use Rattle.token_grammar.specs.Symbols.{Nothing, Halts};
 ghost use Rattle.token_grammar.specs.Expressions.{Operator};
-ghost use Rattle.source_grammar.specs.Statements.{NewRolesPart, RoleMore, StatementPart, StatementMore, StartTail, SendingTail, ValueTail, LabelTail, GiveTail, SettingTail, HostTail};
-ghost use Rattle.source_reader.specs.Reading.{names_of, tokens_from, form_of, statement_of, ReadsTo};
+ghost use Rattle.source_grammar.specs.Statements.{NewRolesPart, RoleMore, StatementPart, StatementMore, StartTail, SendingTail, PathTail, ValueTail, LabelTail, GiveTail, SettingTail, HostTail};
+ghost use Rattle.chor_base.specs.Expr.{Term};
+ghost use Rattle.chor_tree.specs.Source.{Sends};
+ghost use Rattle.chor_tree.specs.declared.tree.Part.{Part as Role};
+ghost use Rattle.source_reader.specs.Reading.{names_of, tokens_from, form_of, statement_of, ReadsTo, ReceiverTail};
 
 use crate::expression::read_expression;
 use crate::input::Input;
@@ -149,17 +152,14 @@ pub fn read_statement(alloc: Global, input: &Input, at: usize) -> Result<(Statem
     ensures halts { IfErr result (Halts StatementPart StatementMore (names_of input.now) (tokens_from input.now at)) }
 {
     if let Some(at) = input.after_word(at, b"start") {
-        let (start, at) = read_start(alloc, input, at)?;
-        return Ok((start, at));
+        return read_start(alloc, input, at);
     }
     let (process, at) = input.take_name(at)?;
     if let Some(at) = input.after_mark(at, Mark::OpenBracket) {
-        let (sending, at) = read_sending(alloc, process, input, at)?;
-        return Ok((sending, at));
+        return read_sending(alloc, process, input, at);
     }
     if let Some(at) = input.after_mark(at, Mark::Dot) {
-        let (setting, at) = read_setting(alloc, process, input, at)?;
-        return Ok((setting, at));
+        return read_setting(alloc, process, input, at);
     }
     let at = input.take_word(at, b"show")?;
     let (expr, at) = read_expression(alloc, input, at)?;
@@ -212,19 +212,24 @@ fn read_sending(
     let at = input.take_mark(at, Mark::CloseBracket)?;
     let from = Part { process, role };
     if let Some(at) = input.after_mark(at, Mark::Dot) {
-        let (value, at) = read_value(alloc, from, input, at)?;
-        return Ok((value, at));
+        return read_value(alloc, from, input, at);
     }
     let at = input.take_mark(at, Mark::Arrow)?;
+    read_path(from, input, at)
+}
+
+// A label or an endpoint that is sent, after the arrow.
+fn read_path(from: Part, input: &Input, at: usize) -> Result<(Statement, usize), Denied>
+    ensures reads { IfOk result (λ x. ReadsTo (PathTail from) Nothing input.now at (statement_of x.0) x.1) }
+    ensures halts { IfErr result (Halts (PathTail from) Nothing (names_of input.now) (tokens_from input.now at)) }
+{
     let (to, at) = read_part(input, at)?;
     let at = input.take_mark(at, Mark::Colon)?;
     let (session, at) = input.take_name(at)?;
     if let Some(at) = input.after_mark(at, Mark::Dot) {
-        let (label, at) = read_label(from, to, session, input, at)?;
-        return Ok((label, at));
+        return read_label(from, to, session, input, at);
     }
-    let (give, at) = read_give(from, to, session, input, at)?;
-    Ok((give, at))
+    read_give(from, to, session, input, at)
 }
 
 // part "." expr "->" part "." NAME ":" NAME, after the first dot
@@ -238,20 +243,42 @@ fn read_value(
     ensures halts { IfErr result (Halts (ValueTail from) Nothing (names_of input.now) (tokens_from input.now at)) }
 {
     let (expr, at) = read_expression(alloc, input, at)?;
+    let (receiver, at) = read_receiver(input, at)?;
+    let value = Statement::Value {
+        from,
+        expr,
+        to: receiver.part,
+        var: receiver.var,
+        session: receiver.session,
+    };
+    Ok((value, at))
+}
+
+// Who gets a value, in which variable and over which session.
+#[derive(Clone, Copy)]
+struct Receiver {
+    part: Part,
+    var: NameId,
+    session: Named,
+}
+
+// "->" part "." NAME ":" NAME, whatever value comes before it and whoever sends it
+fn read_receiver(input: &Input, at: usize) -> Result<(Receiver, usize), Denied>
+    ensures reads { IfOk result (λ x. (a : Role) (e : Term) → ReadsTo (ReceiverTail a e) Nothing input.now at (Sends a e x.0.part x.0.var x.0.session) x.1) }
+    ensures halts { IfErr result (λ d. (a : Role) (e : Term) → Halts (ReceiverTail a e) Nothing (names_of input.now) (tokens_from input.now at) d) }
+{
     let at = input.take_mark(at, Mark::Arrow)?;
-    let (to, at) = read_part(input, at)?;
+    let (part, at) = read_part(input, at)?;
     let at = input.take_mark(at, Mark::Dot)?;
     let (var, at) = input.take_name(at)?;
     let at = input.take_mark(at, Mark::Colon)?;
     let (session, at) = input.take_name(at)?;
-    let value = Statement::Value {
-        from,
-        expr,
-        to,
+    let receiver = Receiver {
+        part,
         var: var.name,
         session,
     };
-    Ok((value, at))
+    Ok((receiver, at))
 }
 
 // part "->" part ":" NAME "." NAME, after the dot
@@ -311,8 +338,7 @@ fn read_setting(
     let (var, at) = input.take_name(at)?;
     let at = input.take_mark(at, Mark::Becomes)?;
     if let Some(at) = input.after_word(at, b"host") {
-        let (host, at) = read_host(alloc, process, var, input, at)?;
-        return Ok((host, at));
+        return read_host(alloc, process, var, input, at);
     }
     let (expr, at) = read_expression(alloc, input, at)?;
     let set = Statement::Set {

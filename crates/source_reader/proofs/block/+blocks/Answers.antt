@@ -12,6 +12,9 @@ use Rattle.source_grammar.proofs.Statements.{passes, no_memory, mark_then, word_
 use Rattle.source_grammar.proofs.Nested.{block_part, brace_apart, into_block, lines_halt, past_lines, no_statement_comes, no_tail, end_first, call_first, if_first, too_long_path, reads_end, to_call, to_if, past_branch}
 use Rattle.source_reader.proofs.Blocks.{end_block, conditional_block, said_block}
 use Rattle.source_grammar.proofs.Growth.{adds_none, adds_on, adds_node}
+use Rattle.chor_tree.specs.declared.tree.NodeId.{NodeId}
+use Rattle.chor_tree.specs.Source.{block_in, blocks_of}
+use Rattle.source_reader.proofs.Readers.{hands_by, hands_back}
 use Rattle.source_reader.proofs.block.+blocks.Goals as goal
 
 pub read_block-returns-in_err-at-clause-halts : goal.read_block-returns-in_err-at-clause-halts
@@ -53,23 +56,11 @@ read_tail-returns-in-Some-clause-grows t c = grows_by _ _ _ c.in_ok-end.ensures.
 pub read_tail-returns-in_err-room_for_statement-2-clause-halts : goal.read_tail-returns-in_err-room_for_statement-2-clause-halts
 read_tail-returns-in_err-room_for_statement-2-clause-halts t c = passes _ _ c.from_residual-in_err-room_for_statement-2.ensures.1 (too_long_path _ _ c.in_err-room_for_statement-2.ensures.full.0 (call_first c.in-Some-after_word.ensures.found) c.in_err-room_for_statement-2.ensures.full.1)
 
-pub read_tail-returns-in_err-call-clause-halts : goal.read_tail-returns-in_err-call-clause-halts
-read_tail-returns-in_err-call-clause-halts t c = passes _ _ c.from_residual-in_err-call.ensures.1 (past (to_call _ _ c.in_ok-room_for_statement-2.ensures.room (stands_by_word c.in-Some-after_word.ensures.found c.place_of-place.ensures) c.in_default.ensures.none c.in-Some-after_word.ensures.found) c.in_err-call.ensures.halts)
-
-pub read_tail-returns-in-Some-after_word-clause-reads : goal.read_tail-returns-in-Some-after_word-clause-reads
-read_tail-returns-in-Some-after_word-clause-reads t c = reads_past (to_call _ _ c.in_ok-room_for_statement-2.ensures.room (stands_by_word c.in-Some-after_word.ensures.found c.place_of-place.ensures) c.in_default.ensures.none c.in-Some-after_word.ensures.found) c.in_ok-call.ensures.reads
-
 pub read_tail-returns-in_default-after_word-2-clause-halts : goal.read_tail-returns-in_default-after_word-2-clause-halts
 read_tail-returns-in_default-after_word-2-clause-halts t c = no_tail _ _ c.in_default.ensures.none c.in_default-after_word.ensures.none c.in_default-after_word-2.ensures.none c.refused.ensures
 
 pub read_tail-returns-in_err-room_for_statement-3-clause-halts : goal.read_tail-returns-in_err-room_for_statement-3-clause-halts
 read_tail-returns-in_err-room_for_statement-3-clause-halts t c = passes _ _ c.from_residual-in_err-room_for_statement-3.ensures.1 (too_long_path _ _ c.in_err-room_for_statement-3.ensures.full.0 (if_first c.in-Some-after_word-2.ensures.found) c.in_err-room_for_statement-3.ensures.full.1)
-
-pub read_tail-returns-in_err-branch-clause-halts : goal.read_tail-returns-in_err-branch-clause-halts
-read_tail-returns-in_err-branch-clause-halts t c = passes _ _ c.from_residual-in_err-branch.ensures.1 (past (to_if _ _ c.in_ok-room_for_statement-3.ensures.room (stands_by_word c.in-Some-after_word-2.ensures.found c.place_of-place.ensures) c.in_default.ensures.none c.in_default-after_word.ensures.none c.in-Some-after_word-2.ensures.found) c.in_err-branch.ensures.halts)
-
-pub read_tail-returns-clause-reads : goal.read_tail-returns-clause-reads
-read_tail-returns-clause-reads t c = reads_past (to_if _ _ c.in_ok-room_for_statement-3.ensures.room (stands_by_word c.in-Some-after_word-2.ensures.found c.place_of-place.ensures) c.in_default.ensures.none c.in_default-after_word.ensures.none c.in-Some-after_word-2.ensures.found) c.in_ok-branch.ensures.reads
 
 pub read_if-returns-in_err-process-clause-halts : goal.read_if-returns-in_err-process-clause-halts
 read_if-returns-in_err-process-clause-halts t c = passes _ _ c.from_residual.ensures.1 (at_one (λ q. mark_then Dot (λ u. after_part expr_part (λ e. after_part (block_part _ _) (λ a. word_then else_keyword (λ v. as_part (block_part _ _))) (λ a. nothing_apart)) (λ e. brace_apart))) c.in_err-process.ensures.halts)
@@ -113,11 +104,23 @@ read_block-returns-clause-adds t c = c.in_ok-first.ensures.adds _ c.in_ok-tail.e
 pub read_tail-returns-in-Some-clause-adds : goal.read_tail-returns-in-Some-clause-adds
 read_tail-returns-in-Some-clause-adds t c = adds_node _ (adds_none _) c.in_ok-end.ensures.ok.1 c.in_ok-end.ensures.ok.0
 
-pub read_tail-returns-in-Some-after_word-clause-adds : goal.read_tail-returns-in-Some-after_word-clause-adds
-read_tail-returns-in-Some-after_word-clause-adds t c = c.in_ok-call.ensures.adds
-
-pub read_tail-returns-clause-adds : goal.read_tail-returns-clause-adds
-read_tail-returns-clause-adds t c = c.in_ok-branch.ensures.adds
-
 pub read_if-returns-clause-adds : goal.read_if-returns-clause-adds
 read_if-returns-clause-adds t c = adds_node _ (adds_on c.in_ok-first.ensures.adds c.in_ok-second.ensures.adds) c.in_ok-branch.ensures.ok.1 c.in_ok-branch.ensures.ok.0
+
+pub read_tail-returns-in-Some-after_word-clause-reads : goal.read_tail-returns-in-Some-after_word-clause-reads
+read_tail-returns-in-Some-after_word-clause-reads t c = hands_by (λ (id : NodeId). block_in (blocks_of c.read_call.new.tree.nodes) id) c.read_call.result c.args.input.now.tokens.now.items (to_call _ _ c.in_ok-room_for_statement-2.ensures.room (stands_by_word c.in-Some-after_word.ensures.found c.place_of-place.ensures) c.in_default.ensures.none c.in-Some-after_word.ensures.found) c.read_call.ensures.reads
+
+pub read_tail-returns-in-Some-after_word-clause-halts : goal.read_tail-returns-in-Some-after_word-clause-halts
+read_tail-returns-in-Some-after_word-clause-halts t c = hands_back c.read_call.result (to_call _ _ c.in_ok-room_for_statement-2.ensures.room (stands_by_word c.in-Some-after_word.ensures.found c.place_of-place.ensures) c.in_default.ensures.none c.in-Some-after_word.ensures.found) c.read_call.ensures.halts
+
+pub read_tail-returns-clause-reads : goal.read_tail-returns-clause-reads
+read_tail-returns-clause-reads t c = hands_by (λ (id : NodeId). block_in (blocks_of c.read_if.new.tree.nodes) id) c.read_if.result c.args.input.now.tokens.now.items (to_if _ _ c.in_ok-room_for_statement-3.ensures.room (stands_by_word c.in-Some-after_word-2.ensures.found c.place_of-place.ensures) c.in_default.ensures.none c.in_default-after_word.ensures.none c.in-Some-after_word-2.ensures.found) c.read_if.ensures.reads
+
+pub read_tail-returns-clause-halts : goal.read_tail-returns-clause-halts
+read_tail-returns-clause-halts t c = hands_back c.read_if.result (to_if _ _ c.in_ok-room_for_statement-3.ensures.room (stands_by_word c.in-Some-after_word-2.ensures.found c.place_of-place.ensures) c.in_default.ensures.none c.in_default-after_word.ensures.none c.in-Some-after_word-2.ensures.found) c.read_if.ensures.halts
+
+pub read_block-read_tail-requires : goal.read_block-read_tail-requires
+read_block-read_tail-requires t c = omega (arith, c.decreases, mark_shorter c.in_ok-at.ensures.after, c.in_ok-lines.ensures.shorter)
+
+pub read_tail-read_if-requires : goal.read_tail-read_if-requires
+read_tail-read_if-requires t c = omega (arith, c.decreases, word_shorter c.in-Some-after_word-2.ensures.found)

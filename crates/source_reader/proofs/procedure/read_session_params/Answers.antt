@@ -1,3 +1,4 @@
+use Rattle.std.proofs.Math.Nat.{suc-ne-zero}
 use Rattle.std.proofs.lemmas.Result.{err_from_is_err_and}
 use Rattle.std.proofs.Common.{arith}
 use Rattle.source_grammar.proofs.ItemLists.{all_of, roomy_items, first_item_halts, first_comes, more_come, item_halts, list_reads}
@@ -9,10 +10,10 @@ use Rattle.source_reader.proofs.procedure.read_session_params.Goals as goal
 pub returns-in_err-first-clause-halts : goal.returns-in_err-first-clause-halts
 returns-in_err-first-clause-halts c =
     let p = err_from_is_err_and c.from_residual.result c.from_residual.ensures.1 in
-    rw (p.1, p.2) (first_item_halts 8 all_of (roomy_items session_param_item) session_params_alike (item_halts_in session_param_item (room_above 8 (λ e. absurd cc)) (free_halts c.in_err-first.ensures.halts)))
+    rw (p.1, p.2) (first_item_halts 8 all_of (roomy_items session_param_item) session_params_alike (item_halts_in session_param_item (room_above 8 (suc-ne-zero 7)) (free_halts c.in_err-first.ensures.halts)))
 
 pub loop-after-init : goal.loop-after-init
-loop-after-init c = first_comes 8 _ _ (roomy_items session_param_item) session_params_alike (item_read session_param_item (room_above 8 (λ e. absurd cc)) (free_read c.in_ok-first.ensures.reads)) c.new-sessions.ensures c.in_ok-push.ensures.ok
+loop-after-init c = first_comes 8 _ _ (roomy_items session_param_item) session_params_alike (item_read session_param_item (room_above 8 (suc-ne-zero 7)) (free_read c.in_ok-first.ensures.reads)) c.new-sessions.ensures c.in_ok-push.ensures.ok
 
 pub returns-in_err-room_for_name-clause-halts : goal.returns-in_err-room_for_name-clause-halts
 returns-in_err-room_for_name-clause-halts c =

@@ -1,3 +1,4 @@
+use Rattle.std.proofs.Math.Nat.{suc-ne-zero}
 use Rattle.std.proofs.lemmas.Result.{err_from_is_err_and}
 use Rattle.std.proofs.Common.{arith}
 use Rattle.source_grammar.proofs.ItemLists.{all_of, roomy_items, first_item_halts, first_comes, more_come, item_halts, list_reads}
@@ -9,10 +10,10 @@ use Rattle.source_reader.proofs.protocol.read_arms.Goals as goal
 pub returns-in_err-first-clause-halts : goal.returns-in_err-first-clause-halts
 returns-in_err-first-clause-halts c =
     let p = err_from_is_err_and c.from_residual.result c.from_residual.ensures.1 in
-    rw (p.1, p.2) (first_item_halts 64 all_of (roomy_items arm_item) (arms_alike 64) (item_halts_in arm_item (room_above 64 (λ e. absurd cc)) (free_halts c.in_err-first.ensures.halts)))
+    rw (p.1, p.2) (first_item_halts 64 all_of (roomy_items arm_item) (arms_alike 64) (item_halts_in arm_item (room_above 64 (suc-ne-zero 63)) (free_halts c.in_err-first.ensures.halts)))
 
 pub loop-after-init : goal.loop-after-init
-loop-after-init c = first_comes 64 _ _ (roomy_items arm_item) (arms_alike 64) (item_read arm_item (room_above 64 (λ e. absurd cc)) (free_read c.in_ok-first.ensures.reads)) c.new-arms.ensures c.in_ok-push.ensures.ok
+loop-after-init c = first_comes 64 _ _ (roomy_items arm_item) (arms_alike 64) (item_read arm_item (room_above 64 (suc-ne-zero 63)) (free_read c.in_ok-first.ensures.reads)) c.new-arms.ensures c.in_ok-push.ensures.ok
 
 pub returns-in_err-room_for_name-clause-halts : goal.returns-in_err-room_for_name-clause-halts
 returns-in_err-room_for_name-clause-halts c =
