@@ -1,4 +1,5 @@
 pub mod Readers
+pub mod Places
 pub mod Coming
 pub mod Lines
 pub mod Blocks
