@@ -19,7 +19,7 @@ pub fn put_body(out: &mut Vec<u8>, alloc: Global, file: &File, body: NodeId) -> 
     ensures { OnOk result (out.new.items ≡ out.old.items ++ body_text (block_lines file.now body)) }
 {
     put_any_block(out, alloc, file, body)?;
-    put_line(out, 0, b"}".as_slice())
+    put_line(out, 0, b"}")
 }
 
 fn put_any_block(out: &mut Vec<u8>, alloc: Global, file: &File, body: NodeId) -> Result<(), Memory>
@@ -28,7 +28,7 @@ fn put_any_block(out: &mut Vec<u8>, alloc: Global, file: &File, body: NodeId) ->
     if (body.0 as usize) < file.tree.nodes.len() {
         put_block(out, alloc, file, 1, body)
     } else {
-        put_line(out, 1, b"end".as_slice())
+        put_line(out, 1, b"end")
     }
 }
 
@@ -54,9 +54,9 @@ fn put_block(
         } => {
             put_if_line(out, alloc, file, depth, *process, expr)?;
             put_block(out, alloc, file, depth + 1, *first)?;
-            put_line(out, depth, b"} else {".as_slice())?;
+            put_line(out, depth, b"} else {")?;
             put_block(out, alloc, file, depth + 1, *second)?;
-            put_line(out, depth, b"}".as_slice())
+            put_line(out, depth, b"}")
         }
         Form::Call {
             name,
@@ -65,9 +65,9 @@ fn put_block(
         } => {
             put_indentation(out, depth)?;
             put_call(out, file, *name, processes, sessions)?;
-            put_bytes(out, b"\n".as_slice())
+            put_bytes(out, b"\n")
         }
-        _ => put_line(out, depth, b"end".as_slice()),
+        _ => put_line(out, depth, b"end"),
     }
 }
 
@@ -88,7 +88,7 @@ fn put_statements<'a>(
     while let Some(next) = next_of(form) {
         put_indentation(out, depth)?;
         put_statement(out, alloc, file, form)?;
-        put_bytes(out, b";\n".as_slice())?;
+        put_bytes(out, b";\n")?;
         form = form_at(file, next);
     }
     Ok(form)
@@ -106,7 +106,7 @@ fn put_if_line(
 {
     put_indentation(out, depth)?;
     put_if(out, alloc, file, process, expr)?;
-    put_bytes(out, b"\n".as_slice())
+    put_bytes(out, b"\n")
 }
 
 // The form of a node: the lines there are made of those of the nodes that follow it.
@@ -124,7 +124,7 @@ fn put_line(out: &mut Vec<u8>, depth: u64, line: &[u8]) -> Result<(), Memory>
 {
     put_indentation(out, depth)?;
     put_bytes(out, line)?;
-    put_bytes(out, b"\n".as_slice())
+    put_bytes(out, b"\n")
 }
 
 // Appends two spaces for each brace.
@@ -132,7 +132,7 @@ fn put_indentation(out: &mut Vec<u8>, depth: u64) -> Result<(), Memory>
     ensures { OnOk result (out.new.items ≡ out.old.items ++ indentation depth) }
 {
     for _ in 0..depth {
-        put_bytes(out, b"  ".as_slice())?;
+        put_bytes(out, b"  ")?;
     }
     Ok(())
 }

@@ -31,9 +31,8 @@ impl Piece for Part {
 
     fn put(&self, out: &mut Vec<u8>, names: &Names) -> Result<(), Memory> {
         self.process.put(out, names)?;
-        put_bytes(out, b"[".as_slice())?;
-        self.role.put(out, names)?;
-        put_bytes(out, b"]".as_slice())
+        put_after(out, names, b"[", &self.role)?;
+        put_bytes(out, b"]")
     }
 }
 
@@ -42,8 +41,7 @@ impl Piece for ProtoArm {
 
     fn put(&self, out: &mut Vec<u8>, names: &Names) -> Result<(), Memory> {
         self.label.put(out, names)?;
-        put_bytes(out, b" then ".as_slice())?;
-        self.next.put(out, names)
+        put_after(out, names, b" then ", &self.next)
     }
 }
 
@@ -59,10 +57,8 @@ impl Piece for Payload {
                 role,
             } => {
                 protocol.put(out, names)?;
-                put_bytes(out, b".".as_slice())?;
-                state.put(out, names)?;
-                put_bytes(out, b"@".as_slice())?;
-                role.put(out, names)
+                put_after(out, names, b".", state)?;
+                put_after(out, names, b"@", role)
             }
         }
     }
@@ -74,7 +70,7 @@ impl Piece for (Named, Sort) {
     fn put(&self, out: &mut Vec<u8>, names: &Names) -> Result<(), Memory> {
         let (name, sort) = self;
         name.put(out, names)?;
-        put_bytes(out, b" : ".as_slice())?;
+        put_bytes(out, b" : ")?;
         put_bytes(out, sort_text(*sort))
     }
 }
@@ -85,8 +81,7 @@ impl Piece for (Named, Named) {
     fn put(&self, out: &mut Vec<u8>, names: &Names) -> Result<(), Memory> {
         let (role, holder) = self;
         role.put(out, names)?;
-        put_bytes(out, b" = ".as_slice())?;
-        holder.put(out, names)
+        put_after(out, names, b" = ", holder)
     }
 }
 
@@ -104,12 +99,23 @@ impl Piece for SessionParam {
 
     fn put(&self, out: &mut Vec<u8>, names: &Names) -> Result<(), Memory> {
         self.name.put(out, names)?;
-        put_bytes(out, b" : ".as_slice())?;
-        self.protocol.put(out, names)?;
-        put_bytes(out, b".".as_slice())?;
-        self.state.put(out, names)?;
+        put_after(out, names, b" : ", &self.protocol)?;
+        put_after(out, names, b".", &self.state)?;
         put_holders(out, names, self.holders.as_slice())
     }
+}
+
+/// Appends a word and a piece.
+pub fn put_after<T: Piece>(
+    out: &mut Vec<u8>,
+    names: &Names,
+    word: &[u8],
+    piece: &T,
+) -> Result<(), Memory>
+    ensures { OnOk result (out.new.items ≡ out.old.items ++ (word.now ++ T.text names.now piece.now)) }
+{
+    put_bytes(out, word)?;
+    piece.put(out, names)
 }
 
 /// Appends items with commas between them.
@@ -146,7 +152,7 @@ fn put_after_commas<T: Piece>(out: &mut Vec<u8>, names: &Names, items: &[T]) -> 
     ensures { OnOk result (out.new.items ≡ out.old.items ++ after_commas (T.text names.now) items.now) }
 {
     for item in items {
-        put_bytes(out, b", ".as_slice())?;
+        put_bytes(out, b", ")?;
         item.put(out, names)?;
     }
     Ok(())
@@ -156,9 +162,9 @@ fn put_after_commas<T: Piece>(out: &mut Vec<u8>, names: &Names, items: &[T]) -> 
 fn put_holders(out: &mut Vec<u8>, names: &Names, holders: &[(Named, Named)]) -> Result<(), Memory>
     ensures { OnOk result (out.new.items ≡ out.old.items ++ (codes " {" ++ listed (holder_text names.now) holders.now ++ codes "}")) }
 {
-    put_bytes(out, b" {".as_slice())?;
+    put_bytes(out, b" {")?;
     put_list(out, names, holders)?;
-    put_bytes(out, b"}".as_slice())
+    put_bytes(out, b"}")
 }
 
 // Appends the variables of a process parameter, where there are any.
@@ -168,9 +174,9 @@ fn put_variables(out: &mut Vec<u8>, names: &Names, vars: &[(Named, Sort)]) -> Re
     if vars.is_empty() {
         return Ok(());
     }
-    put_bytes(out, b"(".as_slice())?;
+    put_bytes(out, b"(")?;
     put_list(out, names, vars)?;
-    put_bytes(out, b")".as_slice())
+    put_bytes(out, b")")
 }
 
 fn sort_text(sort: Sort) -> &'static [u8]

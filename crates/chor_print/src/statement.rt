@@ -7,7 +7,7 @@ ghost use Rattle.chor_print.specs.Pieces.{named_text, part_text};
 ghost use Rattle.chor_print.specs.Statements.{term_text, if_text, call_text};
 ghost use Rattle.chor_print.specs.Parts.{statement_text, starting_text, message_text, action_text, receiver_text, between_text, asked_text, next_of};
 
-use crate::piece::{Piece, put_list, put_list_after};
+use crate::piece::{Piece, put_after, put_list, put_list_after};
 use chor_base::{Expr, List, Memory, NameId, put_bytes, put_name};
 use chor_lexer::print_expr;
 use chor_tree::{File, Form, Named, NodeId, Part};
@@ -58,11 +58,10 @@ pub fn put_if(
 ) -> Result<(), Memory>
     ensures { OnOk result (out.new.items ≡ out.old.items ++ if_text file.now process (term_of expr.now)) }
 {
-    put_bytes(out, b"if ".as_slice())?;
-    process.put(out, &file.names)?;
-    put_bytes(out, b".".as_slice())?;
+    put_after(out, &file.names, b"if ", &process)?;
+    put_bytes(out, b".")?;
     put_term(out, alloc, file, expr)?;
-    put_bytes(out, b" {".as_slice())
+    put_bytes(out, b" {")
 }
 
 /// Appends a call with the processes and sessions that are passed.
@@ -75,12 +74,11 @@ pub fn put_call(
 ) -> Result<(), Memory>
     ensures { OnOk result (out.new.items ≡ out.old.items ++ call_text file.now name processes.now sessions.now) }
 {
-    put_bytes(out, b"call ".as_slice())?;
-    name.put(out, &file.names)?;
-    put_bytes(out, b"(".as_slice())?;
+    put_after(out, &file.names, b"call ", &name)?;
+    put_bytes(out, b"(")?;
     put_list(out, &file.names, processes.as_slice())?;
-    put_list_after(out, &file.names, b"; ".as_slice(), sessions.as_slice())?;
-    put_bytes(out, b")".as_slice())
+    put_list_after(out, &file.names, b"; ", sessions.as_slice())?;
+    put_bytes(out, b")")
 }
 
 // Appends a start. Of another node it appends nothing.
@@ -97,13 +95,11 @@ fn put_start(out: &mut Vec<u8>, file: &File, form: &Form) -> Result<(), Memory>
     else {
         return Ok(());
     };
-    put_bytes(out, b"start ".as_slice())?;
-    channel.put(out, &file.names)?;
-    put_bytes(out, b"(".as_slice())?;
-    session.put(out, &file.names)?;
-    put_bytes(out, b"): ".as_slice())?;
+    put_after(out, &file.names, b"start ", channel)?;
+    put_after(out, &file.names, b"(", session)?;
+    put_bytes(out, b"): ")?;
     put_list(out, &file.names, active.as_slice())?;
-    put_list_after(out, &file.names, b" new ".as_slice(), serve.as_slice())
+    put_list_after(out, &file.names, b" new ", serve.as_slice())
 }
 
 // Appends a value, a label or an endpoint that is sent. Of another node it appends nothing.
@@ -130,7 +126,7 @@ fn put_message(out: &mut Vec<u8>, alloc: Global, file: &File, form: &Form) -> Re
             ..
         } => {
             put_between(out, file, *from, *to, *session)?;
-            put_bytes(out, b".".as_slice())?;
+            put_bytes(out, b".")?;
             put_name(out, &file.names, *label)
         }
         Form::Give {
@@ -174,7 +170,7 @@ fn put_action(out: &mut Vec<u8>, alloc: Global, file: &File, form: &Form) -> Res
         }
         Form::Show { process, expr, .. } => {
             process.put(out, &file.names)?;
-            put_bytes(out, b" show ".as_slice())?;
+            put_bytes(out, b" show ")?;
             put_term(out, alloc, file, expr)
         }
         _ => Ok(()),
@@ -192,9 +188,9 @@ fn put_sender(
     ensures { OnOk result (out.new.items ≡ out.old.items ++ (part_text file.now.names from ++ codes "." ++ term_text file.now (term_of expr.now) ++ codes " -> ")) }
 {
     from.put(out, &file.names)?;
-    put_bytes(out, b".".as_slice())?;
+    put_bytes(out, b".")?;
     put_term(out, alloc, file, expr)?;
-    put_bytes(out, b" -> ".as_slice())
+    put_bytes(out, b" -> ")
 }
 
 // Appends who receives a value in which variable and session, as `q[B].x : k`.
@@ -208,10 +204,9 @@ fn put_receiver(
     ensures { OnOk result (out.new.items ≡ out.old.items ++ receiver_text file.now.names to var session) }
 {
     to.put(out, &file.names)?;
-    put_bytes(out, b".".as_slice())?;
+    put_bytes(out, b".")?;
     put_name(out, &file.names, var)?;
-    put_bytes(out, b" : ".as_slice())?;
-    session.put(out, &file.names)
+    put_after(out, &file.names, b" : ", &session)
 }
 
 // Appends sender, receiver and session, as `p[A] -> q[B] : k`.
@@ -225,19 +220,16 @@ fn put_between(
     ensures { OnOk result (out.new.items ≡ out.old.items ++ between_text file.now.names from to session) }
 {
     from.put(out, &file.names)?;
-    put_bytes(out, b" -> ".as_slice())?;
-    to.put(out, &file.names)?;
-    put_bytes(out, b" : ".as_slice())?;
-    session.put(out, &file.names)
+    put_after(out, &file.names, b" -> ", &to)?;
+    put_after(out, &file.names, b" : ", &session)
 }
 
 // Appends the session and the role that are handed over, as `(h[R])`.
 fn put_given(out: &mut Vec<u8>, file: &File, given: Part) -> Result<(), Memory>
     ensures { OnOk result (out.new.items ≡ out.old.items ++ (codes "(" ++ part_text file.now.names given ++ codes ")")) }
 {
-    put_bytes(out, b"(".as_slice())?;
-    given.put(out, &file.names)?;
-    put_bytes(out, b")".as_slice())
+    put_after(out, &file.names, b"(", &given)?;
+    put_bytes(out, b")")
 }
 
 // Appends the variable that is set, as `p.x := `.
@@ -245,9 +237,9 @@ fn put_target(out: &mut Vec<u8>, file: &File, process: Named, var: NameId) -> Re
     ensures { OnOk result (out.new.items ≡ out.old.items ++ (named_text file.now.names process ++ codes "." ++ name_in file.now.names var ++ codes " := ")) }
 {
     process.put(out, &file.names)?;
-    put_bytes(out, b".".as_slice())?;
+    put_bytes(out, b".")?;
     put_name(out, &file.names, var)?;
-    put_bytes(out, b" := ".as_slice())
+    put_bytes(out, b" := ")
 }
 
 // Appends a host call, as `host f(e, e)`.
@@ -261,13 +253,12 @@ fn put_host(
 ) -> Result<(), Memory>
     ensures { OnOk result (out.new.items ≡ out.old.items ++ asked_text file.now name (term_of left.now) (term_of right.now)) }
 {
-    put_bytes(out, b"host ".as_slice())?;
-    name.put(out, &file.names)?;
-    put_bytes(out, b"(".as_slice())?;
+    put_after(out, &file.names, b"host ", &name)?;
+    put_bytes(out, b"(")?;
     put_term(out, alloc, file, left)?;
-    put_bytes(out, b", ".as_slice())?;
+    put_bytes(out, b", ")?;
     put_term(out, alloc, file, right)?;
-    put_bytes(out, b")".as_slice())
+    put_bytes(out, b")")
 }
 
 fn put_term(out: &mut Vec<u8>, alloc: Global, file: &File, expr: &Expr) -> Result<(), Memory>

@@ -5,7 +5,7 @@ ghost use Rattle.chor_print.specs.Text.{step_text, state_line, roles_text, proto
 ghost use Rattle.chor_print.specs.Parts.{line_at, lines_at, protocol_text, service_text, proc_text, main_text};
 
 use crate::block::put_body;
-use crate::piece::{Piece, put_list, put_list_after};
+use crate::piece::{Piece, put_after, put_list, put_list_after};
 use chor_base::{Memory, Names, put_bytes};
 use chor_tree::{File, Named, Proc, ProtoStep, Protocol, Service, State};
 use std::alloc::Global;
@@ -16,28 +16,26 @@ pub fn put_protocol(out: &mut Vec<u8>, names: &Names, protocol: &Protocol) -> Re
 {
     put_protocol_head(out, names, protocol)?;
     put_states(out, names, protocol.states.as_slice())?;
-    put_bytes(out, b"}\n".as_slice())
+    put_bytes(out, b"}\n")
 }
 
 fn put_protocol_head(out: &mut Vec<u8>, names: &Names, protocol: &Protocol) -> Result<(), Memory>
     ensures { OnOk result (out.new.items ≡ out.old.items ++ line_at 0 (protocol_head names.now protocol.now)) }
 {
-    put_bytes(out, b"protocol ".as_slice())?;
-    protocol.name.put(out, names)?;
-    put_bytes(out, b" (".as_slice())?;
+    put_after(out, names, b"protocol ", &protocol.name)?;
+    put_bytes(out, b" (")?;
     put_list(out, names, protocol.roles.as_slice())?;
-    put_bytes(out, b") {\n".as_slice())
+    put_bytes(out, b") {\n")
 }
 
 fn put_states(out: &mut Vec<u8>, names: &Names, states: &[State]) -> Result<(), Memory>
     ensures { OnOk result (out.new.items ≡ out.old.items ++ lines_at 1 (map (state_line names.now) states.now)) }
 {
     for state in states {
-        put_bytes(out, b"  ".as_slice())?;
-        state.name.put(out, names)?;
-        put_bytes(out, b" = ".as_slice())?;
+        put_after(out, names, b"  ", &state.name)?;
+        put_bytes(out, b" = ")?;
         put_step(out, names, &state.step)?;
-        put_bytes(out, b";\n".as_slice())?;
+        put_bytes(out, b";\n")?;
     }
     Ok(())
 }
@@ -46,7 +44,7 @@ fn put_step(out: &mut Vec<u8>, names: &Names, step: &ProtoStep) -> Result<(), Me
     ensures { OnOk result (out.new.items ≡ out.old.items ++ step_text names.now step.now) }
 {
     match step {
-        ProtoStep::End => put_bytes(out, b"end".as_slice()),
+        ProtoStep::End => put_bytes(out, b"end"),
         ProtoStep::Value {
             from,
             to,
@@ -54,20 +52,16 @@ fn put_step(out: &mut Vec<u8>, names: &Names, step: &ProtoStep) -> Result<(), Me
             next,
         } => {
             from.put(out, names)?;
-            put_bytes(out, b" -> ".as_slice())?;
-            to.put(out, names)?;
-            put_bytes(out, b" : ".as_slice())?;
-            payload.put(out, names)?;
-            put_bytes(out, b" then ".as_slice())?;
-            next.put(out, names)
+            put_after(out, names, b" -> ", to)?;
+            put_after(out, names, b" : ", payload)?;
+            put_after(out, names, b" then ", next)
         }
         ProtoStep::Choice { from, to, arms } => {
             from.put(out, names)?;
-            put_bytes(out, b" -> ".as_slice())?;
-            to.put(out, names)?;
-            put_bytes(out, b" {".as_slice())?;
+            put_after(out, names, b" -> ", to)?;
+            put_bytes(out, b" {")?;
             put_list(out, names, arms.as_slice())?;
-            put_bytes(out, b"}".as_slice())
+            put_bytes(out, b"}")
         }
     }
 }
@@ -76,18 +70,16 @@ fn put_step(out: &mut Vec<u8>, names: &Names, step: &ProtoStep) -> Result<(), Me
 pub fn put_service(out: &mut Vec<u8>, names: &Names, service: &Service) -> Result<(), Memory>
     ensures { OnOk result (out.new.items ≡ out.old.items ++ service_text names.now service.now) }
 {
-    put_bytes(out, b"service ".as_slice())?;
-    service.name.put(out, names)?;
-    put_bytes(out, b" : ".as_slice())?;
-    service.protocol.put(out, names)?;
-    put_bytes(out, b" ".as_slice())?;
+    put_after(out, names, b"service ", &service.name)?;
+    put_after(out, names, b" : ", &service.protocol)?;
+    put_bytes(out, b" ")?;
     put_roles(
         out,
         names,
         service.active.as_slice(),
         service.serve.as_slice(),
     )?;
-    put_bytes(out, b";\n".as_slice())
+    put_bytes(out, b";\n")
 }
 
 fn put_roles(
@@ -98,10 +90,10 @@ fn put_roles(
 ) -> Result<(), Memory>
     ensures { OnOk result (out.new.items ≡ out.old.items ++ roles_text names.now active.now serve.now) }
 {
-    put_bytes(out, b"(".as_slice())?;
+    put_bytes(out, b"(")?;
     put_list(out, names, active)?;
-    put_list_after(out, names, b" | ".as_slice(), serve)?;
-    put_bytes(out, b")".as_slice())
+    put_list_after(out, names, b" | ", serve)?;
+    put_bytes(out, b")")
 }
 
 /// Appends a procedure with its body.
@@ -113,17 +105,11 @@ pub fn put_proc(
 ) -> Result<(), Memory>
     ensures { OnOk result (out.new.items ≡ out.old.items ++ proc_text file.now procedure.now) }
 {
-    put_bytes(out, b"proc ".as_slice())?;
-    procedure.name.put(out, &file.names)?;
-    put_bytes(out, b" (".as_slice())?;
+    put_after(out, &file.names, b"proc ", &procedure.name)?;
+    put_bytes(out, b" (")?;
     put_list(out, &file.names, procedure.params.as_slice())?;
-    put_list_after(
-        out,
-        &file.names,
-        b"; ".as_slice(),
-        procedure.sessions.as_slice(),
-    )?;
-    put_bytes(out, b") {\n".as_slice())?;
+    put_list_after(out, &file.names, b"; ", procedure.sessions.as_slice())?;
+    put_bytes(out, b") {\n")?;
     put_body(out, alloc, file, procedure.body)
 }
 
@@ -131,8 +117,8 @@ pub fn put_proc(
 pub fn put_main(out: &mut Vec<u8>, alloc: Global, file: &File) -> Result<(), Memory>
     ensures { OnOk result (out.new.items ≡ out.old.items ++ main_text file.now) }
 {
-    put_bytes(out, b"main (".as_slice())?;
+    put_bytes(out, b"main (")?;
     put_list(out, &file.names, file.processes.as_slice())?;
-    put_bytes(out, b") {\n".as_slice())?;
+    put_bytes(out, b") {\n")?;
     put_body(out, alloc, file, file.body)
 }
