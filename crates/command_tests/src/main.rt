@@ -12,14 +12,18 @@
 //! `=== source` is the source of the cases after it, and the lines of these cases are a file of
 //! events, whose name is `EVENTS`.
 //!
+//! Further lines say how the cases after them are put, up to the next of the three lines above. After
+//! `=== room N` the sink takes N bytes, after `=== failing N` the shelf's call number N fails, and after
+//! `=== no functions` there are no host functions. After `=== escapes` the lines of a case are the
+//! bytes of what they spell: `\n`, `\r`, `\x` with two digits to the base 16, and for `\{N TEXT\}` the text
+//! N times, where `\#` is the number of the turn; a line of the file of cases is no line of the
+//! source then.
+//!
 //! The folder `worked` has copies of the files of `examples`, which are held against the worked texts.
 #![tactic(auto)]
 
-use crate::cases::answer_cases;
+use crate::cases::{Tables, answer_cases};
 use crate::hosts::host_names;
-use crate::made::answer_made;
-use crate::programs::answer_programs;
-use crate::replays::answer_replays;
 use crate::worked_texts::answer_worked;
 use chor_base::{HostOp, Meaning, Memory};
 use chor_host::{HostFn, HostTable, host_gap, host_max, host_min};
@@ -28,10 +32,8 @@ use std::fs;
 mod calls;
 mod cases;
 mod changes;
+mod escapes;
 mod hosts;
-mod made;
-mod programs;
-mod replays;
 mod worked_texts;
 
 fn main(rt: HostRuntime) -> anyhow::Result<()> {
@@ -49,29 +51,28 @@ fn main(rt: HostRuntime) -> anyhow::Result<()> {
     answered
 }
 
-// The cases of the files that are listed, and what is made here.
+// The cases of the files that are listed, and the worked texts.
 fn answer_all(rt: &HostRuntime, hosts: &HostTable) -> anyhow::Result<()> {
-    answer_listed(rt, hosts)?;
-    println!(rt; "##### made")?;
-    answer_made(rt, rt.alloc(), hosts)?;
-    println!(rt; "##### programs")?;
-    answer_programs(rt, rt.alloc(), hosts)?;
-    println!(rt; "##### replays")?;
-    answer_replays(rt, rt.alloc(), hosts)?;
+    let empty = HostTable::new(rt.alloc());
+    let tables = Tables {
+        program: hosts,
+        empty: &empty,
+    };
+    answer_listed(rt, tables)?;
     println!(rt; "##### worked")?;
     answer_worked(rt)
 }
 
-fn answer_listed(rt: &HostRuntime, hosts: &HostTable) -> anyhow::Result<()> {
+fn answer_listed(rt: &HostRuntime, tables: Tables<'_>) -> anyhow::Result<()> {
     let index = fs::read_to_string(rt, "cases")?;
     for name in index.lines() {
-        answer_file(rt, hosts, name)?;
+        answer_file(rt, tables, name)?;
     }
     Ok(())
 }
 
-fn answer_file(rt: &HostRuntime, hosts: &HostTable, name: &str) -> anyhow::Result<()> {
+fn answer_file(rt: &HostRuntime, tables: Tables<'_>, name: &str) -> anyhow::Result<()> {
     let text = fs::read_to_string(rt, name)?;
     println!(rt; "##### {name}")?;
-    answer_cases(rt, rt.alloc(), hosts, text.as_str())
+    answer_cases(rt, rt.alloc(), tables, text.as_str())
 }
