@@ -6,5 +6,6 @@ mod going;
 mod parts;
 mod run;
 
+pub use few::are_few;
 pub use parts::{Run, Schedule};
 pub use run::{Closed, Ran, run_endpoints};

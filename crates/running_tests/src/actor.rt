@@ -2,11 +2,12 @@
 
 ghost use Rattle.std.specs.Prelude.{◌≡◌};
 ghost use Rattle.chor_host.specs.Functions.{names_of};
+ghost use Rattle.chor_host.specs.Tables.{functions_of};
 ghost use Rattle.endpoint_code.specs.Faults.{IsFaultlessWith};
 ghost use Rattle.running_tests.specs.Known.{known};
 
-use crate::programs::functions;
 use chor_base::{Event, Load, Memory, NameId};
+use chor_host::HostTable;
 use endpoint_code::Endpoints;
 use endpoint_machine::{Binding, Head, Machine};
 use std::alloc::Global;
@@ -139,26 +140,24 @@ impl<'a> Actor<'a> {
     }
 
     /// Does by itself what comes next, if it is such a thing.
-    pub fn act(&mut self) -> Result<Option<Event>, Fail> {
+    pub fn act(&mut self, hosts: &HostTable) -> Result<Option<Event>, Memory>
+        requires { functions_of hosts.now ≡ known }
+    {
         let endpoints = self.endpoints;
         let Head::Local = self.machine.head(endpoints) else {
             return Ok(None);
         };
         self.machine.reserve(endpoints)?;
-        let hosts = functions(self.alloc)?;
-        let event = self.machine.local_step(endpoints, &hosts);
-        drop(hosts);
-        Ok(Some(event))
+        Ok(Some(self.machine.local_step(endpoints, hosts)))
     }
 
     /// Whether it may do this by itself next.
-    pub fn may(&self, event: &Event) -> Result<bool, Fail> {
+    pub fn may(&self, hosts: &HostTable, event: &Event) -> bool
+        requires { functions_of hosts.now ≡ known }
+    {
         let Head::Local = self.machine.head(self.endpoints) else {
-            return Ok(false);
+            return false;
         };
-        let hosts = functions(self.alloc)?;
-        let may = self.machine.may(self.endpoints, &hosts, event);
-        drop(hosts);
-        Ok(may)
+        self.machine.may(self.endpoints, hosts, event)
     }
 }

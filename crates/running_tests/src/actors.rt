@@ -1,12 +1,15 @@
 //! What single processes do, worked out by hand.
 
+ghost use Rattle.std.specs.Prelude.{◌≡◌};
 ghost use Rattle.chor_host.specs.Functions.{names_of};
+ghost use Rattle.chor_host.specs.Tables.{functions_of};
 ghost use Rattle.endpoint_code.specs.Faults.{IsFaultlessWith};
 ghost use Rattle.running_tests.specs.Known.{known};
 
 use crate::actor::Actor;
 use crate::deeds::{Deed, Item, Next};
-use crate::programs::read;
+use crate::programs::{functions, read};
+use chor_host::HostTable;
 use endpoint_code::Endpoints;
 use std::alloc::Global;
 use std::process::Abort;
@@ -135,26 +138,19 @@ fn actor_of<'a>(
     }
 }
 
-fn play_all(rt: &impl Abort, actor: &mut Actor<'_>, deeds: &[Deed]) -> Result<(), Fail> {
+fn play_all(
+    rt: &impl Abort,
+    hosts: &HostTable,
+    actor: &mut Actor<'_>,
+    deeds: &[Deed],
+) -> Result<(), Fail>
+    requires { functions_of hosts.now ≡ known }
+{
     for (place, deed) in deeds.iter().enumerate() {
-        let is_done = actor.does(rt, *deed)?;
+        let is_done = actor.does(rt, hosts, *deed)?;
         assert!(rt; is_done, "at place {place}");
     }
     Ok(())
-}
-
-// A process of these programs does all of it.
-fn enter(
-    rt: &impl Abort,
-    alloc: Global,
-    endpoints: &Endpoints,
-    who: Who,
-    deeds: &[Deed],
-) -> Result<(), Fail>
-    requires { IsFaultlessWith (names_of known) endpoints.now }
-{
-    let mut actor = actor_of(rt, alloc, endpoints, who)?;
-    play_all(rt, &mut actor, deeds)
 }
 
 fn plays(
@@ -164,8 +160,10 @@ fn plays(
     who: Who,
     deeds: &[Deed],
 ) -> Result<(), Fail> {
-    let endpoints = read(rt, alloc, text)?;
-    enter(rt, alloc, &endpoints, who, deeds)
+    let hosts = functions(alloc)?;
+    let endpoints = read(rt, alloc, &hosts, text)?;
+    let mut actor = actor_of(rt, alloc, &endpoints, who)?;
+    play_all(rt, &hosts, &mut actor, deeds)
 }
 
 #[test]

@@ -1,13 +1,12 @@
-//! Networks whose queues have a capacity.
+//! Networks whose queues have a capacity, by `run_picked` and by `pick` and `step`.
 
 ghost use Rattle.chor_host.specs.Functions.{names_of};
 ghost use Rattle.endpoint_code.specs.Faults.{IsFaultlessWith};
 ghost use Rattle.running_tests.specs.Known.{known};
 
-use crate::programs::{lines, read};
-use crate::scheduled::is_stepped;
+use crate::programs::{functions, lines, read};
 use crate::steps::Steps;
-use chor_base::{Entry, NameId, Why};
+use chor_base::{Entry, Memory, NameId, Why};
 use endpoint_code::Endpoints;
 use endpoint_runs::Closed;
 use std::alloc::Global;
@@ -44,7 +43,7 @@ process t { join a[A](k); send k B 1; send k B 2; recv k B x; send k B 3; end }
 process u { join a[B](k); recv k A x; send k A 4; recv k A y; recv k A z; end }
 ";
 
-// The run by the pick rule under a capacity: how it is closed, how many events it has and their lines.
+// A run by the pick rule: how it is closed, how many events it has and their lines.
 #[derive(Drop)]
 struct Told {
     closed: Closed,
@@ -52,101 +51,76 @@ struct Told {
     text: Vec<u8>,
 }
 
-// How such a run is closed, and its events.
-fn ran_under(
-    rt: &impl Abort,
+fn tell(
     alloc: Global,
     endpoints: &Endpoints,
-    capacity: u32,
-    seed: u32,
-) -> Result<(Closed, Vec<Entry>), Fail>
-    requires { IsFaultlessWith (names_of known) endpoints.now }
-{
-    let steps = Steps::new(rt, alloc, endpoints, Some(capacity))?;
-    steps.finish(rt, seed, STEPS)
-}
-
-// Whether it is the one that is made step by step.
-fn is_made(
-    rt: &impl Abort,
-    alloc: Global,
-    endpoints: &Endpoints,
-    asked: (u32, u32),
-    ran: (Closed, &[Entry]),
-) -> Result<bool, Fail>
-    requires { IsFaultlessWith (names_of known) endpoints.now }
-{
-    let (capacity, seed) = asked;
-    let mut steps = Steps::new(rt, alloc, endpoints, Some(capacity))?;
-    let is_stepped = is_stepped(rt, &mut steps, (seed, STEPS), ran);
-    drop(steps);
-    is_stepped
-}
-
-// The run of these programs with this seed, which is the one that is made step by step.
-fn told_under(
-    rt: &impl Abort,
-    alloc: Global,
-    endpoints: &Endpoints,
-    capacity: u32,
-    seed: u32,
-) -> Result<Told, Fail>
-    requires { IsFaultlessWith (names_of known) endpoints.now }
-{
-    let (closed, history) = ran_under(rt, alloc, endpoints, capacity, seed)?;
-    let ran = (closed, history.as_slice());
-    let is_made = is_made(rt, alloc, endpoints, (capacity, seed), ran);
-    let text = lines(alloc, endpoints, history.as_slice());
-    let count = history.len();
-    drop(history);
-    assert!(rt; is_made?, "with seed {seed}");
+    closed: Closed,
+    history: &[Entry],
+) -> Result<Told, Memory> {
     Ok(Told {
         closed,
-        count,
-        text: text?,
+        count: history.len(),
+        text: lines(alloc, endpoints, history)?,
     })
 }
 
-// The same of programs that are read.
-fn read_under(
-    rt: &impl Abort,
-    alloc: Global,
-    text: &[u8],
-    capacity: u32,
-    seed: u32,
-) -> Result<Told, Fail> {
-    let endpoints = read(rt, alloc, text)?;
-    let told = told_under(rt, alloc, &endpoints, capacity, seed);
-    drop(endpoints);
-    told
+// The run of these programs with room for one message in each queue.
+fn ran(rt: &impl Abort, alloc: Global, endpoints: &Endpoints, seed: u32) -> Result<Told, Fail>
+    requires { IsFaultlessWith (names_of known) endpoints.now }
+{
+    let hosts = functions(alloc)?;
+    let steps = Steps::new(rt, alloc, endpoints, Some(1))?;
+    let (closed, history) = steps.finish(rt, &hosts, seed, STEPS);
+    Ok(tell(alloc, endpoints, closed, history.as_slice())?)
+}
+
+// The same, step by step.
+fn stepped(rt: &impl Abort, alloc: Global, endpoints: &Endpoints, seed: u32) -> Result<Told, Fail>
+    requires { IsFaultlessWith (names_of known) endpoints.now }
+{
+    let hosts = functions(alloc)?;
+    let mut steps = Steps::new(rt, alloc, endpoints, Some(1))?;
+    let closed = steps.run(rt, &hosts, seed, STEPS);
+    Ok(tell(alloc, endpoints, closed, steps.history())?)
 }
 
 #[test]
 fn a_sender_waits_for_room(rt: HostRuntime) -> Result<(), Fail> {
+    let hosts = functions(rt.alloc())?;
+    let endpoints = read(&rt, rt.alloc(), &hosts, TWICE)?;
     for seed in 0..3 {
-        let told = read_under(&rt, rt.alloc(), TWICE, 1, seed)?;
-        assert!(&rt; told.closed == Closed::Ended && told.text.as_slice() == ONE_BY_ONE);
+        for told in [
+            ran(&rt, rt.alloc(), &endpoints, seed)?,
+            stepped(&rt, rt.alloc(), &endpoints, seed)?,
+        ] {
+            assert!(&rt; told.closed == Closed::Ended && told.text.as_slice() == ONE_BY_ONE);
+        }
     }
     Ok(())
 }
 
 #[test]
 fn a_sender_waits_for_ever(rt: HostRuntime) -> Result<(), Fail> {
-    let endpoints = read(&rt, rt.alloc(), CROWDED)?;
-    let told = told_under(&rt, rt.alloc(), &endpoints, 1, 0);
+    let hosts = functions(rt.alloc())?;
+    let endpoints = read(&rt, rt.alloc(), &hosts, CROWDED)?;
     let from = endpoints.names.find(b"A").unwrap_or(NameId(0));
     let to = endpoints.names.find(b"B").unwrap_or(NameId(0));
-    drop(endpoints);
-    let told = told?;
-    assert!(&rt; told.count == 2);
-    assert!(&rt; told.closed == Closed::Stuck(0, Why::Full(0, from, to)));
+    for told in [
+        ran(&rt, rt.alloc(), &endpoints, 0)?,
+        stepped(&rt, rt.alloc(), &endpoints, 0)?,
+    ] {
+        assert!(&rt; told.count == 2);
+        assert!(&rt; told.closed == Closed::Stuck(0, Why::Full(0, from, to)));
+    }
     Ok(())
 }
 
 #[test]
 fn senders_wait_among_many(rt: HostRuntime) -> Result<(), Fail> {
+    let hosts = functions(rt.alloc())?;
+    let endpoints = read(&rt, rt.alloc(), &hosts, PAIRS)?;
     for seed in 0..13 {
-        let told = read_under(&rt, rt.alloc(), PAIRS, 1, seed)?;
+        let told = ran(&rt, rt.alloc(), &endpoints, seed)?;
         assert!(&rt;
             told.closed == Closed::Ended && told.count == 27,
             "with seed {seed}"

@@ -1,11 +1,15 @@
 //! What a process is to do, one thing after the other.
 
+ghost use Rattle.std.specs.Prelude.{◌≡◌};
+ghost use Rattle.chor_host.specs.Tables.{functions_of};
+ghost use Rattle.running_tests.specs.Known.{known};
+
 use crate::actor::Actor;
 use crate::programs::lines;
-use chor_base::{Entry, Event, Load, Value};
+use chor_base::{Entry, Event, Load, Memory, Value};
+use chor_host::HostTable;
 use endpoint_machine::Head;
 use std::process::Abort;
-use std::test::Fail;
 
 /// What is sent, with names as they are written.
 #[derive(Clone, Copy)]
@@ -75,65 +79,75 @@ impl<'a> Actor<'a> {
     }
 
     // Whether it may set a variable to a number.
-    fn may_set(&self, rt: &impl Abort, word: &[u8], value: i64) -> Result<bool, Fail> {
+    fn may_set(&self, rt: &impl Abort, hosts: &HostTable, word: &[u8], value: i64) -> bool
+        requires { functions_of hosts.now ≡ known }
+    {
         let event = Event::Set {
             pid: self.number(),
             var: self.name(rt, word),
             value: Value::Int(value),
         };
-        self.may(&event)
+        self.may(hosts, &event)
     }
 
     // The line of what it does by itself next, or nothing.
-    fn line(&mut self) -> Result<Vec<u8>, Fail> {
+    fn line(&mut self, hosts: &HostTable) -> Result<Vec<u8>, Memory>
+        requires { functions_of hosts.now ≡ known }
+    {
         let mut history = Vec::new(self.alloc);
-        if let Some(event) = self.act()? {
+        if let Some(event) = self.act(hosts)? {
             history.push(Entry { worker: 0, event })?;
         }
-        Ok(lines(self.alloc, self.endpoints, history.as_slice())?)
+        lines(self.alloc, self.endpoints, history.as_slice())
     }
 
     fn stands(&self, rt: &impl Abort, next: Next) -> bool {
         self.head() == self.head_named(rt, next)
     }
 
-    fn sends(&mut self, rt: &impl Abort, item: Item) -> Result<bool, Fail> {
+    fn sends(&mut self, rt: &impl Abort, item: Item) -> Result<bool, Memory> {
         let want = self.load_named(rt, item);
         Ok(self.send()? == Some(want))
     }
 
-    fn takes(&mut self, rt: &impl Abort, item: Item) -> Result<bool, Fail> {
+    fn takes(&mut self, rt: &impl Abort, item: Item) -> Result<bool, Memory> {
         let load = self.load_named(rt, item);
-        Ok(self.take(load)?)
+        self.take(load)
     }
 
-    fn tells(&mut self, want: &[u8]) -> Result<bool, Fail> {
-        Ok(self.line()?.as_slice() == want)
+    fn tells(&mut self, hosts: &HostTable, want: &[u8]) -> Result<bool, Memory>
+        requires { functions_of hosts.now ≡ known }
+    {
+        Ok(self.line(hosts)?.as_slice() == want)
     }
 
     // Whether it doesn't do this next.
-    fn does_not(&mut self, rt: &impl Abort, deed: Deed) -> Result<bool, Fail> {
+    fn does_not(&mut self, rt: &impl Abort, hosts: &HostTable, deed: Deed) -> Result<bool, Memory>
+        requires { functions_of hosts.now ≡ known }
+    {
         match deed {
             Deed::JoinsNot => Ok(!self.join(0)?),
             Deed::SendsNot => Ok(self.send()?.is_none()),
             Deed::TakesNot(item) => Ok(!self.takes(rt, item)?),
-            Deed::ActsNot => self.tells(b""),
-            Deed::MayNot(word, value) => Ok(!self.may_set(rt, word, value)?),
+            Deed::ActsNot => self.tells(hosts, b""),
+            Deed::MayNot(word, value) => Ok(!self.may_set(rt, hosts, word, value)),
             _ => Ok(false),
         }
     }
 
     /// Whether it does this next, or, where a deed says so, doesn't.
-    pub fn does(&mut self, rt: &impl Abort, deed: Deed) -> Result<bool, Fail> {
+    pub fn does(&mut self, rt: &impl Abort, hosts: &HostTable, deed: Deed) -> Result<bool, Memory>
+        requires { functions_of hosts.now ≡ known }
+    {
         match deed {
             Deed::HasNumber(number) => Ok(self.number() == number),
             Deed::Comes(next) => Ok(self.stands(rt, next)),
-            Deed::Joins(sid) => Ok(self.join(sid)?),
+            Deed::Joins(sid) => self.join(sid),
             Deed::Sends(item) => self.sends(rt, item),
             Deed::Takes(item) => self.takes(rt, item),
-            Deed::Acts(line) => self.tells(line),
-            Deed::May(word, value) => self.may_set(rt, word, value),
-            not => self.does_not(rt, not),
+            Deed::Acts(line) => self.tells(hosts, line),
+            Deed::May(word, value) => Ok(self.may_set(rt, hosts, word, value)),
+            not => self.does_not(rt, hosts, not),
         }
     }
 }

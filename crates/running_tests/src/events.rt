@@ -1,6 +1,6 @@
 //! What is written of an event that a book lacks words for.
 
-use crate::programs::read;
+use crate::programs::{functions, read};
 use chor_base::{Event, List, Load, Memory, NameId, Value};
 use endpoint_code::Endpoints;
 use std::alloc::Global;
@@ -23,7 +23,8 @@ fn line(alloc: Global, endpoints: &Endpoints, event: &Event) -> Result<Vec<u8>, 
 // Programs tell their own words alone, so no command shows this: the word is left out.
 #[test]
 fn what_the_book_lacks_has_no_bytes(rt: HostRuntime) -> Result<(), Fail> {
-    let endpoints = read(&rt, rt.alloc(), b"endpoints 1;")?;
+    let hosts = functions(rt.alloc())?;
+    let endpoints = read(&rt, rt.alloc(), &hosts, b"endpoints 1;")?;
     let event = Event::Send {
         pid: 0,
         sid: 0,
@@ -31,8 +32,7 @@ fn what_the_book_lacks_has_no_bytes(rt: HostRuntime) -> Result<(), Fail> {
         to: NameId(2_000),
         load: Load::Value(Value::Text(2_000)),
     };
-    let told = line(rt.alloc(), &endpoints, &event);
-    drop(endpoints);
-    assert_eq!(&rt; told?.as_slice(), b"10 send %0 #0 > ".as_slice());
+    let told = line(rt.alloc(), &endpoints, &event)?;
+    assert_eq!(&rt; told.as_slice(), b"10 send %0 #0 > ".as_slice());
     Ok(())
 }

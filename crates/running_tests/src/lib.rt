@@ -8,11 +8,7 @@ mod actor;
 #[cfg(test)]
 mod actors;
 #[cfg(test)]
-mod bits;
-#[cfg(test)]
 mod capacities;
-#[cfg(test)]
-mod chance;
 #[cfg(test)]
 mod codes;
 #[cfg(test)]
@@ -23,7 +19,5 @@ mod events;
 mod offices;
 #[cfg(test)]
 mod programs;
-#[cfg(test)]
-mod scheduled;
 #[cfg(test)]
 mod steps;

@@ -1,13 +1,16 @@
 //! Offices that are told the events of scheduled runs.
 
+ghost use Rattle.std.specs.Prelude.{◌≡◌};
 ghost use Rattle.chor_host.specs.Functions.{names_of};
+ghost use Rattle.chor_host.specs.Tables.{functions_of};
 ghost use Rattle.endpoint_code.specs.Faults.{IsFaultlessWith};
 ghost use Rattle.running_tests.specs.Known.{known};
 
 use crate::programs::{are_alike, functions, read};
-use crate::scheduled::run;
-use chor_base::{Entry, Event, Load, NameId, Value};
+use chor_base::{Entry, Event, Load, Memory, NameId, Value};
+use chor_host::HostTable;
 use endpoint_code::Endpoints;
+use endpoint_runs::run_endpoints;
 use office_runs::office_of;
 use post_office::Office;
 use std::alloc::Global;
@@ -16,10 +19,10 @@ use std::test::Fail;
 use worked::endpoints::{EXAMPLES, HELLO, TWICE};
 
 // How many events a run has at most.
-const STEPS: u32 = 120;
+const STEPS: u64 = 120;
 
 // The events of entries.
-fn events_of(alloc: Global, entries: &[Entry]) -> Result<Vec<Event>, Fail> {
+fn events_of(alloc: Global, entries: &[Entry]) -> Result<Vec<Event>, Memory> {
     let mut events = Vec::new(alloc);
     for entry in entries {
         events.push(entry.event.copy(alloc)?)?;
@@ -44,7 +47,7 @@ fn seen_in(
     endpoints: &Endpoints,
     office: &Office<'_>,
     entries: &[Entry],
-) -> Result<Found, Fail> {
+) -> Result<Found, Memory> {
     let is_same = are_alike(alloc, endpoints, office.history(), entries)?;
     let from = endpoints.names.find(b"A").unwrap_or(NameId(0));
     let to = endpoints.names.find(b"B").unwrap_or(NameId(0));
@@ -64,70 +67,32 @@ struct Asked {
     count: usize,
 }
 
-// The office that is told these events, if it takes them.
-fn office_with<'a>(
-    alloc: Global,
-    endpoints: &'a Endpoints,
-    capacity: Option<u32>,
-    events: &[Event],
-) -> Result<Option<Office<'a>>, Fail>
-    requires { IsFaultlessWith (names_of known) endpoints.now }
-{
-    let hosts = functions(alloc)?;
-    let office = office_of(alloc, endpoints, &hosts, capacity, events);
-    drop(hosts);
-    Ok(office?)
-}
-
-// What stands in the office that is told these events, which are those of these entries.
-fn found_with(
-    alloc: Global,
-    endpoints: &Endpoints,
-    capacity: Option<u32>,
-    entries: &[Entry],
-    events: &[Event],
-) -> Result<Option<Found>, Fail>
-    requires { IsFaultlessWith (names_of known) endpoints.now }
-{
-    let Some(office) = office_with(alloc, endpoints, capacity, events)? else {
-        return Ok(None);
-    };
-    let found = seen_in(alloc, endpoints, &office, entries);
-    drop(office);
-    Ok(Some(found?))
-}
-
+// What stands in the office that is told these events, if it takes them.
 fn told(
     alloc: Global,
+    hosts: &HostTable,
     endpoints: &Endpoints,
     capacity: Option<u32>,
     entries: &[Entry],
-) -> Result<Option<Found>, Fail>
-    requires { IsFaultlessWith (names_of known) endpoints.now }
+) -> Result<Option<Found>, Memory>
+    requires faultless { IsFaultlessWith (names_of known) endpoints.now }
+    requires known { functions_of hosts.now ≡ known }
 {
     let events = events_of(alloc, entries)?;
-    let found = found_with(alloc, endpoints, capacity, entries, events.as_slice());
-    drop(events);
-    found
+    match office_of(alloc, endpoints, hosts, capacity, events.as_slice())? {
+        Some(office) => Ok(Some(seen_in(alloc, endpoints, &office, entries)?)),
+        None => Ok(None),
+    }
 }
 
 // The same of the first events of a run of these programs: of all of its events, where there are fewer.
-fn look_at(alloc: Global, endpoints: &Endpoints, asked: Asked) -> Result<Option<Found>, Fail>
-    requires { IsFaultlessWith (names_of known) endpoints.now }
-{
-    let ran = run(alloc, endpoints, asked.seed, STEPS)?;
+fn look(rt: &impl Abort, alloc: Global, text: &[u8], asked: Asked) -> Result<Option<Found>, Fail> {
+    let hosts = functions(alloc)?;
+    let endpoints = read(rt, alloc, &hosts, text)?;
+    let ran = run_endpoints(alloc, &endpoints, &hosts, u64::from(asked.seed), STEPS)?;
     let history = ran.history.as_slice();
     let entries = &history[..asked.count.min(history.len())];
-    let found = told(alloc, endpoints, asked.capacity, entries);
-    drop(ran);
-    found
-}
-
-fn look(rt: &impl Abort, alloc: Global, text: &[u8], asked: Asked) -> Result<Option<Found>, Fail> {
-    let endpoints = read(rt, alloc, text)?;
-    let found = look_at(alloc, &endpoints, asked);
-    drop(endpoints);
-    found
+    Ok(told(alloc, &hosts, &endpoints, asked.capacity, entries)?)
 }
 
 // An office is told a whole run with this seed.

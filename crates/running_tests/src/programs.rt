@@ -30,13 +30,16 @@ pub fn functions(alloc: Global) -> Result<HostTable, Fail>
 }
 
 /// The programs that a text is of.
-pub fn read(rt: &impl Abort, alloc: Global, text: &[u8]) -> Result<Endpoints, Fail>
+pub fn read(
+    rt: &impl Abort,
+    alloc: Global,
+    hosts: &HostTable,
+    text: &[u8],
+) -> Result<Endpoints, Fail>
+    requires { functions_of hosts.now ≡ known }
     ensures { IfOk result (IsFaultlessWith (names_of known)) }
 {
-    let hosts = functions(alloc)?;
-    let found = read_with(alloc, text, &hosts);
-    drop(hosts);
-    match found? {
+    match read_with(alloc, text, hosts)? {
         Some(endpoints) => Ok(endpoints),
         None => panic!(rt; "it is too long, or asks other host functions"),
     }

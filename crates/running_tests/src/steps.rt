@@ -1,14 +1,15 @@
 //! A network, step by step.
 
-ghost use Rattle.std.specs.Prelude.{◌≡◌, ◌≤◌, ◌<◌, true, All, length};
+ghost use Rattle.std.specs.Prelude.{◌≡◌, ◌<◌, length};
 ghost use Rattle.chor_host.specs.Functions.{names_of};
+ghost use Rattle.chor_host.specs.Tables.{functions_of};
 ghost use Rattle.endpoint_code.specs.Faults.{IsFaultlessWith};
 ghost use Rattle.running_tests.specs.Known.{known};
 
-use crate::programs::functions;
-use chor_base::{Entry, Why};
-use endpoint_code::{Channel, Endpoints};
-use endpoint_runs::Closed;
+use chor_base::Entry;
+use chor_host::HostTable;
+use endpoint_code::Endpoints;
+use endpoint_runs::{Closed, are_few};
 use net_core::{Network, Picked, Step};
 use std::alloc::Global;
 use std::marker::Model;
@@ -18,8 +19,7 @@ use std::test::Fail;
 /// A network of some programs, with so many steps left. Contracts see the network.
 #[derive(Drop)]
 pub struct Steps<'a> {
-    pub(crate) alloc: Global,
-    pub(crate) endpoints: &'a Endpoints,
+    endpoints: &'a Endpoints,
     network: Network<'a>,
     left: u32,
 }
@@ -39,18 +39,6 @@ impl<'a> Model for Steps<'a> {
     ghost view = { λ a. a.network };
 
     ghost invariant = { λ a. IsOnItsWay a.endpoints.now a.left a.network };
-}
-
-// Whether no channel has more service roles than a million starts have numbers for.
-fn serve_few(channels: &[Channel]) -> bool
-    ensures { result ≡ true → All (λ k. length k.serve ≤ 4000) channels.now }
-{
-    for channel in channels {
-        if channel.serve.len() > 4_000 {
-            return false;
-        }
-    }
-    true
 }
 
 // How a run is closed that ended so.
@@ -73,15 +61,11 @@ impl<'a> Steps<'a> {
     ) -> Result<Steps<'a>, Fail>
         requires { IsFaultlessWith (names_of known) endpoints.now }
     {
-        if !serve_few(endpoints.channels.as_slice()) {
-            panic!(rt; "too many roles");
-        }
-        if endpoints.processes.len() > 1_000_000 {
+        if !are_few(endpoints) {
             panic!(rt; "too many processes");
         }
         let network = Network::new(alloc, endpoints, capacity)?;
         Ok(Steps {
-            alloc,
             endpoints,
             network,
             left: 1_000_000,
@@ -95,35 +79,40 @@ impl<'a> Steps<'a> {
 
     // One step of a process.
     #[tactic(auto, using(crate::proofs::Kept::goes_on))]
-    fn go(&mut self, rt: &impl Abort, pid: u32) -> Result<Step, Fail>
-        requires { pid < length self.old.state.machines }
+    fn go(&mut self, rt: &impl Abort, hosts: &HostTable, pid: u32) -> Step
+        requires known { functions_of hosts.now ≡ known }
+        requires there { pid < length self.old.state.machines }
     {
         if self.left == 0 {
             panic!(rt; "too many steps");
         }
-        let hosts = functions(self.alloc)?;
-        let step = self.network.step(pid, &hosts);
-        drop(hosts);
+        let step = self.network.step(pid, hosts);
         self.left -= 1;
-        Ok(step)
+        step
     }
 
     // One step of a process of the beginning.
-    fn step(&mut self, rt: &impl Abort, pid: u32) -> Result<Step, Fail> {
+    fn step(&mut self, rt: &impl Abort, hosts: &HostTable, pid: u32) -> Step
+        requires { functions_of hosts.now ≡ known }
+    {
         if pid as usize >= self.endpoints.processes.len() {
             panic!(rt; "no process of the beginning");
         }
-        self.go(rt, pid)
+        self.go(rt, hosts, pid)
     }
 
-    /// Whether a process of the beginning waits for this cause, and those before it have ended.
-    pub fn waits(&mut self, rt: &impl Abort, pid: u32, why: Why) -> Result<bool, Fail> {
-        for before in 0..pid {
-            if self.step(rt, before)? != Step::Ended {
-                return Ok(false);
+    // Where no process can step: the first of the beginning that hasn't ended, and what it waits for.
+    fn stuck(&mut self, rt: &impl Abort, hosts: &HostTable) -> Closed
+        requires { functions_of hosts.now ≡ known }
+    {
+        for pid in 0..self.network.count() {
+            match self.step(rt, hosts, pid) {
+                Step::Ended => {}
+                Step::Waits(why) => return Closed::Stuck(pid, why),
+                _ => panic!(rt; "process {pid} can step"),
             }
         }
-        Ok(self.step(rt, pid)? == Step::Waits(why))
+        Closed::Ended
     }
 
     /// Goes on by the pick rule as `run_picked` does, to at most so many events more. Answers how that is closed,
@@ -131,11 +120,13 @@ impl<'a> Steps<'a> {
     pub fn finish(
         self,
         rt: &impl Abort,
+        hosts: &HostTable,
         seed: u32,
         more: u32,
-    ) -> Result<(Closed, Vec<Entry>), Fail> {
+    ) -> (Closed, Vec<Entry>)
+        requires { functions_of hosts.now ≡ known }
+    {
         let Steps {
-            alloc,
             endpoints: _,
             mut network,
             left,
@@ -144,49 +135,35 @@ impl<'a> Steps<'a> {
         if more > left || before > 1_000 || more > 1_000 {
             panic!(rt; "too many steps");
         }
-        let hosts = match functions(alloc) {
-            Ok(hosts) => hosts,
-            Err(fail) => {
-                drop(network);
-                return Err(fail);
-            }
-        };
-        let picked = network.run_picked(&hosts, u64::from(seed), before + u64::from(more));
-        drop(hosts);
-        let closed = closed_by(rt, picked);
-        Ok((closed, network.into_history()))
+        let picked = network.run_picked(hosts, u64::from(seed), before + u64::from(more));
+        (closed_by(rt, picked), network.into_history())
     }
 
     // One event by the pick rule, unless no process can step.
-    fn turn(&mut self, rt: &impl Abort, seed: u32) -> Result<bool, Fail> {
+    fn turn(&mut self, rt: &impl Abort, hosts: &HostTable, seed: u32) -> bool
+        requires { functions_of hosts.now ≡ known }
+    {
         let Some(pid) = self.network.pick(u64::from(seed)) else {
-            return Ok(false);
+            return false;
         };
-        let step = self.go(rt, pid)?;
+        let step = self.go(rt, hosts, pid);
         assert!(rt; step == Step::Did);
-        Ok(true)
+        true
     }
 
-    // How the run is closed now, where that doesn't show before the next event.
-    fn closed(&self) -> Closed {
-        if self.network.finished() {
-            Closed::Ended
-        } else {
-            Closed::Limit
-        }
-    }
-
-    /// Makes so many events as the definition of the scheduled run says, or as many as there are. Answers
-    /// how that is closed, and nothing where no process can step.
-    pub fn run(&mut self, rt: &impl Abort, seed: u32, steps: u32) -> Result<Option<Closed>, Fail> {
+    /// Makes so many events as the definition of the scheduled run says, `pick` and then `step`, or as many as
+    /// there are. Answers how that is closed.
+    pub fn run(&mut self, rt: &impl Abort, hosts: &HostTable, seed: u32, steps: u32) -> Closed
+        requires { functions_of hosts.now ≡ known }
+    {
         for _ in 0..steps {
             if self.network.finished() {
-                return Ok(Some(Closed::Ended));
+                return Closed::Ended;
             }
-            if !self.turn(rt, seed)? {
-                return Ok(None);
+            if !self.turn(rt, hosts, seed) {
+                return self.stuck(rt, hosts);
             }
         }
-        Ok(Some(self.closed()))
+        Closed::Limit
     }
 }

@@ -1,14 +1,5 @@
 //! The endpoint programs of the worked sources, and some that no source has.
 
-pub const NOTHING: &[u8] = b"endpoints 1;
-";
-
-pub const LABELS: &[u8] = b"endpoints 1;
-channel c (R, P);
-process r { join c[R](h); if true { pick h P ok; end } else { pick h P ko; end } }
-process p { join c[P](h); branch h R { ko { end } ok { end } } }
-";
-
 /// Nobody joins in the other role: it is stuck before its first event.
 pub const ALONE: &[u8] = b"endpoints 1;
 channel a (A, B);

@@ -3,7 +3,7 @@ use Rattle.net_core.specs.Views.{NetworkView}
 use Rattle.net_core.proofs.Runs.{picked_steps}
 use Rattle.running_tests.proofs.steps.Steps.turn.Goals as goal
 
-pub go-requires : goal.go-requires
-go-requires g c =
+pub go-step-requires-clause-there : goal.go-step-requires-clause-there
+go-step-requires-clause-there g c =
     let n = c.self.inside.network in
     subst (λ (v : NetworkView). c.in-Some.pid < length v.state.machines) c.self.view_is (picked_steps n.endpoints n.capacity n.state _ _ _ (sym c.in-Some.ensures.pick)).0
