@@ -14,8 +14,6 @@ use Rattle.chor_tree.specs.Names.{Scope, scope_of_main, scope_of_procedure, scop
 use Rattle.chor_semantics.specs.Choreography.{Starts, Choreography, Then, Ends}
 use Rattle.projection.specs.Projects.{Started, starts_in, starts_of, body_at}
 use Rattle.service_codes.specs.declared.starts.StartNode.{StartNode}
-use Rattle.service_codes.specs.declared.starts.Followers.{Followers}
-use Rattle.service_codes.specs.declared.starts.Followers.TheVariants.{Nothing, Next, Branches}
 
 -- no name of a file is at fault, where the host functions have some names
 pub record HasNamesResolved (f : File) : Type 0 where
@@ -23,11 +21,6 @@ pub record HasNamesResolved (f : File) : Type 0 where
   pub names : (x : Fault) → IsNameFault f hosts x → ⊥
 
 -- ---- nodes that stand in a body
-
-abbrev pub nodes_in : Followers → List NodeId
-nodes_in Nothing = []
-nodes_in (Next next) = next ∷ []
-nodes_in (Branches first second) = first ∷ second ∷ []
 
 -- the node stands in main or in the body of a procedure, where these names are in scope
 pub data Stands (f : File) : Scope → NodeId → Type 0 where

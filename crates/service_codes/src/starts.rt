@@ -1,12 +1,11 @@
 //! The starts of a file.
 
 ghost use Rattle.std.specs.Prelude.{◌≡◌, ◌++◌, IfOk, OnOk};
-ghost use Rattle.chor_tree.specs.Children.{children_of};
 ghost use Rattle.projection.specs.Projects.{starts_of, is_some_start};
-ghost use Rattle.service_codes.specs.Starts.{nodes_in, IsStanding, start_at, AddsAllStarts, AreAllStarts, AreStartsOf};
+ghost use Rattle.service_codes.specs.Starts.{IsStanding, start_at, AddsAllStarts, AreAllStarts, AreStartsOf};
 
 use chor_base::{List, Memory, NameId};
-use chor_tree::{File, Form, NodeId};
+use chor_tree::{File, Following, Form, NodeId, what_follows};
 use std::alloc::Global;
 
 /// A start: its channel, and the node where it stands.
@@ -74,10 +73,10 @@ fn put_starts(file: &File, id: NodeId, starts: &mut List<StartNode>) -> Result<(
 {
     let node = file.tree.nodes.at(id.0 as usize);
     put_start(&node.form, id, starts)?;
-    match followers_of(&node.form) {
-        Followers::Nothing => Ok(()),
-        Followers::Next(next) => put_starts(file, next, starts),
-        Followers::Branches(first, second) => {
+    match what_follows(&node.form) {
+        Following::Nothing => Ok(()),
+        Following::One(next) => put_starts(file, next, starts),
+        Following::Either(first, second) => {
             put_starts(file, first, starts)?;
             put_starts(file, second, starts)
         }
@@ -94,29 +93,5 @@ fn put_start(form: &Form, id: NodeId, starts: &mut List<StartNode>) -> Result<()
             node: id,
         }),
         _ => Ok(()),
-    }
-}
-
-// The nodes that follow a node.
-#[derive(Clone, Copy, PartialEq, Eq)]
-enum Followers {
-    Nothing,
-    Next(NodeId),
-    Branches(NodeId, NodeId),
-}
-
-fn followers_of(form: &Form) -> Followers
-    ensures { nodes_in result ≡ children_of form.now }
-{
-    match form {
-        Form::Start { next, .. }
-        | Form::Value { next, .. }
-        | Form::Label { next, .. }
-        | Form::Give { next, .. }
-        | Form::Set { next, .. }
-        | Form::Host { next, .. }
-        | Form::Show { next, .. } => Followers::Next(*next),
-        Form::If { first, second, .. } => Followers::Branches(*first, *second),
-        Form::Call { .. } | Form::End => Followers::Nothing,
     }
 }
