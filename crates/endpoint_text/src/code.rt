@@ -15,6 +15,7 @@ use crate::arms::{Arm, ascending_arms};
 use crate::words::{put_role, put_sessions, put_words};
 use chor_base::{Expr, List, Memory, NameId, put_bytes, put_name};
 use chor_lexer::print_expr;
+use endpoint_code::above::next_of;
 use endpoint_code::{CodeId, CodeNode, Endpoints};
 use std::alloc::Global;
 
@@ -123,25 +124,6 @@ fn node_at(e: &Endpoints, id: CodeId) -> &CodeNode
     ensures below { All (λ c. c.0 < id.0) (children_of result.now) }
 {
     e.code.nodes.at(id.0 as usize)
-}
-
-// The node after an action.
-fn next_of(node: &CodeNode) -> Option<CodeId>
-    ensures { result ≡ next_of node.now }
-{
-    use CodeNode::*;
-    match node {
-        Join(_, _, _, next)
-        | Send(_, _, _, next)
-        | Recv(_, _, _, next)
-        | Pick(_, _, _, next)
-        | Throw(_, _, _, next)
-        | Catch(_, _, _, next)
-        | Set(_, _, next)
-        | Show(_, next)
-        | Host(_, _, _, _, next) => Some(*next),
-        Branch(..) | If(..) | Call(..) | End => None,
-    }
 }
 
 // Appends an action. Of another node it appends nothing.
