@@ -13,10 +13,9 @@ use std::alloc::Global;
 pub fn protocols(alloc: Global, words: &Words) -> Result<List<Protocol>, Memory>
     ensures { IfOk result (λ protocols. protocols ≡ round (named_in words.now.names) ∷ fork (named_in words.now.names) ∷ []) }
 {
-    let mut protocols = List::new(alloc);
-    protocols.push(round(alloc, words)?)?;
-    protocols.push(fork(alloc, words)?)?;
-    Ok(protocols)
+    let round = round(alloc, words)?;
+    let fork = fork(alloc, words)?;
+    Ok(List::from_vec(vec![in alloc; round, fork]?))
 }
 
 // Three roles send a number round.
@@ -24,15 +23,17 @@ fn round(alloc: Global, words: &Words) -> Result<Protocol, Memory>
     ensures { IfOk result (λ protocol. protocol ≡ round (named_in words.now.names)) }
 {
     let roles = [words.at(b"A"), words.at(b"B"), words.at(b"C")];
-    let mut states = List::new(alloc);
-    states.push(passes(words, b"s", b"A", b"B", b"t"))?;
-    states.push(passes(words, b"t", b"B", b"C", b"u"))?;
-    states.push(passes(words, b"u", b"C", b"A", b"v"))?;
-    states.push(stops(words, b"v"))?;
+    let roles = List::from_slice(alloc, roles.as_slice())?;
+    let states = vec![in alloc;
+        passes(words, b"s", b"A", b"B", b"t"),
+        passes(words, b"t", b"B", b"C", b"u"),
+        passes(words, b"u", b"C", b"A", b"v"),
+        stops(words, b"v"),
+    ]?;
     Ok(Protocol {
         name: words.at(b"Round"),
-        roles: List::from_slice(alloc, roles.as_slice())?,
-        states,
+        roles,
+        states: List::from_vec(states),
     })
 }
 
@@ -50,17 +51,17 @@ fn fork(alloc: Global, words: &Words) -> Result<Protocol, Memory>
         label: words.at(b"less"),
         next,
     };
+    let roles = List::from_slice(alloc, roles.as_slice())?;
     let arms = List::from_slice(alloc, [more, less].as_slice())?;
-    let mut states = List::new(alloc);
-    states.push(State {
+    let first = State {
         name: words.at(b"s"),
         step: ProtoStep::Choice { from, to, arms },
-    })?;
-    states.push(stops(words, b"t"))?;
+    };
+    let states = vec![in alloc; first, stops(words, b"t")]?;
     Ok(Protocol {
         name: words.at(b"Fork"),
-        roles: List::from_slice(alloc, roles.as_slice())?,
-        states,
+        roles,
+        states: List::from_vec(states),
     })
 }
 
@@ -94,18 +95,17 @@ pub fn services(alloc: Global, words: &Words) -> Result<List<Service>, Memory>
     ensures { IfOk result (λ services. services ≡ round_service (named_in words.now.names) ∷ fork_service (named_in words.now.names) ∷ []) }
 {
     let active = [words.at(b"A"), words.at(b"B")];
-    let mut services = List::new(alloc);
-    services.push(Service {
+    let round = Service {
         name: words.at(b"a"),
         protocol: words.at(b"Round"),
         active: List::from_slice(alloc, active.as_slice())?,
         serve: List::from_slice(alloc, [words.at(b"C")].as_slice())?,
-    })?;
-    services.push(Service {
+    };
+    let fork = Service {
         name: words.at(b"b"),
         protocol: words.at(b"Fork"),
         active: List::from_slice(alloc, active.as_slice())?,
         serve: List::new(alloc),
-    })?;
-    Ok(services)
+    };
+    Ok(List::from_vec(vec![in alloc; round, fork]?))
 }

@@ -87,14 +87,13 @@ fn parameters(alloc: Global, words: &Words, number: u32) -> Result<List<ProcPara
     if number % 2 == 0 {
         vars.push((words.at(b"z"), Sort::Int))?;
     }
-    let mut params = List::new(alloc);
-    params.push(ProcParam {
+    let p = ProcParam {
         name: words.at(b"p"),
         vars,
-    })?;
-    params.push(ProcParam {
+    };
+    let q = ProcParam {
         name: words.at(b"q"),
         vars: List::new(alloc),
-    })?;
-    Ok(params)
+    };
+    Ok(List::from_vec(vec![in alloc; p, q]?))
 }

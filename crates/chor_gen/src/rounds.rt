@@ -16,7 +16,7 @@ use chor_tree::{Form, Named, Node, NodeId, Part, Tree};
 use std::alloc::Global;
 
 // A round, and how many there are.
-#[derive(Clone, Copy, PartialEq, Eq)]
+#[derive(Clone, Copy)]
 pub struct Round {
     pub number: u32,
     pub count: u32,
