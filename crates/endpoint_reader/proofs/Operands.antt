@@ -1,5 +1,5 @@
 -- Operands of expressions, by their first tokens.
-use Rattle.std.proofs.Common.{◌≡◌, ◌<◌, ◌-◌, inl, inr, ℕ, Bool, true, false, ◌||◌, List, [], ◌∷◌, Some, codes, refl, sym, ap, ◌∙◌, subst}
+use Rattle.std.proofs.Common.{◌≡◌, ◌<◌, ◌-◌, inl, inr, ℕ, Bool, true, false, ◌||◌, List, [], ◌∷◌, Option, Some, None, IfNone, codes, refl, sym, ap, ◌∙◌, subst}
 use Rattle.chor_base.specs.declared.rule.Rule.TheVariants.{E4}
 use Rattle.chor_base.specs.declared.rule.Denied.{Denied}
 use Rattle.chor_base.specs.declared.expr.UnOp.{UnOp}
@@ -114,7 +114,7 @@ none_or : (a b : Bool) → (a || b) ≡ false → (a ≡ false) × (b ≡ false)
 none_or true b h = absurd cc
 none_or false b h = (refl, h)
 
-lacks : {ts us : List Lexeme} {l : Lexeme} {c : Class} → ts ≡ l ∷ us → is_of c l.symbol ≡ false → Lacks c ts
+pub lacks : {ts us : List Lexeme} {l : Lexeme} {c : Class} → ts ≡ l ∷ us → is_of c l.symbol ≡ false → Lacks c ts
 lacks {ts} {us} {l} {c} p i = record { by = λ m vs e. subst (λ (t : Lexeme). is_of c t.symbol ≡ false) (this_token rules p e) i }
 
 pub no_operand : {ts us : List Lexeme} {l : Lexeme} → ts ≡ l ∷ us → is_of (a_mark sign.Minus) l.symbol ≡ false → is_of (a_mark sign.Not) l.symbol ≡ false → is_of (a_mark sign.OpenParen) l.symbol ≡ false
@@ -129,3 +129,7 @@ no_operand {ts} {us} {l} p a b c d =
 
 pub opens_as : {input : Input} {o q : Opening} {ts us : List Lexeme} → o ≡ q → Opens input o ts us → Opens input q ts us
 opens_as {input} {o} {q} {ts} {us} e h = subst (λ (x : Opening). Opens input x ts us) e h
+
+pub on_none_always : {X : Type 0} {P : Type 0} (r : Option X) → P → IfNone r P
+on_none_always (Some x) p = tt
+on_none_always None p = p

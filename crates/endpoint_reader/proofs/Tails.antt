@@ -1,12 +1,15 @@
 -- Tails by their first words.
-use Rattle.std.proofs.Common.{◌≡◌, ◌-◌, ◌<◌, ℕ, inl, inr, true, false, List, Some, length, codes, refl, sym, ap, subst, arith}
+use Rattle.std.proofs.Common.{◌≡◌, ◌-◌, ◌<◌, ℕ, inl, inr, true, false, List, ◌∷◌, Some, length, codes, refl, sym, ap, ◌∙◌, subst, arith}
+use Rattle.std.specs.Prelude.{bytes_eq}
+use Rattle.std.proofs.lemmas.Slice.Eq.{bytes_eq-Decides}
+use Rattle.chor_base.specs.declared.rule.Place.{Place}
 use Rattle.chor_base.specs.declared.rule.Rule.TheVariants.{E4}
 use Rattle.chor_base.specs.declared.rule.Denied.{Denied}
 use Rattle.chor_base.specs.declared.rule.Denied.TheVariants.{Memory}
-use Rattle.chor_lexer.specs.Lexeme.{Lexeme}
-use Rattle.grammar_laws.specs.Classes.{a_word, a_kept_word}
+use Rattle.chor_lexer.specs.Lexeme.{Symbol, word, number, text, mark, last, Lexeme}
+use Rattle.grammar_laws.specs.Classes.{a_word, a_kept_word, is_of}
 use Rattle.grammar_laws.specs.Grammars.{within, is_full}
-use Rattle.grammar_laws.specs.Readers.{Reads, Halts, Leads, HasOne, Stands, Lacks, Begins, Misses, Refuses, Tells}
+use Rattle.grammar_laws.specs.Readers.{Reads, Halts, Leads, HasOne, Stands, Begins, Misses, Refuses, Tells}
 use Rattle.grammar_laws.proofs.Reading.{past, reads_past, leads_on, after_reads, token_comes, token_misses, token_reads, comes_then, comes_first, comes_second, misses_then, misses_both, misses_within, first_of_two, second_of_two, begun_by, begins, has_room, full_halts, missed, memory_halts, other_stands}
 use Rattle.endpoint_grammar.specs.Written.{Body, Ends}
 use Rattle.endpoint_grammar.specs.Grammar.{tail, branch, conditional, signature}
@@ -17,12 +20,45 @@ use Rattle.endpoint_reader.specs.declared.lines.Line.{Line}
 use Rattle.endpoint_reader.specs.declared.tail.TailWord.{TailWord}
 use Rattle.endpoint_reader.specs.declared.tail.TailWord.TheVariants as begun
 use Rattle.endpoint_reader.specs.Tokens.{from}
-use Rattle.endpoint_reader.specs.Tails.{TailStands}
+use Rattle.endpoint_reader.specs.Tails.{kept_word, TailStands, IsTailWord, IsNoTailWord}
+use Rattle.endpoint_reader.proofs.Operands.{lacks}
 use Rattle.endpoint_reader.specs.Lines.{body_at}
 use Rattle.endpoint_reader.specs.Bodies.{IsEndLine, branch_body, conditional_body, call_body}
 
-pub no_tail : {ts : List Lexeme} (p : ℕ) → Lacks (a_word (codes "branch")) ts → Lacks (a_word (codes "if")) ts → Lacks (a_word (codes "end")) ts → Lacks (a_kept_word (codes "call")) ts → Misses rules (tail p) ts
-no_tail p b i e c = misses_both _ (misses_then _ (token_misses _ b)) (misses_both _ (misses_then _ (token_misses _ i)) (misses_both _ (misses_then _ (token_misses _ c)) (token_misses _ e)))
+same_bytes : (w v : List ℕ) → bytes_eq w v ≡ true → w ≡ v
+same_bytes w v h = (bytes_eq-Decides w v).0 h
+
+clash : false ≡ true → ⊥
+clash h = cc
+
+-- a word that is kept is a word
+said_word : (w : List ℕ) (s : Symbol) → is_of (a_word w) s ≡ true → s ≡ word w
+said_word w (word v) h = ap word (sym (same_bytes w v h))
+said_word w (number n) h = absurd (clash h)
+said_word w (text t) h = absurd (clash h)
+said_word w (mark m) h = absurd (clash h)
+said_word w last h = absurd (clash h)
+
+kept_lacks : (w : List ℕ) (s : Symbol) → is_of (a_word w) s ≡ false → is_of (a_kept_word w) s ≡ false
+kept_lacks w (word v) h = h
+kept_lacks w (number n) h = refl
+kept_lacks w (text t) h = refl
+kept_lacks w (mark m) h = refl
+kept_lacks w last h = refl
+
+call_stands : {p : Place} {ts us : List Lexeme} (l : Lexeme) → ts ≡ l ∷ us → is_of (a_word (codes "call")) l.symbol ≡ true → l.place ≡ p → Stands (a_kept_word (codes "call")) (kept_word (codes "call") p) ts us
+call_stands {us = us} l e i q =
+    let s : l.symbol ≡ word (codes "call") = said_word (codes "call") l.symbol i in
+    record { parts = e ∙ (λ j. record { symbol = s j; place = q j } ∷ us); is = refl }
+
+pub tail_stands : {ts us : List Lexeme} (l : Lexeme) (w : TailWord) → ts ≡ l ∷ us → IsTailWord w l → TailStands w ts us
+tail_stands l begun.Branch e h = record { token = l; stands = record { parts = e; is = h } }
+tail_stands l begun.If e h = record { token = l; stands = record { parts = e; is = h } }
+tail_stands l (begun.Call p) e h = call_stands l e h.0 h.1
+tail_stands l begun.End e h = record { token = l; stands = record { parts = e; is = h } }
+
+pub no_tail : {ts us : List Lexeme} {l : Lexeme} (p : ℕ) → ts ≡ l ∷ us → IsNoTailWord l.symbol → Misses rules (tail p) ts
+no_tail {l = l} p e n = misses_both _ (misses_then _ (token_misses _ (lacks e n.branch))) (misses_both _ (misses_then _ (token_misses _ (lacks e n.conditional))) (misses_both _ (misses_then _ (token_misses _ (lacks e (kept_lacks (codes "call") l.symbol n.call)))) (token_misses _ (lacks e n.end))))
 
 tail_begins : {p : ℕ} (ts us : List Lexeme) (w : TailWord) → TailStands w ts us → Begins rules (tail p) ts
 tail_begins ts us begun.Branch h = begun_by _ (comes_first _ (comes_then _ (token_comes _ h.stands)))

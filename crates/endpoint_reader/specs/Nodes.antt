@@ -2,6 +2,7 @@
 use Rattle.std.specs.Prelude.{ℕ, List, Some, codes}
 use Rattle.chor_base.specs.Expr.{term_of}
 use Rattle.chor_base.specs.declared.rule.Rule.TheVariants.{E4}
+use Rattle.chor_lexer.specs.Lexeme.{Lexeme}
 use Rattle.grammar_laws.specs.Grammars.{within}
 use Rattle.grammar_laws.specs.Readers.{Tells}
 use Rattle.endpoint_grammar.specs.Written.{Deed, Joins, Sends, Receives, Selects, Gives, Gains, Sets, Shows, Asks}
@@ -10,6 +11,8 @@ use Rattle.endpoint_grammar.specs.Values.{rules, Derived, phrase, deed}
 use Rattle.endpoint_reader.specs.declared.input.Input.{Input}
 use Rattle.endpoint_reader.specs.declared.node.Action.{Action}
 use Rattle.endpoint_reader.specs.declared.node.Action.TheVariants as action
+use Rattle.endpoint_reader.specs.declared.node.Exchange.{Exchange}
+use Rattle.endpoint_reader.specs.declared.node.Exchange.TheVariants as exchange
 use Rattle.endpoint_reader.specs.declared.node.NodeWord.{NodeWord}
 use Rattle.endpoint_reader.specs.declared.node.NodeWord.TheVariants as begun
 use Rattle.endpoint_reader.specs.Tokens.{from, named, written}
@@ -26,13 +29,16 @@ deed_of i (action.Set x e) = Sets (named i x) (written i (term_of e))
 deed_of i (action.Show e) = Shows (written i (term_of e))
 deed_of i (action.Host x f a b) = Asks (named i x) (named i f) (written i (term_of a)) (written i (term_of b))
 
+abbrev pub exchange_word : Exchange → List ℕ
+exchange_word exchange.Recv = codes "recv"
+exchange_word exchange.Pick = codes "pick"
+exchange_word exchange.Give = codes "give"
+exchange_word exchange.Gain = codes "gain"
+
 abbrev pub first_word : NodeWord → List ℕ
 first_word begun.Join = codes "join"
 first_word begun.Send = codes "send"
-first_word begun.Recv = codes "recv"
-first_word begun.Pick = codes "pick"
-first_word begun.Give = codes "give"
-first_word begun.Gain = codes "gain"
+first_word (begun.Exchange w) = exchange_word w
 first_word begun.Set = codes "set"
 first_word begun.Show = codes "show"
 first_word begun.Host = codes "host"
@@ -41,21 +47,22 @@ first_word begun.Host = codes "host"
 abbrev pub rest_of : NodeWord → Part
 rest_of begun.Join = join
 rest_of begun.Send = send
-rest_of begun.Recv = three_names
-rest_of begun.Pick = three_names
-rest_of begun.Give = three_names
-rest_of begun.Gain = three_names
+rest_of (begun.Exchange w) = three_names
 rest_of begun.Set = set
 rest_of begun.Show = expr
 rest_of begun.Host = host
 
+-- a node by its three names
+abbrev pub exchanged : Exchange → Lexeme → Lexeme → Lexeme → Deed
+exchanged exchange.Recv k a x = Receives k a x
+exchanged exchange.Pick k b l = Selects k b l
+exchanged exchange.Give k b h = Gives k b h
+exchanged exchange.Gain k a h = Gains k a h
+
 abbrev pub deed_by : (w : NodeWord) → Derived (rest_of w) → Deed
 deed_by begun.Join ((c, (m, (r, k))), (o, (s, p))) = Joins c r s
 deed_by begun.Send ((k, b), e) = Sends k b (phrase e)
-deed_by begun.Recv (k, (a, x)) = Receives k a x
-deed_by begun.Pick (k, (b, l)) = Selects k b l
-deed_by begun.Give (k, (b, h)) = Gives k b h
-deed_by begun.Gain (k, (a, h)) = Gains k a h
+deed_by (begun.Exchange w) (k, (a, x)) = exchanged w k a x
 deed_by begun.Set (x, e) = Sets x (phrase e)
 deed_by begun.Show e = Shows (phrase e)
 deed_by begun.Host ((x, f), (o, (a, (m, (b, p))))) = Asks x f (phrase a) (phrase b)

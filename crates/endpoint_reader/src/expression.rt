@@ -20,7 +20,7 @@ use std::alloc::Global;
 const LONGEST: usize = 255;
 
 /// What an expression is: operands joined by operators of one strength.
-#[derive(Clone, Copy, PartialEq, Eq)]
+#[derive(Clone, Copy)]
 pub enum Level {
     /// Operands joined by `||`.
     Or,

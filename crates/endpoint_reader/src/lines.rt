@@ -55,12 +55,19 @@ impl Lines {
         ensures id { IfOk result (λ id. id.0 ≡ length self.old.items) }
         ensures err { OnErr result (self.new ≡ self.old) }
     {
+        let id = self.next_id()?;
+        self.items.push(line)?;
+        Ok(id)
+    }
+
+    // The number of the line that is added next.
+    fn next_id(&self) -> Result<LineId, Memory>
+        ensures { IfOk result (λ id. id.0 ≡ length self.now.items) }
+    {
         let count = self.items.len();
         if count >= u32::MAX as usize {
             return Err(Memory);
         }
-        let number = count as u32;
-        self.items.push(line)?;
-        Ok(LineId(number))
+        Ok(LineId(count as u32))
     }
 }

@@ -24,7 +24,7 @@ pub struct Two {
 }
 
 /// Three names, one after another.
-#[derive(Clone, Copy, PartialEq, Eq)]
+#[derive(Clone, Copy)]
 pub struct Three {
     pub first: Named,
     pub second: Named,

@@ -1,21 +1,25 @@
 //! Nodes of a body.
 
-ghost use Rattle.std.specs.Prelude.{◌≡◌, IfOk, IfErr, IfSome, IfNone, OnErr, Some};
+ghost use Rattle.std.specs.Prelude.{◌≡◌, IfOk, IfErr, IfSome, IfNone, OnErr, Some, true, false};
 ghost use Rattle.chor_base.specs.declared.rule.Rule.TheVariants.{E4};
-ghost use Rattle.grammar_laws.specs.Classes.{a_word};
+ghost use Rattle.grammar_laws.specs.Classes.{a_word, is_of};
 ghost use Rattle.grammar_laws.specs.Grammars.{within};
 ghost use Rattle.grammar_laws.specs.Readers.{Halts, Tells, Begins, Misses, HasOne};
-ghost use Rattle.endpoint_grammar.specs.Grammar.{node, join as join_part, send, set, host, expr as an_expr};
+ghost use Rattle.endpoint_grammar.specs.Grammar.{node, join as join_part, send, three_names, set, host, expr as an_expr};
 ghost use Rattle.endpoint_grammar.specs.Values.{rules, deed};
-ghost use Rattle.endpoint_reader.specs.Tokens.{from};
-ghost use Rattle.endpoint_reader.specs.Known.{IsActionThere};
-ghost use Rattle.endpoint_reader.specs.Nodes.{IsNode, deed_of, first_word, rest_of, deed_by};
+ghost use Rattle.endpoint_reader.specs.declared.input.Input.{Input as AnyInput};
+ghost use Rattle.endpoint_reader.specs.declared.node.NodeWord.{NodeWord as AnyWord};
+ghost use Rattle.endpoint_reader.specs.declared.node.NodeWord.TheVariants.{Exchange as ExchangeWord};
+ghost use Rattle.endpoint_reader.specs.declared.node.Exchange.{Exchange as AnyExchange};
+ghost use Rattle.endpoint_reader.specs.Tokens.{from, symbol_of, named};
+ghost use Rattle.endpoint_reader.specs.Known.{IsActionThere, AreThreeThere};
+ghost use Rattle.endpoint_reader.specs.Nodes.{IsNode, deed_of, exchange_word, first_word, rest_of, exchanged, deed_by};
 
 use crate::expression::read_expression;
 use crate::input::{Input, Named};
-use crate::lists::{read_role_of_channel, read_three_names, read_two_names};
+use crate::lists::{Three, read_role_of_channel, read_three_names, read_two_names};
 use chor_base::{Denied, Expr};
-use chor_lexer::Mark;
+use chor_lexer::{Kind, Mark};
 use std::alloc::Global;
 
 /// What a process does before it goes on in one way.
@@ -33,17 +37,23 @@ pub enum Action {
 }
 
 /// The word with which a node begins.
-#[derive(Clone, Copy, PartialEq, Eq)]
+#[derive(Clone, Copy)]
 pub enum NodeWord {
     Join,
     Send,
+    Exchange(Exchange),
+    Set,
+    Show,
+    Host,
+}
+
+/// The word with which a node of three names begins.
+#[derive(Clone, Copy)]
+pub enum Exchange {
     Recv,
     Pick,
     Give,
     Gain,
-    Set,
-    Show,
-    Host,
 }
 
 // A node, if one begins here, and the place after it; a path of nodes has room for so many more.
@@ -74,34 +84,55 @@ fn node_word(input: &Input, at: usize) -> Option<(NodeWord, usize)>
     ensures found { IfSome result (λ x. HasOne (a_word (first_word x.0)) (from input.now at) (from input.now x.1)) }
     ensures none { IfNone result (Misses rules node (from input.now at)) }
 {
-    if let Some(after) = input.after_word(at, b"join") {
-        return Some((NodeWord::Join, after));
+    let token = input.token_at(at)?;
+    let word = word_of(input, token.kind)?;
+    Some((word, at + 1))
+}
+
+// The word with which a node begins that a token of this kind is.
+fn word_of(input: &Input, kind: Kind) -> Option<NodeWord>
+    ensures found { IfSome result (λ w. is_of (a_word (first_word w)) (symbol_of input.now kind) ≡ true) }
+    ensures none { IfNone result ((w : AnyWord) → is_of (a_word (first_word w)) (symbol_of input.now kind) ≡ false) }
+{
+    if input.is_word(kind, b"join") {
+        return Some(NodeWord::Join);
     }
-    if let Some(after) = input.after_word(at, b"send") {
-        return Some((NodeWord::Send, after));
+    if input.is_word(kind, b"send") {
+        return Some(NodeWord::Send);
     }
-    if let Some(after) = input.after_word(at, b"recv") {
-        return Some((NodeWord::Recv, after));
+    if let Some(exchange) = exchange_of(input, kind) {
+        return Some(NodeWord::Exchange(exchange));
     }
-    if let Some(after) = input.after_word(at, b"pick") {
-        return Some((NodeWord::Pick, after));
+    if input.is_word(kind, b"set") {
+        return Some(NodeWord::Set);
     }
-    if let Some(after) = input.after_word(at, b"give") {
-        return Some((NodeWord::Give, after));
+    if input.is_word(kind, b"show") {
+        return Some(NodeWord::Show);
     }
-    if let Some(after) = input.after_word(at, b"gain") {
-        return Some((NodeWord::Gain, after));
+    if input.is_word(kind, b"host") {
+        return Some(NodeWord::Host);
     }
-    if let Some(after) = input.after_word(at, b"set") {
-        return Some((NodeWord::Set, after));
+    None
+}
+
+// The word with which a node of three names begins that a token of this kind is.
+fn exchange_of(input: &Input, kind: Kind) -> Option<Exchange>
+    ensures found { IfSome result (λ w. is_of (a_word (exchange_word w)) (symbol_of input.now kind) ≡ true) }
+    ensures none { IfNone result ((w : AnyExchange) → is_of (a_word (exchange_word w)) (symbol_of input.now kind) ≡ false) }
+{
+    if input.is_word(kind, b"recv") {
+        return Some(Exchange::Recv);
     }
-    if let Some(after) = input.after_word(at, b"show") {
-        return Some((NodeWord::Show, after));
+    if input.is_word(kind, b"pick") {
+        return Some(Exchange::Pick);
     }
-    match input.after_word(at, b"host") {
-        Some(after) => Some((NodeWord::Host, after)),
-        None => None,
+    if input.is_word(kind, b"give") {
+        return Some(Exchange::Give);
     }
+    if input.is_word(kind, b"gain") {
+        return Some(Exchange::Gain);
+    }
+    None
 }
 
 // A node after its first word.
@@ -118,25 +149,33 @@ fn read_action(
     match word {
         NodeWord::Join => read_join(input, at),
         NodeWord::Send => read_send(alloc, input, at),
-        NodeWord::Recv => {
-            let (names, after) = read_three_names(input, at)?;
-            Ok((Action::Recv(names.first, names.second, names.third), after))
-        }
-        NodeWord::Pick => {
-            let (names, after) = read_three_names(input, at)?;
-            Ok((Action::Pick(names.first, names.second, names.third), after))
-        }
-        NodeWord::Give => {
-            let (names, after) = read_three_names(input, at)?;
-            Ok((Action::Give(names.first, names.second, names.third), after))
-        }
-        NodeWord::Gain => {
-            let (names, after) = read_three_names(input, at)?;
-            Ok((Action::Gain(names.first, names.second, names.third), after))
-        }
+        NodeWord::Exchange(exchange) => read_exchange(input, exchange, at),
         NodeWord::Set => read_set(alloc, input, at),
         NodeWord::Show => read_show(alloc, input, at),
         NodeWord::Host => read_host(alloc, input, at),
+    }
+}
+
+// NAME NAME NAME
+fn read_exchange(input: &Input, word: Exchange, at: usize) -> Result<(Action, usize), Denied>
+    ensures reads { IfOk result (λ x. Tells rules three_names (deed_by (ExchangeWord word)) (from input.now at) (deed_of input.now x.0) (from input.now x.1)) }
+    ensures known { IfOk result (λ x. IsActionThere input.now x.0) }
+    ensures halts { IfErr result (Halts rules three_names (from input.now at)) }
+{
+    let (names, after) = read_three_names(input, at)?;
+    Ok((action_of(word, names), after))
+}
+
+// The node that has these names after its first word.
+fn action_of(word: Exchange, names: Three) -> Action
+    ensures deed { (i : AnyInput) → deed_of i result ≡ exchanged word (named i names.first) (named i names.second) (named i names.third) }
+    ensures known { (i : AnyInput) → AreThreeThere i names → IsActionThere i result }
+{
+    match word {
+        Exchange::Recv => Action::Recv(names.first, names.second, names.third),
+        Exchange::Pick => Action::Pick(names.first, names.second, names.third),
+        Exchange::Give => Action::Give(names.first, names.second, names.third),
+        Exchange::Gain => Action::Gain(names.first, names.second, names.third),
     }
 }
 
