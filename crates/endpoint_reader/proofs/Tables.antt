@@ -1,5 +1,5 @@
 -- The bodies of a table of lines, when lines are added.
-use Rattle.std.proofs.Common.{◌≡◌, ◌<◌, List, [], ◌∷◌, ◌++◌, length, length-append, ap, ◌∙◌, sym, append_assoc, arith}
+use Rattle.std.proofs.Common.{◌≡◌, ◌<◌, ℕ, Result, Ok, Err, IfOk, OnOk, List, [], ◌∷◌, ◌++◌, length, length-append, ap, ◌∙◌, sym, append_assoc, arith}
 use Rattle.std.proofs.lemmas.List.{append-nil}
 use Rattle.node_table.proofs.Tables.{tree_stays, tree_pushed}
 use Rattle.endpoint_grammar.specs.Written.{Ends}
@@ -7,7 +7,9 @@ use Rattle.endpoint_reader.specs.declared.input.Input.{Input}
 use Rattle.endpoint_reader.specs.declared.lines.LineId.{LineId}
 use Rattle.endpoint_reader.specs.declared.lines.Line.{Line}
 use Rattle.endpoint_reader.specs.Lines.{line_body, bodies_of, body_at}
-use Rattle.endpoint_reader.specs.Bodies.{Grows}
+use Rattle.chor_base.specs.declared.rule.Denied.{Denied}
+use Rattle.endpoint_reader.specs.Known.{AreLinesThere}
+use Rattle.endpoint_reader.specs.Bodies.{Grows, Made}
 
 pub body_at-kept : (i : Input) (old new more : List Line) (id : LineId) → new ≡ old ++ more → id.0 < length old → body_at i new id ≡ body_at i old id
 body_at-kept i old new more id e h = tree_stays (line_body i) Ends old new more id.0 e h
@@ -37,3 +39,13 @@ body_stays {old} {new} {id} i g lt = body_at-kept i old new g.more id g.is lt
 
 pub body_pushed : {new : List Line} {id : LineId} (i : Input) (old : List Line) (l : Line) → new ≡ old ++ l ∷ [] → id.0 ≡ length old → body_at i new id ≡ line_body i (bodies_of i old) l
 body_pushed {new} {id} i old l e at = body_at-pushed i old new l id e at
+
+-- ---- what was made
+
+pub made_by : (P : List Line → LineId × ℕ → Type 0) (i : Input) (old new : List Line) (r : Result (LineId × ℕ) Denied) → IfOk r (P new) → IfOk r (λ x. x.0.0 < length new) → OnOk r (Grows old new) → OnOk r (AreLinesThere i new) → IfOk r (Made P i old new)
+made_by P i old new (Ok x) a b c d = record { reads = a; there = b; grows = c; known = d }
+made_by P i old new (Err e) a b c d = tt
+
+pub made_as : (P Q : List Line → LineId × ℕ → Type 0) (i : Input) (old new : List Line) (r : Result (LineId × ℕ) Denied) → ((x : LineId × ℕ) → P new x → Q new x) → IfOk r (Made P i old new) → IfOk r (Made Q i old new)
+made_as P Q i old new (Ok x) f m = record { reads = f x m.reads; there = m.there; grows = m.grows; known = m.known }
+made_as P Q i old new (Err e) f m = tt

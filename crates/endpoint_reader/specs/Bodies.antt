@@ -18,12 +18,20 @@ use Rattle.endpoint_reader.specs.declared.lines.Line.{Line}
 use Rattle.endpoint_reader.specs.Tokens.{from, named}
 use Rattle.endpoint_reader.specs.Nodes.{deed_of}
 use Rattle.endpoint_reader.specs.Lines.{body_in, arms_in, bodies_of, body_at, does_all, Going}
+use Rattle.endpoint_reader.specs.Known.{AreLinesThere}
 use Rattle.endpoint_reader.specs.Tails.{kept_word}
 
 -- lines were added after those that were there
 pub record Grows (old new : List Line) : Type 0 where
   pub more : List Line
   pub is : new ≡ old ++ more
+
+-- what holds of the table and of what was read, and the first line of it is there
+pub record Made (P : List Line → LineId × ℕ → Type 0) (i : Input) (old new : List Line) (x : LineId × ℕ) : Type 0 where
+  pub reads : P new x
+  pub there : x.0.0 < length new
+  pub grows : Grows old new
+  pub known : AreLinesThere i new
 
 -- a body was read, and it begins with this line of the table
 abbrev pub IsBody : Input → ℕ → ℕ → List Line → LineId × ℕ → Type 0

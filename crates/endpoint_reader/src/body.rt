@@ -13,7 +13,7 @@ ghost use Rattle.endpoint_reader.specs.Signatures.{two_of};
 ghost use Rattle.endpoint_reader.specs.Lines.{body_at, Going};
 ghost use Rattle.endpoint_reader.specs.Tails.{TailStands};
 ghost use Rattle.endpoint_reader.specs.Known.{AreTwoThere, AreActionsThere, AreLabelsThere, AreLinesThere};
-ghost use Rattle.endpoint_reader.specs.Bodies.{Grows, IsBody, IsTail, IsBranch, IsConditional, IsCall, BodyOpens, BodyCloses, IsEndLine, BranchOpens, body_before, offered};
+ghost use Rattle.endpoint_reader.specs.Bodies.{Grows, Made, IsBody, IsTail, IsBranch, IsConditional, IsCall, BodyOpens, BodyCloses, IsEndLine, BranchOpens, body_before, offered};
 
 use crate::expression::read_expression;
 use crate::input::Input;
@@ -149,10 +149,7 @@ fn read_tail(
     lines: &mut Lines,
 ) -> Result<(LineId, usize), Denied>
     requires { AreLinesThere input.now lines.old.items }
-    ensures reads { IfOk result (IsTail input.now room at lines.new.items) }
-    ensures there { IfOk result (λ x. x.0.0 < length lines.new.items) }
-    ensures grows { OnOk result (Grows lines.old.items lines.new.items) }
-    ensures known { OnOk result (AreLinesThere input.now lines.new.items) }
+    ensures made { IfOk result (Made (IsTail input.now room at) input.now lines.old.items lines.new.items) }
     ensures halts { IfErr result (Halts rules (within E4 (Some room) (tail (room - 1))) (from input.now at)) }
 {
     let (word, after) = begin_tail(input, at, room)?;
@@ -199,10 +196,7 @@ fn read_branch(
     lines: &mut Lines,
 ) -> Result<(LineId, usize), Denied>
     requires { AreLinesThere input.now lines.old.items }
-    ensures reads { IfOk result (IsBranch input.now room at lines.new.items) }
-    ensures there { IfOk result (λ x. x.0.0 < length lines.new.items) }
-    ensures grows { OnOk result (Grows lines.old.items lines.new.items) }
-    ensures known { OnOk result (AreLinesThere input.now lines.new.items) }
+    ensures made { IfOk result (Made (IsBranch input.now room at) input.now lines.old.items lines.new.items) }
     ensures halts { IfErr result (Halts rules (branch room) (from input.now at)) }
 {
     let (names, mut at) = open_branch(input, at, room)?;
@@ -262,10 +256,7 @@ fn read_conditional(
     lines: &mut Lines,
 ) -> Result<(LineId, usize), Denied>
     requires { AreLinesThere input.now lines.old.items }
-    ensures reads { IfOk result (IsConditional input.now room at lines.new.items) }
-    ensures there { IfOk result (λ x. x.0.0 < length lines.new.items) }
-    ensures grows { OnOk result (Grows lines.old.items lines.new.items) }
-    ensures known { OnOk result (AreLinesThere input.now lines.new.items) }
+    ensures made { IfOk result (Made (IsConditional input.now room at) input.now lines.old.items lines.new.items) }
     ensures halts { IfErr result (Halts rules (conditional room) (from input.now at)) }
 {
     let (expr, at) = read_expression(alloc, input, at)?;
@@ -285,10 +276,7 @@ fn read_call(
     lines: &mut Lines,
 ) -> Result<(LineId, usize), Denied>
     requires { AreLinesThere input.now lines.old.items }
-    ensures reads { IfOk result (IsCall input.now place at lines.new.items) }
-    ensures there { IfOk result (λ x. x.0.0 < length lines.new.items) }
-    ensures grows { OnOk result (Grows lines.old.items lines.new.items) }
-    ensures known { OnOk result (AreLinesThere input.now lines.new.items) }
+    ensures made { IfOk result (Made (IsCall input.now place at) input.now lines.old.items lines.new.items) }
     ensures halts { IfErr result (Halts rules signature (from input.now at)) }
 {
     let (signature, at) = read_signature(alloc, input, at)?;

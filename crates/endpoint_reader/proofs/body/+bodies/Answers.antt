@@ -3,7 +3,7 @@ use Rattle.grammar_laws.proofs.Passing.{passes, ok_map, err_map}
 use Rattle.grammar_laws.proofs.Progress.{read_shorter, read_no_longer}
 use Rattle.grammar_laws.proofs.Sequences.{then_halts, now_halts}
 use Rattle.endpoint_reader.proofs.Bodies.{tail_halts, body_open, body_told, ok_then}
-use Rattle.endpoint_reader.proofs.Tables.{grows_by, grows_on, last_there, no_fewer}
+use Rattle.endpoint_reader.proofs.Tables.{made_by, made_as, grows_by, grows_on, last_there, no_fewer}
 use Rattle.endpoint_reader.proofs.Tails.{stands_as, stands_shorter, branch_told, conditional_told, call_told, branch_halts, conditional_halts, call_halts, memory_tail, end_line}
 use Rattle.endpoint_reader.proofs.Arms.{arms_begin, label_halts, arm_halts, arms_there, arms_go, arms_end, arms_open, branch_is, branch_shorter, branch_halts_in, test_is, tests_pushed, both_inside}
 use Rattle.endpoint_reader.proofs.Known.{no_labels, one_more_label, one_more_line, still_there}
@@ -19,13 +19,13 @@ pub read_body-returns-in_err-last-clause-halts : goal.read_body-returns-in_err-l
 read_body-returns-in_err-last-clause-halts t c = let o = c.in_ok-begun.ensures.opens in passes _ _ c.from_residual-in_err-last.ensures.1 (tail_halts o.opens o.going o.all c.in_err-last.ensures.halts)
 
 pub read_body-returns-clause-reads : goal.read_body-returns-clause-reads
-read_body-returns-clause-reads t c = let o = c.in_ok-begun.ensures.opens in ok_map _ (λ x b. body_told o.opens o.going o.all c.in_ok-last.ensures.reads b.closes (b.body c.args.input.now)) c.close_body.ensures.closes
+read_body-returns-clause-reads t c = let o = c.in_ok-begun.ensures.opens in ok_map _ (λ x b. body_told o.opens o.going o.all c.in_ok-last.ensures.made.reads b.closes (b.body c.args.input.now)) c.close_body.ensures.closes
 
 pub read_body-returns-clause-grows : goal.read_body-returns-clause-grows
-read_body-returns-clause-grows t c = ok_then _ c.close_body.ensures.grows (λ g. grows_on c.in_ok-last.ensures.grows g)
+read_body-returns-clause-grows t c = ok_then _ c.close_body.ensures.grows (λ g. grows_on c.in_ok-last.ensures.made.grows g)
 
 pub read_body-returns-clause-halts : goal.read_body-returns-clause-halts
-read_body-returns-clause-halts t c = let o = c.in_ok-begun.ensures.opens in err_map _ (λ d h. body_open o.opens o.going o.all c.in_ok-last.ensures.reads h) c.close_body.ensures.halts
+read_body-returns-clause-halts t c = let o = c.in_ok-begun.ensures.opens in err_map _ (λ d h. body_open o.opens o.going o.all c.in_ok-last.ensures.made.reads h) c.close_body.ensures.halts
 
 pub read_tail-returns-in_err-word-clause-halts : goal.read_tail-returns-in_err-word-clause-halts
 read_tail-returns-in_err-word-clause-halts t c = passes _ _ c.from_residual.ensures.1 c.in_err-word.ensures.halts
@@ -36,26 +36,14 @@ read_tail-read_branch-requires t c = omega (arith, c.decreases, stands_shorter _
 pub read_tail-read_conditional-requires : goal.read_tail-read_conditional-requires
 read_tail-read_conditional-requires t c = omega (arith, c.decreases, stands_shorter _ _ _ c.in_ok-word.ensures.found)
 
-pub read_tail-returns-in-Branch-clause-reads : goal.read_tail-returns-in-Branch-clause-reads
-read_tail-returns-in-Branch-clause-reads t c = ok_map _ (λ x r. branch_told c.in_ok-word.ensures.room (stands_as _ _ c.in-Branch.is c.in_ok-word.ensures.found) r) c.read_branch.ensures.reads
-
 pub read_tail-returns-in-Branch-clause-halts : goal.read_tail-returns-in-Branch-clause-halts
 read_tail-returns-in-Branch-clause-halts t c = err_map _ (λ d r. branch_halts c.in_ok-word.ensures.room (stands_as _ _ c.in-Branch.is c.in_ok-word.ensures.found) r) c.read_branch.ensures.halts
-
-pub read_tail-returns-in-If-clause-reads : goal.read_tail-returns-in-If-clause-reads
-read_tail-returns-in-If-clause-reads t c = ok_map _ (λ x r. conditional_told c.in_ok-word.ensures.room (stands_as _ _ c.in-If.is c.in_ok-word.ensures.found) r) c.read_conditional.ensures.reads
 
 pub read_tail-returns-in-If-clause-halts : goal.read_tail-returns-in-If-clause-halts
 read_tail-returns-in-If-clause-halts t c = err_map _ (λ d r. conditional_halts c.in_ok-word.ensures.room (stands_as _ _ c.in-If.is c.in_ok-word.ensures.found) r) c.read_conditional.ensures.halts
 
-pub read_tail-returns-in-Call-clause-reads : goal.read_tail-returns-in-Call-clause-reads
-read_tail-returns-in-Call-clause-reads t c = ok_map _ (λ x r. call_told c.in_ok-word.ensures.room (stands_as _ _ c.in-Call.is c.in_ok-word.ensures.found) r) c.read_call.ensures.reads
-
 pub read_tail-returns-in-Call-clause-halts : goal.read_tail-returns-in-Call-clause-halts
 read_tail-returns-in-Call-clause-halts t c = err_map _ (λ d r. call_halts c.in_ok-word.ensures.room (stands_as _ _ c.in-Call.is c.in_ok-word.ensures.found) r) c.read_call.ensures.halts
-
-pub read_tail-returns-in-End-clause-reads : goal.read_tail-returns-in-End-clause-reads
-read_tail-returns-in-End-clause-reads t c = ok_map _ (λ x e. end_line c.args.input.now c.in_ok-word.ensures.room (stands_as _ _ c.in-End.is c.in_ok-word.ensures.found) e) c.push_end.ensures.ends
 
 pub read_tail-returns-in-End-clause-halts : goal.read_tail-returns-in-End-clause-halts
 read_tail-returns-in-End-clause-halts t c = err_map _ (λ d e. memory_tail e) c.push_end.ensures.memory
@@ -88,12 +76,6 @@ read_branch-arms-smaller t c = omega (arith, read_shorter refl c.in_ok-label.ens
 pub read_branch-close_branch-requires-clause-arms : goal.read_branch-close_branch-requires-clause-arms
 read_branch-close_branch-requires-clause-arms t c = arms_there c.arms.invariant.so_far.arms _ c.in_ok-label.ensures.reads c.in_ok-body.ensures.reads c.in_ok-body.ensures.there c.in_ok-body.ensures.grows c.in_ok-push.ensures.ok
 
-pub read_branch-returns-in_default-clause-reads : goal.read_branch-returns-in_default-clause-reads
-read_branch-returns-in_default-clause-reads t c = let a = c.arms.invariant.so_far in ok_map _ (λ x b. branch_is c.args.input.now _ _ a.opens (arms_end a.arms _ c.in_ok-label.ensures.reads c.in_ok-body.ensures.reads c.in_ok-body.ensures.there c.in_ok-body.ensures.grows c.in_ok-push.ensures.ok c.in_default.ensures.none b.closes) (b.body c.args.input.now)) c.close_branch.ensures.closes
-
-pub read_branch-returns-in_default-clause-grows : goal.read_branch-returns-in_default-clause-grows
-read_branch-returns-in_default-clause-grows t c = ok_then _ c.close_branch.ensures.grows (λ g. grows_on (grows_on c.arms.invariant.so_far.arms.grows c.in_ok-body.ensures.grows) g)
-
 pub read_branch-returns-in_default-clause-halts : goal.read_branch-returns-in_default-clause-halts
 read_branch-returns-in_default-clause-halts t c = let a = c.arms.invariant.so_far in err_map _ (λ d h. branch_halts_in a.opens (arms_open a.arms _ c.in_ok-label.ensures.reads c.in_ok-body.ensures.reads c.in_ok-body.ensures.there c.in_ok-body.ensures.grows c.in_ok-push.ensures.ok c.in_default.ensures.none h)) c.close_branch.ensures.halts
 
@@ -118,20 +100,34 @@ read_conditional-returns-in_err-second-clause-halts t c = passes _ _ c.from_resi
 pub read_conditional-push-requires : goal.read_conditional-push-requires
 read_conditional-push-requires t c = both_inside _ (no_fewer c.in_ok-second.ensures.grows c.in_ok-first.ensures.there) c.in_ok-second.ensures.there
 
-pub read_conditional-returns-clause-reads : goal.read_conditional-returns-clause-reads
-read_conditional-returns-clause-reads t c = test_is c.in_ok-expr.ensures.reads c.in_ok-first.ensures.reads c.in_ok-at.ensures.reads c.in_ok-second.ensures.reads (tests_pushed c.args.input.now _ _ c.in_ok-first.ensures.there c.in_ok-second.ensures.grows c.in_ok-test.ensures.grows c.in_ok-test.ensures.id)
-
-pub read_conditional-returns-clause-there : goal.read_conditional-returns-clause-there
-read_conditional-returns-clause-there t c = last_there _ _ c.in_ok-test.ensures.grows c.in_ok-test.ensures.id
-
-pub read_conditional-returns-clause-grows : goal.read_conditional-returns-clause-grows
-read_conditional-returns-clause-grows t c = grows_on c.in_ok-first.ensures.grows (grows_on c.in_ok-second.ensures.grows (grows_by _ c.in_ok-test.ensures.grows))
-
-pub read_tail-returns-in-End-clause-known : goal.read_tail-returns-in-End-clause-known
-read_tail-returns-in-End-clause-known t c = still_there c.args.input.now _ _ _ c.push_end.ensures.known c.requires
-
 pub read_branch-close_branch-requires-clause-labels : goal.read_branch-close_branch-requires-clause-labels
 read_branch-close_branch-requires-clause-labels t c = one_more_label c.args.input.now _ _ _ c.arms.invariant.labels c.in_ok-label.ensures.known c.in_ok-push.ensures.ok
 
-pub read_conditional-returns-clause-known : goal.read_conditional-returns-clause-known
-read_conditional-returns-clause-known t c = one_more_line c.args.input.now _ _ _ c.in_ok-second.ensures.known c.in_ok-expr.ensures.known c.in_ok-test.ensures.grows
+pub read_conditional-returns-clause-made : goal.read_conditional-returns-clause-made
+read_conditional-returns-clause-made t c = record {
+  reads = test_is c.in_ok-expr.ensures.reads c.in_ok-first.ensures.reads c.in_ok-at.ensures.reads c.in_ok-second.ensures.reads (tests_pushed c.args.input.now _ _ c.in_ok-first.ensures.there c.in_ok-second.ensures.grows c.in_ok-test.ensures.grows c.in_ok-test.ensures.id);
+  there = last_there _ _ c.in_ok-test.ensures.grows c.in_ok-test.ensures.id;
+  grows = grows_on c.in_ok-first.ensures.grows (grows_on c.in_ok-second.ensures.grows (grows_by _ c.in_ok-test.ensures.grows));
+  known = one_more_line c.args.input.now _ _ _ c.in_ok-second.ensures.known c.in_ok-expr.ensures.known c.in_ok-test.ensures.grows;
+}
+
+pub read_tail-returns-in-Branch-clause-made : goal.read_tail-returns-in-Branch-clause-made
+read_tail-returns-in-Branch-clause-made t c = made_as _ _ _ _ _ _ (λ x r. branch_told c.in_ok-word.ensures.room (stands_as _ _ c.in-Branch.is c.in_ok-word.ensures.found) r) c.read_branch.ensures.made
+
+pub read_tail-returns-in-If-clause-made : goal.read_tail-returns-in-If-clause-made
+read_tail-returns-in-If-clause-made t c = made_as _ _ _ _ _ _ (λ x r. conditional_told c.in_ok-word.ensures.room (stands_as _ _ c.in-If.is c.in_ok-word.ensures.found) r) c.read_conditional.ensures.made
+
+pub read_tail-returns-in-Call-clause-made : goal.read_tail-returns-in-Call-clause-made
+read_tail-returns-in-Call-clause-made t c = made_as _ _ _ _ _ _ (λ x r. call_told c.in_ok-word.ensures.room (stands_as _ _ c.in-Call.is c.in_ok-word.ensures.found) r) c.read_call.ensures.made
+
+pub read_tail-returns-in-End-clause-made : goal.read_tail-returns-in-End-clause-made
+read_tail-returns-in-End-clause-made t c = made_by _ _ _ _ _ (ok_map _ (λ x e. end_line c.args.input.now c.in_ok-word.ensures.room (stands_as _ _ c.in-End.is c.in_ok-word.ensures.found) e) c.push_end.ensures.ends) c.push_end.ensures.there c.push_end.ensures.grows (still_there c.args.input.now _ _ _ c.push_end.ensures.known c.requires)
+
+pub read_branch-returns-in_default-clause-made : goal.read_branch-returns-in_default-clause-made
+read_branch-returns-in_default-clause-made t c = made_by _ _ _ _ _ (let a = c.arms.invariant.so_far in ok_map _ (λ x b. branch_is c.args.input.now _ _ a.opens (arms_end a.arms _ c.in_ok-label.ensures.reads c.in_ok-body.ensures.reads c.in_ok-body.ensures.there c.in_ok-body.ensures.grows c.in_ok-push.ensures.ok c.in_default.ensures.none b.closes) (b.body c.args.input.now)) c.close_branch.ensures.closes) c.close_branch.ensures.there (ok_then _ c.close_branch.ensures.grows (λ g. grows_on (grows_on c.arms.invariant.so_far.arms.grows c.in_ok-body.ensures.grows) g)) c.close_branch.ensures.known
+
+pub read_body-close_body-requires-clause-last : goal.read_body-close_body-requires-clause-last
+read_body-close_body-requires-clause-last t c = c.in_ok-last.ensures.made.there
+
+pub read_body-close_body-requires-clause-lines : goal.read_body-close_body-requires-clause-lines
+read_body-close_body-requires-clause-lines t c = c.in_ok-last.ensures.made.known

@@ -7,14 +7,10 @@ use Rattle.endpoint_reader.proofs.body.read_call.Goals as goal
 pub returns-in_err-signature-clause-halts : goal.returns-in_err-signature-clause-halts
 returns-in_err-signature-clause-halts c = passes _ _ c.from_residual.ensures.1 c.in_err-signature.ensures.halts
 
-pub returns-clause-reads : goal.returns-clause-reads
-returns-clause-reads c = call_is c.in_ok-signature.ensures.reads (body_pushed c.args.input.now _ _ c.in_ok-call.ensures.grows c.in_ok-call.ensures.id)
-
-pub returns-clause-there : goal.returns-clause-there
-returns-clause-there c = last_there _ _ c.in_ok-call.ensures.grows c.in_ok-call.ensures.id
-
-pub returns-clause-grows : goal.returns-clause-grows
-returns-clause-grows c = grows_by _ c.in_ok-call.ensures.grows
-
-pub returns-clause-known : goal.returns-clause-known
-returns-clause-known c = one_more_line c.args.input.now _ _ _ c.requires c.in_ok-signature.ensures.known c.in_ok-call.ensures.grows
+pub returns-clause-made : goal.returns-clause-made
+returns-clause-made c = record {
+  reads = call_is c.in_ok-signature.ensures.reads (body_pushed c.args.input.now _ _ c.in_ok-call.ensures.grows c.in_ok-call.ensures.id);
+  there = last_there _ _ c.in_ok-call.ensures.grows c.in_ok-call.ensures.id;
+  grows = grows_by _ c.in_ok-call.ensures.grows;
+  known = one_more_line c.args.input.now _ _ _ c.requires c.in_ok-signature.ensures.known c.in_ok-call.ensures.grows;
+}
