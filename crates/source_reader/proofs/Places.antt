@@ -2,7 +2,8 @@
 use Rattle.std.proofs.Common.{◌≡◌, ◌<◌, ◌≤◌, ◌+◌, ℕ, List, [], ◌∷◌, length, drop, Some, slice_get, slice_index_or, sym, ap, ◌∙◌, subst, drop_of_length-le}
 use Rattle.std.proofs.lemmas.List.{drop_more}
 use Rattle.chor_base.specs.declared.names.NameId.{NameId}
-use Rattle.chor_lexer.specs.declared.token.Kind.TheVariants.{Word}
+use Rattle.chor_lexer.specs.declared.mark.Mark.{Mark}
+use Rattle.chor_lexer.specs.declared.token.Kind.TheVariants.{Word, Mark as OfMark}
 use Rattle.chor_lexer.specs.declared.token.Token.{Token}
 use Rattle.chor_lexer.specs.Keywords.{IsName}
 use Rattle.chor_tree.specs.declared.file.Named.{Named}
@@ -40,3 +41,10 @@ no_word {names} {v = v} {x = x} e k none w =
 -- no word at all
 pub no_word_name : {names : List (List ℕ)} {ts r rest : List Token} {t : Token} {n : Named} → ts ≡ t ∷ r → ((x : NameId) → t.kind ≡ Word x → ⊥) → NameIs names ts n rest → ⊥
 no_word_name {n = n} e none w = none n.name (ap (λ (t : Token). t.kind) (same_front e w.parts) ∙ w.is.kind)
+
+same_mark : (a b : Mark) → OfMark a ≡ OfMark b → a ≡ b
+same_mark a b e = cc
+
+-- the mark that stands here
+pub marked : {ts r s : List Token} {t u : Token} (a b : Mark) → ts ≡ t ∷ r → t.kind ≡ OfMark a → ts ≡ u ∷ s → u.kind ≡ OfMark b → a ≡ b
+marked a b e j f k = same_mark a b (sym j ∙ ap (λ (t : Token). t.kind) (same_front e f) ∙ k)
