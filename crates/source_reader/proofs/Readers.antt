@@ -9,6 +9,11 @@ use Rattle.chor_base.specs.declared.rule.Denied.{Denied}
 use Rattle.chor_lexer.specs.declared.mark.Mark.TheVariants.{OpenBrace, OpenParen, CloseParen, Comma, Semicolon, Colon, Arrow, Bar}
 use Rattle.chor_lexer.specs.declared.token.Token.{Token}
 use Rattle.chor_tree.specs.declared.file.Named.{Named}
+use Rattle.chor_tree.specs.declared.tree.Node.{Node}
+use Rattle.chor_tree.specs.declared.tree.NodeId.{NodeId}
+use Rattle.chor_tree.specs.Source.{Block, block_in, blocks_of}
+use Rattle.source_reader.specs.declared.input.Input.{Input}
+use Rattle.source_reader.specs.Reading.{names_of, tokens_from, Made}
 use Rattle.chor_tree.specs.declared.protocol.State.{State}
 use Rattle.chor_tree.specs.declared.protocol.ProtoStep.TheVariants as step
 use Rattle.chor_tree.specs.declared.protocol.Payload.TheVariants as payload
@@ -191,3 +196,8 @@ hands_by {R = R} {S = S} {C = C} {D = D} {names = names} {ts = ts} {mid = mid} {
 pub hands_back : {A B X : Type 0} {R : Part A} {S : Part B} {C D : Further} {names : List (List ℕ)} {ts mid : List Token} {f : B → A} (r : Result X Denied) → Leads R C names ts S D mid f → IfErr r (λ d. Halts S D names mid d) → IfErr r (λ d. Halts R C names ts d)
 hands_back {R = R} {S = S} {C = C} {D = D} {names = names} {ts = ts} {mid = mid} r l h =
     IfErr-weaker r (λ d. Halts S D names mid d) (λ d. Halts R C names ts d) (λ d k. l.halts d k) h
+
+-- so of what was made
+pub makes_on : {R S : Part Block} (input : Input) (ts mid : ℕ) (old new : List Node) (r : Result (NodeId × ℕ) Denied) → Leads R Nothing (names_of input) (tokens_from input ts) S Nothing (tokens_from input mid) (λ b. b) → IfOk r (Made S input mid old new) → IfOk r (Made R input ts old new)
+makes_on {R} {S} input ts mid old new r l h =
+    IfOk-weaker r (Made S input mid old new) (Made R input ts old new) (λ x m. record { reads = l.reads (block_in (blocks_of new) x.0) (tokens_from input x.1) m.reads; there = m.there; grows = m.grows; adds = m.adds }) h

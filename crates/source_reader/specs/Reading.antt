@@ -1,10 +1,11 @@
 -- What the readers answer, in the words of the grammar.
-use Rattle.std.specs.Prelude.{◌≡◌, ℕ, List, [], ◌∷◌, drop}
+use Rattle.std.specs.Prelude.{◌≡◌, ◌<◌, ℕ, List, [], ◌∷◌, length, drop}
 use Rattle.chor_base.specs.Expr.{Term, term_of}
 use Rattle.chor_lexer.specs.declared.mark.Mark.TheVariants.{Colon, Arrow, Dot}
 use Rattle.chor_lexer.specs.declared.token.Kind.TheVariants as kind
 use Rattle.chor_lexer.specs.declared.token.Token.{Token}
 use Rattle.chor_tree.specs.declared.file.Named.{Named}
+use Rattle.chor_tree.specs.declared.tree.Node.{Node}
 use Rattle.chor_tree.specs.declared.tree.NodeId.{NodeId}
 use Rattle.chor_tree.specs.declared.tree.Part.{Part as Role}
 use Rattle.chor_tree.specs.declared.tree.Form.{Form}
@@ -16,7 +17,8 @@ use Rattle.source_reader.specs.declared.input.Input.{Input}
 use Rattle.source_reader.specs.declared.block.Line.{Line}
 use Rattle.source_reader.specs.declared.statement.Statement.{Statement as Read}
 use Rattle.source_reader.specs.declared.statement.Statement.TheVariants as read
-use Rattle.chor_tree.specs.Source.{Statement, Starts, Sends, Selects, Gives, Sets, Asks, Shows, Block, Then}
+use Rattle.chor_tree.specs.Source.{Statement, Starts, Sends, Selects, Gives, Sets, Asks, Shows, Block, Then, block_in, blocks_of}
+use Rattle.source_grammar.specs.Growing.{Grows, Adds}
 use Rattle.source_grammar.specs.Grammar.{MarkIs, WordIs, NameIs}
 use Rattle.source_grammar.specs.Parts.{MarkPart, NamePart, PartPart}
 
@@ -104,3 +106,10 @@ form_of (read.Show p e) next = form.Show p e next
 abbrev pub with_lines : List Line → Block → Block
 with_lines [] b = b
 with_lines (l ∷ ls) b = Then l.place (statement_of l.statement) (with_lines ls b)
+
+-- a part was read, its nodes were added, and the block begins with the last one
+pub record Made (R : Part Block) (input : Input) (at : ℕ) (old new : List Node) (x : NodeId × ℕ) : Type 0 where
+  pub reads : ReadsTo R Nothing input at (block_in (blocks_of new) x.0) x.1
+  pub there : x.0.0 < length new
+  pub grows : Grows old new
+  pub adds : Adds old new (x.0 ∷ [])

@@ -9,7 +9,7 @@ ghost use Rattle.source_grammar.specs.Grammar.{MarkIs, StandsAt};
 ghost use Rattle.source_grammar.specs.Parts.{OrComma};
 ghost use Rattle.source_grammar.specs.Statements.{StatementFirst};
 ghost use Rattle.source_grammar.specs.Blocks.{BlockPart, LinesPart, LastPart, CallTail, IfTail, AllNamesPart, PassedSessionsPart, PassedSessionsMore, PassedPart, PassedMore};
-ghost use Rattle.source_reader.specs.Reading.{names_of, tokens_from, with_lines, ReadsTo, LeadsTo};
+ghost use Rattle.source_reader.specs.Reading.{names_of, tokens_from, with_lines, ReadsTo, LeadsTo, Made};
 ghost use Rattle.source_grammar.specs.Growing.{Grows, Adds};
 
 use crate::expression::read_expression;
@@ -168,11 +168,8 @@ fn read_tail(
     tree: &mut Tree,
     room: Room,
 ) -> Result<(NodeId, usize), Denied>
-    ensures reads { IfOk result (λ x. ReadsTo (LastPart room.blocks room.statements) Nothing input.now at (block_in (blocks_of tree.new.nodes) x.0) x.1) }
+    ensures made { IfOk result (Made (LastPart room.blocks room.statements) input.now at tree.old.nodes tree.new.nodes) }
     ensures halts { IfErr result (Halts (LastPart room.blocks room.statements) Nothing (names_of input.now) (tokens_from input.now at)) }
-    ensures there { IfOk result (λ x. x.0.0 < length tree.new.nodes) }
-    ensures grows { OnOk result (Grows tree.old.nodes tree.new.nodes) }
-    ensures adds { IfOk result (λ x. Adds tree.old.nodes tree.new.nodes (x.0 ∷ [])) }
 {
     let place = input.place_of(at);
     if let Some(after) = input.after_word(at, b"end") {
@@ -206,11 +203,8 @@ fn read_call(
     tree: &mut Tree,
     place: Place,
 ) -> Result<(NodeId, usize), Denied>
-    ensures reads { IfOk result (λ x. ReadsTo (CallTail place) Nothing input.now at (block_in (blocks_of tree.new.nodes) x.0) x.1) }
+    ensures made { IfOk result (Made (CallTail place) input.now at tree.old.nodes tree.new.nodes) }
     ensures halts { IfErr result (Halts (CallTail place) Nothing (names_of input.now) (tokens_from input.now at)) }
-    ensures there { IfOk result (λ x. x.0.0 < length tree.new.nodes) }
-    ensures grows { OnOk result (Grows tree.old.nodes tree.new.nodes) }
-    ensures adds { IfOk result (λ x. Adds tree.old.nodes tree.new.nodes (x.0 ∷ [])) }
 {
     let (name, at) = input.take_name(at)?;
     let at = input.take_mark(at, Mark::OpenParen)?;
@@ -294,11 +288,8 @@ fn read_if(
     room: Room,
     place: Place,
 ) -> Result<(NodeId, usize), Denied>
-    ensures reads { IfOk result (λ x. ReadsTo (IfTail room.blocks room.statements place) Nothing input.now at (block_in (blocks_of tree.new.nodes) x.0) x.1) }
+    ensures made { IfOk result (Made (IfTail room.blocks room.statements place) input.now at tree.old.nodes tree.new.nodes) }
     ensures halts { IfErr result (Halts (IfTail room.blocks room.statements place) Nothing (names_of input.now) (tokens_from input.now at)) }
-    ensures there { IfOk result (λ x. x.0.0 < length tree.new.nodes) }
-    ensures grows { OnOk result (Grows tree.old.nodes tree.new.nodes) }
-    ensures adds { IfOk result (λ x. Adds tree.old.nodes tree.new.nodes (x.0 ∷ [])) }
 {
     let (process, at) = input.take_name(at)?;
     let at = input.take_mark(at, Mark::Dot)?;

@@ -27,14 +27,10 @@ returns-in_err-at-2-clause-halts c = passes _ _ c.from_residual-in_err-at-2.ensu
 pub returns-in_err-call-clause-halts : goal.returns-in_err-call-clause-halts
 returns-in_err-call-clause-halts c = no_memory _ _ c.from_residual-in_err-call.ensures.1 (λ d e. memory_halts e)
 
-pub returns-clause-reads : goal.returns-clause-reads
-returns-clause-reads c = said_block (call_block _ _ _ _ c.in_ok-call.ensures.ok.1 c.in_ok-call.ensures.ok.0 refl) (reads_past (past_name c.in_ok-name.ensures.read) (reads_past (past_mark c.in_ok-at.ensures.read) (reads_past (past_passed c.in_ok-passed.ensures.reads) (reads_past (as_leads _) (mark_reads c.in_ok-at-2.ensures.read)))))
-
-pub returns-clause-there : goal.returns-clause-there
-returns-clause-there c = last_there _ _ _ _ c.in_ok-call.ensures.ok.1 c.in_ok-call.ensures.ok.0
-
-pub returns-clause-grows : goal.returns-clause-grows
-returns-clause-grows c = grows_by _ _ _ c.in_ok-call.ensures.ok.1
-
-pub returns-clause-adds : goal.returns-clause-adds
-returns-clause-adds c = adds_node _ (adds_none _) c.in_ok-call.ensures.ok.1 c.in_ok-call.ensures.ok.0
+pub returns-clause-made : goal.returns-clause-made
+returns-clause-made c = record {
+  reads = said_block (call_block _ _ _ _ c.in_ok-call.ensures.ok.1 c.in_ok-call.ensures.ok.0 refl) (reads_past (past_name c.in_ok-name.ensures.read) (reads_past (past_mark c.in_ok-at.ensures.read) (reads_past (past_passed c.in_ok-passed.ensures.reads) (reads_past (as_leads _) (mark_reads c.in_ok-at-2.ensures.read)))));
+  there = last_there _ _ _ _ c.in_ok-call.ensures.ok.1 c.in_ok-call.ensures.ok.0;
+  grows = grows_by _ _ _ c.in_ok-call.ensures.ok.1;
+  adds = adds_node _ (adds_none _) c.in_ok-call.ensures.ok.1 c.in_ok-call.ensures.ok.0;
+}
