@@ -1,12 +1,13 @@
 -- The bodies of a table of lines, when lines are added.
-use Rattle.std.proofs.Common.{◌≡◌, ◌<◌, ℕ, Result, Ok, Err, IfOk, OnOk, List, [], ◌∷◌, ◌++◌, length, length-append, ap, ◌∙◌, sym, append_assoc, arith}
+use Rattle.std.proofs.Common.{◌≡◌, ◌<◌, ℕ, zero, suc, Some, Result, Ok, Err, IfOk, OnOk, OnErr, All, slice_get, subst, List, [], ◌∷◌, ◌++◌, length, length-append, ap, ◌∙◌, sym, append_assoc, arith}
 use Rattle.std.proofs.lemmas.List.{append-nil}
 use Rattle.node_table.proofs.Tables.{tree_stays, tree_pushed}
 use Rattle.endpoint_grammar.specs.Written.{Ends}
 use Rattle.endpoint_reader.specs.declared.input.Input.{Input}
 use Rattle.endpoint_reader.specs.declared.lines.LineId.{LineId}
 use Rattle.endpoint_reader.specs.declared.lines.Line.{Line}
-use Rattle.endpoint_reader.specs.Lines.{line_body, bodies_of, body_at}
+use Rattle.endpoint_reader.specs.Lines.{nexts_of, IsClosed, line_body, bodies_of, body_at}
+use Rattle.chor_base.specs.declared.memory.Memory.{Memory}
 use Rattle.chor_base.specs.declared.rule.Denied.{Denied}
 use Rattle.endpoint_reader.specs.Known.{AreLinesThere}
 use Rattle.endpoint_reader.specs.Bodies.{Grows, Made}
@@ -49,3 +50,19 @@ made_by P i old new (Err e) a b c d = tt
 pub made_as : (P Q : List Line → LineId × ℕ → Type 0) (i : Input) (old new : List Line) (r : Result (LineId × ℕ) Denied) → ((x : LineId × ℕ) → P new x → Q new x) → IfOk r (Made P i old new) → IfOk r (Made Q i old new)
 made_as P Q i old new (Ok x) f m = record { reads = f x m.reads; there = m.there; grows = m.grows; known = m.known }
 made_as P Q i old new (Err e) f m = tt
+
+-- ---- each line comes after those that follow it
+
+same_item : {X : Type 0} (x y : X) → Some x ≡ Some y → x ≡ y
+same_item x y e = cc
+
+-- what holds of each item at its place holds after one more
+one_more : {X : Type 0} (P : ℕ → X → Type 0) (xs : List X) (x : X) → ((i : ℕ) (y : X) → slice_get xs i ≡ Some y → P i y) → P (length xs) x → (i : ℕ) (y : X) → slice_get (xs ++ x ∷ []) i ≡ Some y → P i y
+one_more P [] x h k zero y e = subst (P zero) (same_item x y e) k
+one_more P [] x h k (suc i) y e = absurd cc
+one_more P (z ∷ zs) x h k zero y e = h zero y e
+one_more P (z ∷ zs) x h k (suc i) y e = one_more (λ j. P (suc j)) zs x (λ j w. h (suc j) w) k i y e
+
+pub closed_after : {X : Type 0} (old new : List Line) (l : Line) (r : Result X Memory) → IsClosed old → All (λ next. next.0 < length old) (nexts_of l) → OnOk r (new ≡ old ++ l ∷ []) → OnErr r (new ≡ old) → IsClosed new
+closed_after old new l (Ok u) c n e f = subst IsClosed (sym e) (one_more (λ i m. All (λ next. next.0 < i) (nexts_of m)) old l c n)
+closed_after old new l (Err d) c n e f = subst IsClosed (sym f) c
