@@ -136,26 +136,19 @@ fn put_action(
     ensures { OnOk result (out.new.items ≡ out.old.items ++ head_text e.now (head_of node.now)) }
 {
     use CodeNode::*;
-    match node {
-        Join(channel, role, session, _) => put_join(out, e, *channel, *role, *session),
-        Send(k, to, expr, _) => {
-            put_with(
-                out,
-                alloc,
-                e,
-                b"send".as_slice(),
-                [*k, *to].as_slice(),
-                expr,
-            )
+    match *node {
+        Join(channel, role, session, _) => put_join(out, e, channel, role, session),
+        Send(k, to, ref expr, _) => {
+            put_with(out, alloc, e, b"send".as_slice(), [k, to].as_slice(), expr)
         }
-        Recv(k, from, x, _) => put_words(out, e, b"recv".as_slice(), [*k, *from, *x].as_slice()),
-        Pick(k, to, l, _) => put_words(out, e, b"pick".as_slice(), [*k, *to, *l].as_slice()),
-        Throw(k, to, h, _) => put_words(out, e, b"give".as_slice(), [*k, *to, *h].as_slice()),
-        Catch(k, from, h, _) => put_words(out, e, b"gain".as_slice(), [*k, *from, *h].as_slice()),
-        Set(x, expr, _) => put_with(out, alloc, e, b"set".as_slice(), [*x].as_slice(), expr),
-        Show(expr, _) => put_with(out, alloc, e, b"show".as_slice(), [].as_slice(), expr),
-        Host(x, f, left, right, _) => {
-            put_words(out, e, b"host".as_slice(), [*x, *f].as_slice())?;
+        Recv(k, from, x, _) => put_words(out, e, b"recv".as_slice(), [k, from, x].as_slice()),
+        Pick(k, to, l, _) => put_words(out, e, b"pick".as_slice(), [k, to, l].as_slice()),
+        Throw(k, to, h, _) => put_words(out, e, b"give".as_slice(), [k, to, h].as_slice()),
+        Catch(k, from, h, _) => put_words(out, e, b"gain".as_slice(), [k, from, h].as_slice()),
+        Set(x, ref expr, _) => put_with(out, alloc, e, b"set".as_slice(), [x].as_slice(), expr),
+        Show(ref expr, _) => put_with(out, alloc, e, b"show".as_slice(), [].as_slice(), expr),
+        Host(x, f, ref left, ref right, _) => {
+            put_words(out, e, b"host".as_slice(), [x, f].as_slice())?;
             put_operands(out, alloc, e, left, right)
         }
         Branch(..) | If(..) | Call(..) | End => Ok(()),
