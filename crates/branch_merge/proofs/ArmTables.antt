@@ -6,6 +6,7 @@ use Rattle.std.proofs.lemmas.List.Elements.{All-head, All-tail, All-append, All-
 use Rattle.std.proofs.lemmas.Bool.Decides.{nat_tests}
 use Rattle.std.proofs.lemmas.Option.{get_or_from_slice_get}
 use Rattle.chor_base.specs.declared.names.NameId.{NameId}
+use Rattle.endpoint_code.specs.declared.code.Code.{Code}
 use Rattle.endpoint_code.specs.declared.code.CodeId.{CodeId}
 use Rattle.endpoint_code.specs.declared.code.CodeNode.{CodeNode}
 use Rattle.endpoint_code.specs.Trees.{CodeTree, Arm, tree_in, arms_in, trees_of, code_at}
@@ -31,6 +32,10 @@ keeps_both {old = old} k l = record { more = k.more ++ l.more; is = l.is ∙ ap 
 
 pub keeps_pushed : {mid new : List CodeNode} (n : CodeNode) → new ≡ mid ++ n ∷ [] → Keeps mid new
 keeps_pushed n e = record { more = n ∷ []; is = e }
+
+-- a table that stays as it is
+pub keeps_still : {old : List CodeNode} {mid new : Code} → Keeps old mid.nodes → new ≡ mid → Keeps old new.nodes
+keeps_still {old = old} k e = subst (λ (table : Code). Keeps old table.nodes) (sym e) k
 
 pub code_kept : {old new : List CodeNode} (id : CodeId) → Keeps old new → id.0 < length old → code_at new id ≡ code_at old id
 code_kept {old = old} {new = new} id k h = code_at-kept old new k.more id k.is h

@@ -13,6 +13,8 @@ use Rattle.endpoint_code.specs.Heads.{Acts, head_of, next_of}
 use Rattle.endpoint_code.specs.Trees.{Action, CodeTree, Does, Tests, tree_in, node_tree, trees_of, code_at}
 use Rattle.endpoint_code.proofs.CodeTables.{code_at-pushed}
 use Rattle.endpoint_code.proofs.Decides.{tree_head, node_head, acting, inside}
+use Rattle.branch_merge.specs.declared.fault.MergeFault.{MergeFault}
+use Rattle.branch_merge.specs.declared.fault.MergeFault.TheVariants.{Clash, Memory as NoMemory}
 use Rattle.branch_merge.specs.declared.meeting.Pair.{Pair}
 use Rattle.branch_merge.specs.declared.meeting.Meeting.{Meeting}
 use Rattle.branch_merge.specs.declared.meeting.Meeting.TheVariants.{Apart, Alike, Next, Either, Arms}
@@ -243,6 +245,15 @@ children_inside n arms h = All-map (λ c. c.0 < n) (λ (arm : NameId × CodeId).
 pub same_fault : {T E : Type 0} (U : Type 0) (r : Result T E) (e x : E) → IsErrAnd r (λ f. f ≡ e) → r ≡ Err x → ◌≡◌ {A = Result U E} (Err e) (Err x)
 same_fault U (Ok y) e x h i = absurd cc
 same_fault U (Err f) e x h i = let j : f ≡ x = cc in ap Err (sym h ∙ j)
+
+-- a lack of memory is no clash
+pub no_clash : {T A : Type 0} (r : Result T MergeFault) → IsErrAnd r (λ f. f ≡ NoMemory) → r ≡ Err Clash → A
+no_clash (Ok y) h i = absurd cc
+no_clash (Err f) h i = absurd cc
+
+-- nor is an answer a fault
+pub no_fault : {T E A : Type 0} {x : T} {e : E} → ◌≡◌ {A = Result T E} (Ok x) (Err e) → A
+no_fault h = absurd cc
 
 -- ---- one arm
 

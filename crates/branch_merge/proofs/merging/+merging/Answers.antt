@@ -1,11 +1,12 @@
 use Rattle.std.proofs.Common.{◌≡◌, ◌<◌, arith, sym, ap, ◌∙◌, subst, false, length, List, slice_index_or, ◌++◌}
+use Rattle.std.proofs.lemmas.Result.{IfOk-from_err}
 use Rattle.chor_base.specs.declared.names.NameId.{NameId}
 use Rattle.endpoint_code.specs.declared.code.CodeId.{CodeId}
 use Rattle.endpoint_code.specs.Labels.{has_label}
 use Rattle.endpoint_code.specs.Trees.{trees_of}
 use Rattle.branch_merge.specs.Merging.{arms_at, IsMeetingAt, OfferSame}
-use Rattle.branch_merge.proofs.ArmTables.{keeps_both, keeps_pushed, kept_length, taken_out, other_holds}
-use Rattle.branch_merge.proofs.Merges.{inside_before, inside_later, distinct_later, same_merged, next_distinct, next_none, next_there, next_merged, first_distinct, second_distinct, first_none, second_none, is_test_there, forks_again, branches_merged, next_inside, fork_inside, arms_none, arms_merged, children_inside, same_fault, takes_alone, takes_paired, stuck_there, other_distinct, id_same}
+use Rattle.branch_merge.proofs.ArmTables.{keeps_all, keeps_both, keeps_pushed, keeps_still, kept_length, taken_out, other_holds}
+use Rattle.branch_merge.proofs.Merges.{inside_before, inside_later, distinct_later, same_merged, next_distinct, next_none, next_there, next_merged, first_distinct, second_distinct, first_none, second_none, is_test_there, forks_again, branches_merged, next_inside, fork_inside, arms_none, arms_merged, children_inside, same_fault, no_clash, no_fault, takes_alone, takes_paired, stuck_there, other_distinct, id_same}
 use Rattle.branch_merge.proofs.ArmsLoop.{next_arm, arm_distinct, rest_distinct, loop_stuck, loop_more, made_more, made_inside, made_all}
 use Rattle.branch_merge.proofs.merging.+merging.Goals as goal
 
@@ -39,6 +40,33 @@ pub merge_next-returns-clause-merged : goal.merge_next-returns-clause-merged
 merge_next-returns-clause-merged t c =
     next_merged c.requires.same c.merge.new.code.nodes c.push.new.self.nodes c.in_ok-id.id c.in_ok-push.field-0 c.node_at.result.now c.in_ok-node.node c.requires.inside
     c.in_ok-id.ensures.kept c.in_ok-id.ensures.merged c.node_at.ensures.tree c.in_ok-node.ensures.head c.in_ok-node.ensures.next c.in_ok-push.ensures.ok.0 c.in_ok-push.ensures.ok.1
+
+pub merge_next-returns-in_err-id-clause-merged : goal.merge_next-returns-in_err-id-clause-merged
+merge_next-returns-in_err-id-clause-merged t c = IfOk-from_err c.from_residual.result _ c.from_residual.ensures.0
+
+pub merge_next-returns-in_err-id-clause-kept : goal.merge_next-returns-in_err-id-clause-kept
+merge_next-returns-in_err-id-clause-kept t c = c.in_err-id.ensures.kept
+
+pub merge_next-returns-in_err-node-clause-merged : goal.merge_next-returns-in_err-node-clause-merged
+merge_next-returns-in_err-node-clause-merged t c = IfOk-from_err c.from_residual-in_err-node.result _ c.from_residual-in_err-node.ensures.0
+
+pub merge_next-returns-in_err-node-clause-clash : goal.merge_next-returns-in_err-node-clause-clash
+merge_next-returns-in_err-node-clause-clash t c e = no_clash c.from_residual-in_err-node.result c.from_residual-in_err-node.ensures.1 e
+
+pub merge_next-returns-in_err-node-clause-kept : goal.merge_next-returns-in_err-node-clause-kept
+merge_next-returns-in_err-node-clause-kept t c = c.in_ok-id.ensures.kept
+
+pub merge_next-returns-in_err-push-clause-merged : goal.merge_next-returns-in_err-push-clause-merged
+merge_next-returns-in_err-push-clause-merged t c = IfOk-from_err c.from_residual-in_err-push.result _ c.from_residual-in_err-push.ensures.0
+
+pub merge_next-returns-in_err-push-clause-clash : goal.merge_next-returns-in_err-push-clause-clash
+merge_next-returns-in_err-push-clause-clash t c e = no_clash c.from_residual-in_err-push.result c.from_residual-in_err-push.ensures.1 e
+
+pub merge_next-returns-in_err-push-clause-kept : goal.merge_next-returns-in_err-push-clause-kept
+merge_next-returns-in_err-push-clause-kept t c = keeps_still c.in_ok-id.ensures.kept c.in_err-push.ensures.err
+
+pub merge_next-returns-clause-clash : goal.merge_next-returns-clause-clash
+merge_next-returns-clause-clash t c e = no_fault e
 
 -- ---- after a test
 
@@ -97,6 +125,39 @@ merge_branches-returns-in_err-fails-clause-clash t c e =
     second_none c.requires.same c.in_ok-holds.ensures.kept (inside_before c.requires.inside c.requires.same.second_before)
     (c.in_err-fails.ensures.clash (same_fault CodeId c.from_residual-in_err-fails.result _ _ c.from_residual-in_err-fails.ensures.1 e))
 
+pub merge_branches-returns-in_err-holds-clause-merged : goal.merge_branches-returns-in_err-holds-clause-merged
+merge_branches-returns-in_err-holds-clause-merged t c = IfOk-from_err c.from_residual.result _ c.from_residual.ensures.0
+
+pub merge_branches-returns-in_err-holds-clause-kept : goal.merge_branches-returns-in_err-holds-clause-kept
+merge_branches-returns-in_err-holds-clause-kept t c = c.in_err-holds.ensures.kept
+
+pub merge_branches-returns-in_err-fails-clause-merged : goal.merge_branches-returns-in_err-fails-clause-merged
+merge_branches-returns-in_err-fails-clause-merged t c = IfOk-from_err c.from_residual-in_err-fails.result _ c.from_residual-in_err-fails.ensures.0
+
+pub merge_branches-returns-in_err-fails-clause-kept : goal.merge_branches-returns-in_err-fails-clause-kept
+merge_branches-returns-in_err-fails-clause-kept t c = keeps_both c.in_ok-holds.ensures.kept c.in_err-fails.ensures.kept
+
+pub merge_branches-returns-in_err-node-clause-merged : goal.merge_branches-returns-in_err-node-clause-merged
+merge_branches-returns-in_err-node-clause-merged t c = IfOk-from_err c.from_residual-in_err-node.result _ c.from_residual-in_err-node.ensures.0
+
+pub merge_branches-returns-in_err-node-clause-clash : goal.merge_branches-returns-in_err-node-clause-clash
+merge_branches-returns-in_err-node-clause-clash t c e = no_clash c.from_residual-in_err-node.result c.from_residual-in_err-node.ensures.1 e
+
+pub merge_branches-returns-in_err-node-clause-kept : goal.merge_branches-returns-in_err-node-clause-kept
+merge_branches-returns-in_err-node-clause-kept t c = keeps_both c.in_ok-holds.ensures.kept c.in_ok-fails.ensures.kept
+
+pub merge_branches-returns-in_err-push-clause-merged : goal.merge_branches-returns-in_err-push-clause-merged
+merge_branches-returns-in_err-push-clause-merged t c = IfOk-from_err c.from_residual-in_err-push.result _ c.from_residual-in_err-push.ensures.0
+
+pub merge_branches-returns-in_err-push-clause-clash : goal.merge_branches-returns-in_err-push-clause-clash
+merge_branches-returns-in_err-push-clause-clash t c e = no_clash c.from_residual-in_err-push.result c.from_residual-in_err-push.ensures.1 e
+
+pub merge_branches-returns-in_err-push-clause-kept : goal.merge_branches-returns-in_err-push-clause-kept
+merge_branches-returns-in_err-push-clause-kept t c = keeps_still (keeps_both c.in_ok-holds.ensures.kept c.in_ok-fails.ensures.kept) c.in_err-push.ensures.err
+
+pub merge_branches-returns-clause-clash : goal.merge_branches-returns-clause-clash
+merge_branches-returns-clause-clash t c e = no_fault e
+
 -- ---- one arm
 
 pub take-merge-requires : goal.take-merge-requires
@@ -128,6 +189,18 @@ take-returns-in-Some-clause-taken t c =
     (taken_out c.remove-other.result c.in-Some.ensures.found c.as_slice.ensures.value c.remove-other.ensures.value c.args.code.now.nodes c.remove-other.ensures.items)
     c.merge.new.code.nodes c.merge.result c.merge.ensures.merged
 
+pub take-returns-in-None-clause-left : goal.take-returns-in-None-clause-left
+take-returns-in-None-clause-left t c = c.requires.rest
+
+pub take-returns-in-None-clause-clash : goal.take-returns-in-None-clause-clash
+take-returns-in-None-clause-clash t c e = no_fault e
+
+pub take-returns-in-None-clause-kept : goal.take-returns-in-None-clause-kept
+take-returns-in-None-clause-kept t c = keeps_all _
+
+pub take-returns-in-Some-clause-kept : goal.take-returns-in-Some-clause-kept
+take-returns-in-Some-clause-kept t c = c.merge.ensures.kept
+
 -- ---- two codes
 
 pub merge-push-requires : goal.merge-push-requires
@@ -156,6 +229,69 @@ merge-returns-in_ok-push-in-Arms-clause-merged t c =
 
 pub merge-returns-then-eq-clause-merged : goal.merge-returns-then-eq-clause-merged
 merge-returns-then-eq-clause-merged t c = same_merged c.args.code.now.nodes c.args.a c.args.b c.requires.a c.requires.distinct_a (id_same c.args.code.now.nodes c.args.a c.args.b (sym c.eq.ensures ∙ c.if-eq.true))
+
+pub merge-returns-then-eq-clause-clash : goal.merge-returns-then-eq-clause-clash
+merge-returns-then-eq-clause-clash t c e = no_fault e
+
+pub merge-returns-then-eq-clause-kept : goal.merge-returns-then-eq-clause-kept
+merge-returns-then-eq-clause-kept t c = keeps_all _
+
+pub merge-returns-in_err-meet_at-clause-merged : goal.merge-returns-in_err-meet_at-clause-merged
+merge-returns-in_err-meet_at-clause-merged t c = IfOk-from_err c.from_residual.result _ c.from_residual.ensures.0
+
+pub merge-returns-in_err-meet_at-clause-clash : goal.merge-returns-in_err-meet_at-clause-clash
+merge-returns-in_err-meet_at-clause-clash t c e = no_clash c.from_residual.result c.from_residual.ensures.1 e
+
+pub merge-returns-in_err-meet_at-clause-kept : goal.merge-returns-in_err-meet_at-clause-kept
+merge-returns-in_err-meet_at-clause-kept t c = keeps_all _
+
+pub merge-returns-in_err-arms-in-Arms-clause-merged : goal.merge-returns-in_err-arms-in-Arms-clause-merged
+merge-returns-in_err-arms-in-Arms-clause-merged t c = IfOk-from_err c.from_residual-in_err-arms-in-Arms.result _ c.from_residual-in_err-arms-in-Arms.ensures.0
+
+pub merge-returns-in_err-arms-in-Arms-clause-kept : goal.merge-returns-in_err-arms-in-Arms-clause-kept
+merge-returns-in_err-arms-in-Arms-clause-kept t c = c.in_err-arms-in-Arms.ensures.kept
+
+pub merge-returns-in_err-push-in-Arms-clause-merged : goal.merge-returns-in_err-push-in-Arms-clause-merged
+merge-returns-in_err-push-in-Arms-clause-merged t c = IfOk-from_err c.from_residual-in_err-push-in-Arms.result _ c.from_residual-in_err-push-in-Arms.ensures.0
+
+pub merge-returns-in_err-push-in-Arms-clause-clash : goal.merge-returns-in_err-push-in-Arms-clause-clash
+merge-returns-in_err-push-in-Arms-clause-clash t c e = no_clash c.from_residual-in_err-push-in-Arms.result c.from_residual-in_err-push-in-Arms.ensures.1 e
+
+pub merge-returns-in_err-push-in-Arms-clause-kept : goal.merge-returns-in_err-push-in-Arms-clause-kept
+merge-returns-in_err-push-in-Arms-clause-kept t c = keeps_still c.in_ok-arms-in-Arms.ensures.kept c.in_err-push-in-Arms.ensures.err
+
+pub merge-returns-in-Apart-clause-kept : goal.merge-returns-in-Apart-clause-kept
+merge-returns-in-Apart-clause-kept t c = keeps_all _
+
+pub merge-returns-in-Alike-clause-clash : goal.merge-returns-in-Alike-clause-clash
+merge-returns-in-Alike-clause-clash t c e = no_fault e
+
+pub merge-returns-in-Alike-clause-kept : goal.merge-returns-in-Alike-clause-kept
+merge-returns-in-Alike-clause-kept t c = keeps_all _
+
+pub merge-returns-in-Next-clause-merged : goal.merge-returns-in-Next-clause-merged
+merge-returns-in-Next-clause-merged t c = c.merge_next.ensures.merged
+
+pub merge-returns-in-Next-clause-clash : goal.merge-returns-in-Next-clause-clash
+merge-returns-in-Next-clause-clash t c = c.merge_next.ensures.clash
+
+pub merge-returns-in-Next-clause-kept : goal.merge-returns-in-Next-clause-kept
+merge-returns-in-Next-clause-kept t c = c.merge_next.ensures.kept
+
+pub merge-returns-in-Either-clause-merged : goal.merge-returns-in-Either-clause-merged
+merge-returns-in-Either-clause-merged t c = c.merge_branches.ensures.merged
+
+pub merge-returns-in-Either-clause-clash : goal.merge-returns-in-Either-clause-clash
+merge-returns-in-Either-clause-clash t c = c.merge_branches.ensures.clash
+
+pub merge-returns-in-Either-clause-kept : goal.merge-returns-in-Either-clause-kept
+merge-returns-in-Either-clause-kept t c = c.merge_branches.ensures.kept
+
+pub merge-returns-in_ok-push-in-Arms-clause-kept : goal.merge-returns-in_ok-push-in-Arms-clause-kept
+merge-returns-in_ok-push-in-Arms-clause-kept t c = keeps_both c.in_ok-arms-in-Arms.ensures.kept (keeps_pushed _ c.in_ok-push-in-Arms.ensures.ok.1)
+
+pub merge-returns-in_ok-push-in-Arms-clause-clash : goal.merge-returns-in_ok-push-in-Arms-clause-clash
+merge-returns-in_ok-push-in-Arms-clause-clash t c e = no_fault e
 
 -- ---- arms
 
@@ -213,3 +349,27 @@ merge_arms-returns-in_err-id-clause-kept t c = keeps_both c.loop-arm.invariant.k
 
 pub merge_arms-returns-in_err-push-clause-kept : goal.merge_arms-returns-in_err-push-clause-kept
 merge_arms-returns-in_err-push-clause-kept t c = keeps_both c.loop-arm.invariant.kept c.in_ok-id.ensures.kept
+
+pub merge_arms-returns-in_err-id-clause-merged : goal.merge_arms-returns-in_err-id-clause-merged
+merge_arms-returns-in_err-id-clause-merged t c = IfOk-from_err c.from_residual.result _ c.from_residual.ensures.0
+
+pub merge_arms-returns-in_err-push-clause-merged : goal.merge_arms-returns-in_err-push-clause-merged
+merge_arms-returns-in_err-push-clause-merged t c = IfOk-from_err c.from_residual-in_err-push.result _ c.from_residual-in_err-push.ensures.0
+
+pub merge_arms-returns-in_err-push-clause-clash : goal.merge_arms-returns-in_err-push-clause-clash
+merge_arms-returns-in_err-push-clause-clash t c e = no_clash c.from_residual-in_err-push.result c.from_residual-in_err-push.ensures.1 e
+
+pub merge_arms-returns-in_err-append-clause-merged : goal.merge_arms-returns-in_err-append-clause-merged
+merge_arms-returns-in_err-append-clause-merged t c = IfOk-from_err c.from_residual-in_err-append.result _ c.from_residual-in_err-append.ensures.0
+
+pub merge_arms-returns-in_err-append-clause-clash : goal.merge_arms-returns-in_err-append-clause-clash
+merge_arms-returns-in_err-append-clause-clash t c e = no_clash c.from_residual-in_err-append.result c.from_residual-in_err-append.ensures.1 e
+
+pub merge_arms-returns-in_err-append-clause-kept : goal.merge_arms-returns-in_err-append-clause-kept
+merge_arms-returns-in_err-append-clause-kept t c = c.loop-arm.invariant.kept
+
+pub merge_arms-returns-clause-kept : goal.merge_arms-returns-clause-kept
+merge_arms-returns-clause-kept t c = c.loop-arm.invariant.kept
+
+pub merge_arms-returns-clause-clash : goal.merge_arms-returns-clause-clash
+merge_arms-returns-clause-clash t c e = no_fault e
