@@ -4,7 +4,11 @@ use Rattle.std.specs.Prelude.{All, Result, Ok, Err, IfErr, IsErrAnd}
 use Rattle.std.specs.List.{AllZip, zip}
 use Rattle.std.proofs.lemmas.List.{take_more}
 use Rattle.projection.proofs.Makes.{zip_push}
-use Rattle.projection.specs.MergeFaults.{IsFirstOf, here, later}
+use Rattle.chor_tree.specs.declared.file.File.{File}
+use Rattle.projection.specs.MergeFaults.{Site, IsFirstOf, here, later}
+use Rattle.block_codes.specs.declared.stop.Stop.{Stop}
+use Rattle.block_codes.specs.declared.stop.Stop.TheVariants.{Memory as NoMemory}
+use Rattle.block_codes.specs.Walks.{StopsAt}
 use Rattle.std.proofs.lemmas.List.Elements.{All-nil, All-cons, All-head, All-tail}
 
 -- what holds of each pair is enough for more
@@ -69,3 +73,7 @@ first_at P (x ∷ xs) (suc i) d lt n h = later (All-head (λ y. P y → ⊥) x (
 pub stops_by : {T E : Type 0} (P : E → Type 0) (r : Result T E) (e : E) → IsErrAnd r (λ f. f ≡ e) → P e → IfErr r P
 stops_by P (Ok x) e h p = tt
 stops_by P (Err f) e h p = subst P (sym h) p
+
+-- a lack of memory names no branches
+pub short_of_memory : {T : Type 0} (f : File) (sites : List Site) (r : Result T Stop) → IsErrAnd r (λ e. e ≡ NoMemory) → IfErr r (StopsAt f sites)
+short_of_memory f sites r h = stops_by (StopsAt f sites) r NoMemory h tt

@@ -1,4 +1,8 @@
 use Rattle.std.proofs.Common.{◌∙◌, sym}
+use Rattle.std.proofs.lemmas.Result.{IfOk-from_err}
+use Rattle.block_codes.specs.declared.stop.Stop.TheVariants.{Memory as NoMemory}
+use Rattle.block_codes.specs.Joins.{StopsOne}
+use Rattle.block_codes.proofs.Zips.{stops_by}
 use Rattle.block_codes.proofs.Joins.{tested, merged_apart}
 use Rattle.block_codes.proofs.joined.join_one.Goals as goal
 
@@ -8,3 +12,15 @@ returns-then-eq-clause-joined c =
 
 pub returns-in-Ok-clause-joined : goal.returns-in-Ok-clause-joined
 returns-in-Ok-clause-joined c = merged_apart (c.args.first, c.args.second) _ _ _ _ _ c.in-If.is (sym c.eq.ensures ∙ c.if-eq.false) c.merge.ensures.kept c.in-Ok.ensures.merged
+
+pub returns-in_err-copy-in-If-clause-joined : goal.returns-in_err-copy-in-If-clause-joined
+returns-in_err-copy-in-If-clause-joined c = IfOk-from_err c.from_residual.result _ c.from_residual.ensures.0
+
+pub returns-in_err-copy-in-If-clause-stopped : goal.returns-in_err-copy-in-If-clause-stopped
+returns-in_err-copy-in-If-clause-stopped c = stops_by (StopsOne c.args.code.now.nodes c.args.node.now (c.args.first, c.args.second)) c.from_residual.result NoMemory c.from_residual.ensures.1 tt
+
+pub returns-in_err-push-in-If-clause-joined : goal.returns-in_err-push-in-If-clause-joined
+returns-in_err-push-in-If-clause-joined c = IfOk-from_err c.from_residual-in_err-push-in-If.result _ c.from_residual-in_err-push-in-If.ensures.0
+
+pub returns-in_err-push-in-If-clause-stopped : goal.returns-in_err-push-in-If-clause-stopped
+returns-in_err-push-in-If-clause-stopped c = stops_by (StopsOne c.args.code.now.nodes c.args.node.now (c.args.first, c.args.second)) c.from_residual-in_err-push-in-If.result NoMemory c.from_residual-in_err-push-in-If.ensures.1 tt
