@@ -24,3 +24,30 @@ returns-in_err-push-in-If-clause-joined c = IfOk-from_err c.from_residual-in_err
 
 pub returns-in_err-push-in-If-clause-stopped : goal.returns-in_err-push-in-If-clause-stopped
 returns-in_err-push-in-If-clause-stopped c = stops_by (StopsOne c.args.code.now.nodes c.args.node.now (c.args.first, c.args.second)) c.from_residual-in_err-push-in-If.result NoMemory c.from_residual-in_err-push-in-If.ensures.1 tt
+
+pub merge-requires-clause-a : goal.merge-requires-clause-a
+merge-requires-clause-a c = c.requires.first.inside
+
+pub merge-requires-clause-b : goal.merge-requires-clause-b
+merge-requires-clause-b c = c.requires.second.inside
+
+pub merge-requires-clause-distinct_a : goal.merge-requires-clause-distinct_a
+merge-requires-clause-distinct_a c = c.requires.first.distinct
+
+pub merge-requires-clause-distinct_b : goal.merge-requires-clause-distinct_b
+merge-requires-clause-distinct_b c = c.requires.second.distinct
+
+pub returns-then-eq-clause-stopped : goal.returns-then-eq-clause-stopped
+returns-then-eq-clause-stopped c = tt
+
+pub returns-in-Ok-clause-stopped : goal.returns-in-Ok-clause-stopped
+returns-in-Ok-clause-stopped c = tt
+
+pub returns-in-Err-Clash-clause-joined : goal.returns-in-Err-Clash-clause-joined
+returns-in-Err-Clash-clause-joined c = tt
+
+pub returns-in-Err-Memory-clause-joined : goal.returns-in-Err-Memory-clause-joined
+returns-in-Err-Memory-clause-joined c = tt
+
+pub returns-in-Err-Memory-clause-stopped : goal.returns-in-Err-Memory-clause-stopped
+returns-in-Err-Memory-clause-stopped c = tt
