@@ -8,7 +8,7 @@ use Rattle.waiting_processes.specs.declared.lists.WaitingLists.{WaitingLists}
 use Rattle.waiting_processes.specs.Waits.{awaited_by, touched_by}
 use Rattle.waiting_processes.specs.Lists.{waiting_for}
 use Rattle.waiting_processes.specs.Taken.{IsIn, TakesWaiting}
-use Rattle.waiting_processes.proofs.Taken.{in_none, same_waiting}
+use Rattle.waiting_processes.proofs.Taken.{fewer_wait, in_none, same_waiting}
 use Rattle.net_core.specs.declared.candidates.Candidates.{Candidates}
 use Rattle.net_core.specs.declared.candidates.Past.{Past}
 use Rattle.net_core.specs.Candidates.{AreBelow, HasPlaces, HasTouched, TakesTouched, IsUpToDate}
@@ -84,7 +84,7 @@ pub takes_touched : (cap : Option ℕ) (past : Past) (count : ℕ) (old : Candid
     → TakesWaiting past.head old.waiting first lists → HasTouched cap past count old.waiting ps → AreBelow count ps
     → TakesTouched cap past count old ps (record { listed = old.listed; unended = old.unended; waiting = lists })
 takes_touched cap past count old lists first ps places takes touched below = record {
-  places = record { listed = places.listed; unended = places.unended; within = λ w q i. places.within w q (takes.fewer w q i) };
+  places = record { listed = places.listed; unended = places.unended; within = λ w q i. places.within w q (fewer_wait past.head old.waiting first lists takes w q i) };
   listed = refl;
   unended = refl;
   below = below;

@@ -10,9 +10,9 @@ use Rattle.waiting_processes.specs.Lists.{waiting_for}
 abbrev pub IsIn : List ℕ → ℕ → Type 0
 IsIn ps q = (k : ℕ) × (slice_get ps k ≡ Some q)
 
--- these are the processes that may wait for what an event at this head changes, and they are in no list any more
+-- these are the processes that may wait for what an event at this head changes, and their list is empty after it
 pub record TakesWaiting (h : Head) (old : WaitingLists) (ps : List ℕ) (new : WaitingLists) : Type 0 where
   pub waiting : (w : Awaited) → touched_by h ≡ Some w → ps ≡ waiting_for old w
+  pub gone : (w : Awaited) → touched_by h ≡ Some w → waiting_for new w ≡ []
   pub none : touched_by h ≡ None → ps ≡ []
-  pub fewer : (w : Awaited) (q : ℕ) → IsIn (waiting_for new w) q → IsIn (waiting_for old w) q
   pub others : (w : Awaited) → (touched_by h ≡ Some w → ⊥) → waiting_for new w ≡ waiting_for old w
