@@ -1,52 +1,25 @@
 -- The run that a network makes from its first state.
-use Rattle.std.proofs.Common.{◌≡◌, ◌-◌, ◌*◌, ◌≤◌, ℕ, suc, List, [], ◌∷◌, ◌++◌, length, refl, sym, ap, ◌∙◌, subst, Some, None, Option, arith}
-use Rattle.std.specs.Prelude.{All}
-use Rattle.std.proofs.lemmas.List.Elements.{All-head, All-tail}
-use native.Mathlib.Nat.{mul-le-mul}
+use Rattle.std.proofs.Common.{◌≡◌, ◌-◌, ◌≤◌, ℕ, List, [], ◌++◌, length, ap, ◌∙◌, subst, Some, None, Option, arith}
 use Rattle.chor_base.specs.declared.event.Entry.{Entry}
 use Rattle.chor_base.specs.Meaning.{Hosts}
-use Rattle.endpoint_code.specs.declared.endpoints.Channel.{Channel}
-use Rattle.endpoint_code.specs.declared.endpoints.Process.{Process}
 use Rattle.endpoint_code.specs.declared.endpoints.Endpoints.{Endpoints}
-use Rattle.endpoint_code.specs.Network.{NetworkState, first_state, standing_all}
+use Rattle.endpoint_code.specs.Network.{NetworkState, first_state}
 use Rattle.endpoint_code.specs.Scheduled.{Close, IsScheduled}
 use Rattle.net_core.specs.declared.answer.Picked.{Picked}
 use Rattle.net_core.specs.declared.answer.Picked.TheVariants as picked
 use Rattle.net_core.specs.Picks.{entries_of, HasRun, Runs}
-use Rattle.net_core.specs.Steps.{FitsMore, most_served}
+use Rattle.net_core.specs.Steps.{AreFew, FitsMore}
 use Rattle.net_core.specs.Views.{NetworkView}
+use Rattle.net_core.proofs.Runs.{fits_first}
 use Rattle.endpoint_runs.specs.Runs.{IsRun, close_by}
 
 -- ---- numbers
 
-served_few : (ks : List Channel) (n : ℕ) → All (λ k. length k.serve ≤ n) ks → most_served ks ≤ n
-served_few [] n h = omega arith
-served_few (k ∷ ks) n h =
-    let here : length k.serve ≤ n = All-head (λ (k : Channel). length k.serve ≤ n) k ks h in
-    let rest : most_served ks ≤ n = served_few ks n (All-tail (λ (k : Channel). length k.serve ≤ n) k ks h) in
-    omega (arith, here, rest)
-
-as_many : (ps : List Process) → length (standing_all ps) ≡ length ps
-as_many [] = refl
-as_many (p ∷ ps) = ap suc (as_many ps)
-
--- the numbers of processes and sessions stay below 2^32
-fits : (v : NetworkView) (e : Endpoints) (steps : ℕ) → v.endpoints ≡ e → v.state ≡ first_state e → v.history ≡ [] → steps ≤ 1000000
-    → All (λ k. length k.serve ≤ 4000) e.channels → length e.processes ≤ 1000000 → FitsMore v steps
-fits v e steps programs state history few served processes =
-    let most : most_served v.endpoints.channels ≤ 4000 = subst (λ (x : Endpoints). most_served x.channels ≤ 4000) (sym programs) (served_few e.channels 4000 served) in
-    let product : steps * most_served v.endpoints.channels ≤ 1000000 * 4000 = mul-le-mul few most in
-    let machines : length v.state.machines ≡ length e.processes = ap (λ (n : NetworkState). length n.machines) state ∙ as_many e.processes in
-    let sid : v.state.sid ≡ 0 = ap (λ (n : NetworkState). n.sid) state in
-    record { sid = omega (arith, sid, few); machines = omega (arith, product, machines, processes) }
-
--- so it is before the first event
-pub fits_first : (v : NetworkView) (e : Endpoints) (steps : ℕ) → v.endpoints ≡ e → v.state ≡ first_state e → v.history ≡ [] → steps ≤ 1000000
-    → All (λ k. length k.serve ≤ 4000) e.channels → length e.processes ≤ 1000000 → FitsMore v (steps - length v.history)
-fits_first v e steps programs state history few served processes =
+-- all events fit before the first one
+pub all_fit : (v : NetworkView) (e : Endpoints) (steps : ℕ) → v.endpoints ≡ e → v.state ≡ first_state e → v.history ≡ [] → steps ≤ 1000000 → AreFew e steps → FitsMore v (steps - length v.history)
+all_fit v e steps same at history small few =
     let none : length v.history ≡ 0 = ap (λ (es : List Entry). length es) history in
-    let all : steps ≡ steps - length v.history = omega (arith, none) in
-    subst (λ (n : ℕ). FitsMore v n) all (fits v e steps programs state history few served processes)
+    subst (FitsMore v) (omega (arith, none)) (fits_first e v steps same at (omega (arith, small)) few)
 
 -- ---- the run
 

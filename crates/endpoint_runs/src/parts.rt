@@ -5,10 +5,9 @@ ghost use Rattle.endpoint_code.specs.Faults.{IsFaultless};
 ghost use Rattle.endpoint_code.specs.Network.{first_state};
 ghost use Rattle.net_core.specs.Steps.{most_served};
 
-use crate::few::are_few;
 use chor_base::{Entry, Memory};
 use endpoint_code::Endpoints;
-use net_core::Network;
+use net_core::{Network, are_few};
 use std::alloc::Global;
 
 /// Which run by the pick rule: the seed of its picks, and how many events it has at most.
@@ -35,7 +34,8 @@ pub struct Run<'a> {
 }
 
 impl<'a> Run<'a> {
-    /// A run without events yet. Programs that are beyond the limits of a file answer `Memory`.
+    /// A run without events yet. Programs whose processes could need 2^32 numbers by so many events
+    /// answer `Memory`.
     pub fn new(
         alloc: Global,
         endpoints: &'a Endpoints,
@@ -50,7 +50,7 @@ impl<'a> Run<'a> {
         ensures before { IfOk result (λ run. run.before ≡ 0) }
         ensures schedule { IfOk result (λ run. run.schedule ≡ schedule) }
     {
-        if !are_few(endpoints) {
+        if !are_few(endpoints, schedule.steps as usize) {
             return Err(Memory);
         }
         let network = Network::new(alloc, endpoints, None)?;

@@ -6,11 +6,10 @@ ghost use Rattle.chor_host.specs.Tables.{functions_of};
 ghost use Rattle.endpoint_code.specs.Faults.{IsFaultlessWith};
 ghost use Rattle.endpoint_runs.specs.Runs.{IsRun, close_of, close_by};
 
-use crate::few::are_few;
 use chor_base::{Entry, List, Memory, Why};
 use chor_host::HostTable;
 use endpoint_code::Endpoints;
-use net_core::{Network, Picked};
+use net_core::{Network, Picked, are_few};
 use std::alloc::Global;
 
 /// How a run is closed.
@@ -47,7 +46,7 @@ pub fn run_endpoints(
     requires few { steps ≤ 1000000 }
     ensures { IfOk result (λ ran. IsRun endpoints.now (hosts_in endpoints.now.names (functions_of hosts.now)) seed steps ran.history (close_of ran.closed)) }
 {
-    if !are_few(endpoints) {
+    if !are_few(endpoints, steps as usize) {
         return Err(Memory);
     }
     let mut network = Network::new(alloc, endpoints, None)?;

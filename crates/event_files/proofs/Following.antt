@@ -1,16 +1,14 @@
 -- Events that are read and followed, line by line.
 use Rattle.std.proofs.Common.{◌≡◌, ◌≤◌, ◌<◌, ◌+◌, ◌*◌, ◌^◌, ℕ, zero, suc, List, [], ◌∷◌, ◌++◌, length, length-append, refl, sym, ap, ◌∙◌, subst, Option, None, Err, arith}
-use Rattle.std.specs.Prelude.{All}
 use Rattle.chor_base.specs.declared.event.Event.{Event}
 use Rattle.chor_base.specs.Meaning.{Hosts}
 use Rattle.endpoint_code.specs.declared.endpoints.Endpoints.{Endpoints}
-use Rattle.endpoint_code.specs.Network.{NetworkState, NetworkSteps, first_state, standing_all}
+use Rattle.endpoint_code.specs.Network.{NetworkState, NetworkSteps, first_state}
 use Rattle.endpoint_code.specs.NetworkRuns.{IsNetworkRun, all_ended}
 use Rattle.net_core.specs.Follows.{IsStep, HasFollowed}
-use Rattle.net_core.specs.Steps.{FitsMore, HasGrown, most_served}
+use Rattle.net_core.specs.Steps.{AreFew, FitsMore, HasGrown, most_served}
 use Rattle.net_core.specs.Views.{NetworkView}
-use Rattle.net_core.proofs.Runs.{fits_fewer, fits_after}
-use Rattle.net_core.proofs.Scopes.{length-standing_all}
+use Rattle.net_core.proofs.Runs.{fits_first, fits_fewer, fits_after}
 use Rattle.transcript.specs.Text.{Words, event_text}
 use Rattle.event_reader.specs.Known.{IsBook, HasEvent}
 use Rattle.replay.specs.Replays.{IsRun}
@@ -24,7 +22,7 @@ use Rattle.event_files.specs.Files.{Matches}
 use Rattle.event_files.specs.Networks.{IsEndedRun, ReplaysNetwork}
 use Rattle.event_files.proofs.EventLines.{few_events}
 use Rattle.event_files.proofs.ReadLines.{none_read, one_read, all_read, front_read}
-use Rattle.event_files.proofs.Replaying.{numbers_few, no_match}
+use Rattle.event_files.proofs.Replaying.{no_match}
 
 -- what holds after so many lines
 pub record Along (w : Words) (e : Endpoints) (hosts : Hosts) (bytes rest : List ℕ) (count : ℕ) (v : NetworkView) : Type 0 where
@@ -39,24 +37,18 @@ pub record Along (w : Words) (e : Endpoints) (hosts : Hosts) (bytes rest : List 
   pub fits : FitsMore v left
 
 module _ (w : Words) (e : Endpoints) (hosts : Hosts) (bytes : List ℕ) where
-  pub begun : (v : NetworkView) → v.endpoints ≡ e → v.capacity ≡ None → v.state ≡ first_state e → length bytes ≤ 2 ^ 26 → All (λ k. length k.serve ≤ 60) e.channels → length e.processes ≤ 1000000 → Along w e hosts bytes bytes 0 v
-  begun v same free at few served processes =
-      let s : v.state.sid ≡ 0 = ap (λ (n : NetworkState). n.sid) at in
-      let m : length v.state.machines ≡ length (standing_all e.processes) = ap (λ (n : NetworkState). length n.machines) at in
-      let count = length-standing_all e.processes in
-      let numbers = numbers_few e (length bytes) few served processes in
-      let fits : length v.state.machines + length bytes * most_served e.channels < 2 ^ 32 = omega arith in
-      record {
-        history = [];
-        read = none_read w bytes;
-        counted = refl;
-        endpoints = same;
-        capacity = free;
-        run = sym at;
-        left = length bytes;
-        enough = omega arith;
-        fits = record { sid = omega arith; machines = subst (λ (a : Endpoints). length v.state.machines + length bytes * most_served a.channels < 2 ^ 32) (sym same) fits };
-      }
+  pub begun : (v : NetworkView) → v.endpoints ≡ e → v.capacity ≡ None → v.state ≡ first_state e → length bytes ≤ 2 ^ 26 → AreFew e (length bytes) → Along w e hosts bytes bytes 0 v
+  begun v same free at small few = record {
+    history = [];
+    read = none_read w bytes;
+    counted = refl;
+    endpoints = same;
+    capacity = free;
+    run = sym at;
+    left = length bytes;
+    enough = omega arith;
+    fits = fits_first e v (length bytes) same at (omega (arith, small)) few;
+  }
 
   -- there are no more lines than bytes
   pub few_lines : (rest : List ℕ) (count : ℕ) (v : NetworkView) → Along w e hosts bytes rest count v → length bytes ≤ 2 ^ 26 → count ≤ 2 ^ 26
@@ -64,7 +56,7 @@ module _ (w : Words) (e : Endpoints) (hosts : Hosts) (bytes : List ℕ) where
 
   -- there is room for the numbers of one event more
   pub fits_one : (rest after : List ℕ) (count : ℕ) (v : NetworkView) → Along w e hosts bytes rest count v → length after < length rest → FitsMore v 1
-  fits_one rest after count v a less = fits_fewer v a.left (omega (arith, a.enough, less)) a.fits
+  fits_one rest after count v a less = fits_fewer v 1 a.left (omega (arith, a.enough, less)) a.fits
 
   text_there : (count : ℕ) (h : List Event) (line : List ℕ) (x : Event) → count ≡ length h → line ≡ event_text w (count + 1) x → line ≡ event_text w (length h + 1) x
   text_there count h line x same text = text ∙ ap (λ (n : ℕ). event_text w (n + 1) x) same

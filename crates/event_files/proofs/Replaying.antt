@@ -1,13 +1,8 @@
 -- The replay of a file on a network.
-use Rattle.std.proofs.Common.{◌≡◌, ◌≤◌, ◌<◌, ◌+◌, ◌*◌, ◌^◌, ℕ, List, [], ◌∷◌, ◌++◌, length, Result, Ok, Err, refl, sym, ap, ◌∙◌, subst, arith}
-use Rattle.std.specs.Prelude.{All}
-use Rattle.std.proofs.lemmas.List.Elements.{All-head, All-tail}
-use native.Mathlib.Nat.{mul-le-mul}
+use Rattle.std.proofs.Common.{◌≡◌, ◌≤◌, ◌<◌, ◌+◌, ◌^◌, ℕ, List, [], ◌∷◌, ◌++◌, length, Result, Ok, Err, refl, sym, ap, ◌∙◌, subst, arith}
 use Rattle.chor_base.specs.declared.event.Event.{Event}
 use Rattle.chor_base.specs.Meaning.{Hosts}
-use Rattle.endpoint_code.specs.declared.endpoints.Channel.{Channel}
 use Rattle.endpoint_code.specs.declared.endpoints.Endpoints.{Endpoints}
-use Rattle.net_core.specs.Steps.{most_served}
 use Rattle.transcript.specs.Text.{Words, event_text}
 use Rattle.event_reader.specs.Known.{IsBook, HasEvent}
 use Rattle.event_reader.proofs.Spellings.{one_spelling}
@@ -27,21 +22,6 @@ use Rattle.event_files.specs.Networks.{IsEndedRun, ReplaysNetwork}
 use Rattle.event_files.proofs.EventLines.{few_events}
 use Rattle.event_files.proofs.OneAnswer.{not_closing}
 use Rattle.event_files.proofs.NetworkRuns.{ended_there}
-
--- ---- numbers
-
-served_few : (ks : List Channel) (n : ℕ) → All (λ k. length k.serve ≤ n) ks → most_served ks ≤ n
-served_few [] n h = omega arith
-served_few (k ∷ ks) n h =
-    let here : length k.serve ≤ n = All-head (λ (k : Channel). length k.serve ≤ n) k ks h in
-    let rest : most_served ks ≤ n = served_few ks n (All-tail (λ (k : Channel). length k.serve ≤ n) k ks h) in
-    omega (arith, here, rest)
-
--- the numbers of processes stay below 2^32
-pub numbers_few : (e : Endpoints) (n : ℕ) → n ≤ 2 ^ 26 → All (λ k. length k.serve ≤ 60) e.channels → length e.processes ≤ 1000000 → length e.processes + n * most_served e.channels < 2 ^ 32
-numbers_few e n few served processes =
-    let product : n * most_served e.channels ≤ 2 ^ 26 * 60 = mul-le-mul few (served_few e.channels 60 served) in
-    omega (arith, product, processes)
 
 -- ---- the answer
 

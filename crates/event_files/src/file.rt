@@ -9,10 +9,10 @@ ghost use Rattle.event_files.specs.Networks.{ReplaysNetwork};
 ghost use Rattle.transcript.specs.Books.{words};
 
 use crate::closing::judge;
-use crate::few::are_few;
 use crate::reading::follow_events;
 use chor_host::HostTable;
 use endpoint_code::Endpoints;
+use net_core::are_few;
 use replay::{ReplayFault, Replayed};
 use std::alloc::Global;
 use transcript::Book;
@@ -34,7 +34,7 @@ pub fn replay_file(
     requires few { length bytes.now ≤ 2 ^ 26 }
     ensures { ReplaysNetwork (words book.now) endpoints.now (hosts_in endpoints.now.names (functions_of hosts.now)) bytes.now result }
 {
-    if !are_few(endpoints) {
+    if !are_few(endpoints, bytes.len()) {
         return Err(ReplayFault::Memory);
     }
     let (replayed, rest) = follow_events(alloc, endpoints, hosts, book, bytes)?;

@@ -2,7 +2,6 @@
 #![tactic(auto)]
 
 mod closing;
-mod few;
 mod file;
 mod laws;
 mod reading;

@@ -1,12 +1,13 @@
 //! The lines of events at the front of a file.
 
-ghost use Rattle.std.specs.Prelude.{◌≡◌, ◌≤◌, ◌^◌, All, length};
+ghost use Rattle.std.specs.Prelude.{◌≡◌, ◌≤◌, ◌^◌, length};
 ghost use Rattle.chor_host.specs.Functions.{hosts_in, names_of};
 ghost use Rattle.chor_host.specs.Tables.{functions_of};
 ghost use Rattle.endpoint_code.specs.Faults.{IsFaultlessWith};
 ghost use Rattle.endpoint_code.specs.NetworkRuns.{all_ended};
 ghost use Rattle.event_reader.specs.Known.{IsBook};
 ghost use Rattle.event_files.specs.Fronts.{IsAnswered};
+ghost use Rattle.net_core.specs.Steps.{AreFew};
 ghost use Rattle.transcript.specs.Books.{words};
 
 use chor_host::HostTable;
@@ -30,8 +31,7 @@ pub fn follow_events<'a>(
     requires faultless { IsFaultlessWith (names_of (functions_of hosts.now)) endpoints.now }
     requires book { IsBook (words book.now) }
     requires few { length bytes.now ≤ 2 ^ 26 }
-    requires serve { All (λ k. length k.serve ≤ 60) endpoints.now.channels }
-    requires processes { length endpoints.now.processes ≤ 1000000 }
+    requires numbers { AreFew endpoints.now (length bytes.now) }
     ensures { IsAnswered (words book.now) endpoints.now (hosts_in endpoints.now.names (functions_of hosts.now)) bytes.now result }
 {
     let mut network = Network::new(alloc, endpoints, None)?;

@@ -3,14 +3,15 @@ use Rattle.std.proofs.Common.{◌≡◌, inl, inr, ℕ, zero, suc, ◌+◌, ◌-
 use Rattle.std.specs.Prelude.{slice_get, ◌≢◌}
 use Rattle.std.proofs.lemmas.Option.{slice_get_within, some_pair_parts}
 use Rattle.std.proofs.lemmas.List.{append-nil, length-append, length-map, map-append}
-use Rattle.std.proofs.Math.Nat.{suc-mul, one-mul}
+use Rattle.std.proofs.Math.Nat.{suc-mul}
+use native.Mathlib.Nat.{mul-le-mul}
 use Rattle.std.proofs.lemmas.Bool.{and_parts}
 use Rattle.chor_base.specs.declared.event.Event.{Event}
 use Rattle.chor_base.specs.declared.event.Entry.{Entry}
 use Rattle.chor_base.specs.declared.event.Why.{Why}
 use Rattle.chor_base.specs.Meaning.{Hosts}
 use Rattle.endpoint_code.specs.declared.endpoints.Endpoints.{Endpoints}
-use Rattle.endpoint_code.specs.Network.{Machine, NetworkState}
+use Rattle.endpoint_code.specs.Network.{Machine, NetworkState, first_state}
 use Rattle.endpoint_code.specs.NetworkRuns.{has_ended, all_ended, waits_for, can_step, none_can_step}
 use Rattle.endpoint_code.specs.Scheduled.{is_listed, listed, listed_from, listed_at, picked, picked_of, first_waiting, first_waiting_from, Chooses, Close, Closes, IsScheduled, closed}
 use Rattle.endpoint_code.specs.Scheduled as close
@@ -19,9 +20,10 @@ use Rattle.net_core.specs.declared.answer.Picked.{Picked}
 use Rattle.net_core.specs.declared.answer.Picked.TheVariants.{Ended, Limit, Stuck, Memory}
 use Rattle.net_core.specs.Heads.{steps_at, steps_of, why_at, why_of, ended_at, ended_of}
 use Rattle.net_core.specs.Views.{NetworkView}
-use Rattle.net_core.specs.Steps.{HasStepped, FitsMore, HasGrown, most_served}
+use Rattle.net_core.specs.Steps.{HasStepped, AreFew, FitsMore, HasGrown, most_served}
 use Rattle.net_core.specs.Picks.{Underway, GoesOn, stays, goes, entries_of, HasRun, HasGone, Runs, HasTurned, HasClosed, Turns, IsStuck}
 use Rattle.net_core.proofs.Leaders.{some_there}
+use Rattle.net_core.proofs.Scopes.{length-standing_all}
 use Rattle.net_core.proofs.Numbers.{grown_by_none, grown_by_more, grown_by_same, grown_by_both}
 
 -- ---- the first process that hasn't ended
@@ -197,13 +199,26 @@ begun_run hosts seed steps v le fits = record { gone = record { events = []; end
 events_so_far : (hosts : Hosts) (seed steps : ℕ) (first now : NetworkView) (g : HasGone hosts seed steps first now) → length now.history ≡ length first.history + length g.events
 events_so_far hosts seed steps first now g = ap length g.history ∙ length-append first.history (entries_of g.events) ∙ ap (λ (k : ℕ). length first.history + k) (length-entries_of g.events)
 
--- so many events fit where more fit
-pub fits_fewer : (v : NetworkView) (k : ℕ) → 1 ≤ k → FitsMore v k → FitsMore v 1
-fits_fewer v zero le f = absurd (omega arith)
-fits_fewer v (suc k) le f =
-    let s : v.state.sid + suc k < 2 ^ 32 = f.sid in
-    let m : length v.state.machines + suc k * most_served v.endpoints.channels < 2 ^ 32 = f.machines in
-    record { sid = omega arith; machines = omega (arith, suc-mul k (most_served v.endpoints.channels), one-mul (most_served v.endpoints.channels)) }
+-- so many events fit at the beginning
+pub fits_first : (e : Endpoints) (v : NetworkView) (events : ℕ) → v.endpoints ≡ e → v.state ≡ first_state e → events < 2 ^ 32 → AreFew e events → FitsMore v events
+fits_first e v events same at small few =
+    let s : v.state.sid ≡ 0 = ap (λ (n : NetworkState). n.sid) at in
+    let m : length v.state.machines ≡ length e.processes = ap (λ (n : NetworkState). length n.machines) at ∙ length-standing_all e.processes in
+    let all : length v.state.machines + events * most_served e.channels < 2 ^ 32 = omega (arith, few, m) in
+    record {
+      sid = omega (arith, s, small);
+      machines = subst (λ (a : Endpoints). length v.state.machines + events * most_served a.channels < 2 ^ 32) (sym same) all;
+    }
+
+-- fewer events fit where more fit
+pub fits_fewer : (v : NetworkView) (k n : ℕ) → k ≤ n → FitsMore v n → FitsMore v k
+fits_fewer v k n fewer f =
+    let most : ℕ = most_served v.endpoints.channels in
+    let self : most ≤ most = omega arith in
+    let product : k * most ≤ n * most = mul-le-mul fewer self in
+    let sid : v.state.sid + n < 2 ^ 32 = f.sid in
+    let machines : length v.state.machines + n * most < 2 ^ 32 = f.machines in
+    record { sid = omega arith; machines = omega arith }
 
 pub fits_after : (old new : NetworkView) (k : ℕ) → new.endpoints ≡ old.endpoints → HasGrown old new → FitsMore old (suc k) → FitsMore new k
 fits_after old new k same g f =

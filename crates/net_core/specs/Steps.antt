@@ -7,6 +7,7 @@ use Rattle.chor_base.specs.Meaning.{Hosts}
 use Rattle.endpoint_code.specs.Network.{Machine, NetworkState, served_parts}
 use Rattle.endpoint_code.specs.Scheduled.{Chooses}
 use Rattle.endpoint_code.specs.declared.endpoints.Channel.{Channel}
+use Rattle.endpoint_code.specs.declared.endpoints.Endpoints.{Endpoints}
 use Rattle.net_core.specs.declared.answer.Step.{Step}
 use Rattle.net_core.specs.declared.answer.Step.TheVariants.{Did, Waits, Ended, Memory}
 use Rattle.net_core.specs.Heads.{steps_at, why_at, ended_at, joins_at_all}
@@ -31,6 +32,10 @@ pub record HasBegun (old : NetworkView) (k : Channel) (parts : List (NameId × �
 abbrev pub most_served : List Channel → ℕ
 most_served [] = 0
 most_served (k ∷ ks) = max (length k.serve) (most_served ks)
+
+-- the numbers of processes stay below 2^32 by so many events of programs, each of which draws at most as many as a channel has service roles
+abbrev pub AreFew : Endpoints → ℕ → Type 0
+AreFew e events = length e.processes + events * most_served e.channels < 2 ^ 32
 
 -- by one event a network loses no process, and draws at most one session number and as many process numbers as a channel has service roles
 pub record HasGrown (old new : NetworkView) : Type 0 where

@@ -10,9 +10,11 @@ mod following;
 mod joiners;
 mod network;
 mod parts;
+mod process_numbers;
 mod schedule;
 mod scheduler;
 mod standing;
 
 pub use answer::{Followed, Picked, Step};
 pub use network::Network;
+pub use process_numbers::are_few;

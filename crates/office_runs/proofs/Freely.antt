@@ -1,8 +1,7 @@
 -- A step under a capacity is one without, and finds room.
-use Rattle.std.proofs.Common.{◌≡◌, ℕ, ◌+◌, ◌<◌, Bool, true, false, List, [], ◌∷◌, ◌++◌, length, refl, sym, ap, ◌∙◌, subst, Option, Some, None, ℤ, take, drop, if◌then◌else◌}
-use Rattle.std.specs.Prelude.{slice_get, slice_index_or, not}
+use Rattle.std.proofs.Common.{◌≡◌, ℕ, Bool, true, false, List, [], ◌∷◌, refl, sym, ap, ◌∙◌, subst, Option, Some, None, ℤ}
+use Rattle.std.specs.Prelude.{slice_get}
 use Rattle.std.specs.FinMap as fin
-use Rattle.std.proofs.lemmas.List.{take-append-drop, drop_more}
 use Rattle.chor_base.specs.declared.names.NameId.{NameId}
 use Rattle.chor_base.specs.declared.value.Load.{Load}
 use Rattle.chor_base.specs.declared.event.Event.{Event}
@@ -14,16 +13,7 @@ use Rattle.endpoint_code.specs.declared.code.CodeId.{CodeId}
 use Rattle.endpoint_code.specs.declared.code.CodeNode.{CodeNode}
 use Rattle.endpoint_code.specs.declared.code.CodeNode.TheVariants.{Join, Send, Recv, Pick, Branch, Throw, Catch, Set, Show, Host, If, Call, End}
 use Rattle.endpoint_code.specs.declared.endpoints.Endpoints.{Endpoints}
-use Rattle.endpoint_code.specs.Network.{Sessions, Machine, NetworkState, Place, Makes, Taking, Goes, loads_for, moved, put_if, puts, has_room, queue_of, takes, takes_from, went, part_load, node_makes, place_makes, machine_makes, place_of, NetworkSteps, acts, begins, first_state}
-use Rattle.endpoint_code.specs.NetworkRuns.{NetworkLeads}
-use Rattle.endpoint_code.proofs.Fifo.{step_keeps}
-use Rattle.endpoint_code.proofs.Queues.{triple_same}
-use Rattle.net_core.specs.Views.{NetworkView}
-use Rattle.net_core.specs.Follows.{IsStep}
-use Rattle.post_office.specs.Views.{OfficeView, loads_at, IsAfter, CanMake, events_of}
-use Rattle.post_office.specs.Kept.{IsKept}
-use Rattle.post_office.specs.Lanes.{loads_in}
-use Rattle.post_office.proofs.Callers.{one_state}
+use Rattle.endpoint_code.specs.Network.{Sessions, Machine, NetworkState, Place, Makes, Taking, Goes, moved, put_if, puts, has_room, queue_of, takes, takes_from, went, part_load, node_makes, place_makes, machine_makes, place_of, NetworkSteps, acts, begins}
 use Rattle.post_office.proofs.Steps.{FindsRoom, sends_on, is_start, starts_start}
 
 module _ (cap : Option ℕ) (x : Event) (m : NetworkState) where

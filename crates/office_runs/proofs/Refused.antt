@@ -1,20 +1,15 @@
 -- Events that an office can't be told are no run.
-use Rattle.std.proofs.Common.{◌≡◌, ℕ, ◌+◌, ◌<◌, Bool, true, false, List, [], ◌∷◌, ◌++◌, length, refl, sym, ap, ◌∙◌, subst, Option, Some, None, ℤ, take, drop, if◌then◌else◌}
-use Rattle.std.specs.Prelude.{slice_get, slice_index_or, not}
-use Rattle.std.specs.FinMap as fin
+use Rattle.std.proofs.Common.{◌≡◌, ℕ, ◌+◌, ◌<◌, Bool, List, [], ◌∷◌, ◌++◌, length, refl, sym, ap, ◌∙◌, subst, Option, Some, None, take, drop, if◌then◌else◌}
+use Rattle.std.specs.Prelude.{slice_get, slice_index_or}
 use Rattle.std.proofs.lemmas.List.{take-append-drop, drop_more}
 use Rattle.chor_base.specs.declared.names.NameId.{NameId}
 use Rattle.chor_base.specs.declared.value.Load.{Load}
 use Rattle.chor_base.specs.declared.event.Event.{Event}
 use Rattle.chor_base.specs.declared.event.Event.TheVariants as event
-use Rattle.chor_base.specs.NameMap.{Variables}
 use Rattle.chor_base.specs.Meaning.{Hosts}
 use Rattle.chor_base.specs.Events.{Triple}
-use Rattle.endpoint_code.specs.declared.code.CodeId.{CodeId}
-use Rattle.endpoint_code.specs.declared.code.CodeNode.{CodeNode}
-use Rattle.endpoint_code.specs.declared.code.CodeNode.TheVariants.{Join, Send, Recv, Pick, Branch, Throw, Catch, Set, Show, Host, If, Call, End}
 use Rattle.endpoint_code.specs.declared.endpoints.Endpoints.{Endpoints}
-use Rattle.endpoint_code.specs.Network.{Sessions, Machine, NetworkState, Place, Makes, Taking, Goes, loads_for, moved, put_if, puts, has_room, queue_of, takes, takes_from, went, part_load, node_makes, place_makes, machine_makes, place_of, NetworkSteps, acts, begins, first_state}
+use Rattle.endpoint_code.specs.Network.{NetworkState, loads_for, queue_of, NetworkSteps, first_state}
 use Rattle.endpoint_code.specs.NetworkRuns.{NetworkLeads}
 use Rattle.endpoint_code.proofs.Fifo.{step_keeps}
 use Rattle.endpoint_code.proofs.Queues.{triple_same}
@@ -22,10 +17,7 @@ use Rattle.net_core.specs.Views.{NetworkView}
 use Rattle.net_core.specs.Follows.{IsStep}
 use Rattle.post_office.specs.Views.{OfficeView, loads_at, IsAfter, CanMake, events_of}
 use Rattle.post_office.specs.Kept.{IsKept}
-use Rattle.post_office.specs.Lanes.{loads_in}
 use Rattle.post_office.proofs.Callers.{one_state}
-use Rattle.post_office.proofs.Steps.{FindsRoom, sends_on, is_start, starts_start}
-use Rattle.office_runs.proofs.Freely.{step_freely}
 use Rattle.office_runs.specs.Told.{AreAlike, IsNoStep, IsNoRun}
 
 -- ---- what isn't told is no step

@@ -2,7 +2,6 @@
 #![tactic(auto)]
 
 mod making;
-mod numbers;
 mod starting;
 mod told;
 

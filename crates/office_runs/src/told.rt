@@ -10,11 +10,10 @@ ghost use Rattle.post_office.specs.Views.{events_of};
 ghost use Rattle.office_runs.specs.Told.{AllBusy, AreAlike, IsNoRun, IsNoStep};
 
 use crate::making::make;
-use crate::numbers::are_few;
 use chor_base::{Event, Memory};
 use chor_host::HostTable;
 use endpoint_code::Endpoints;
-use net_core::{Followed, Network};
+use net_core::{Followed, Network, are_few};
 use post_office::Office;
 use std::alloc::Global;
 

@@ -4,14 +4,13 @@ use Rattle.std.proofs.lemmas.List.{take_more}
 use Rattle.chor_base.specs.declared.event.Event.{Event}
 use Rattle.chor_base.specs.Meaning.{Hosts}
 use Rattle.endpoint_code.specs.declared.endpoints.Endpoints.{Endpoints}
-use Rattle.endpoint_code.specs.Network.{NetworkState, NetworkSteps, first_state, standing_all}
+use Rattle.endpoint_code.specs.Network.{NetworkState, NetworkSteps, first_state}
 use Rattle.endpoint_code.specs.NetworkRuns.{NetworkLeads, IsNetworkRun}
 use Rattle.endpoint_code.proofs.OneNext.{next_one}
 use Rattle.net_core.specs.Follows.{IsStep, HasFollowed}
-use Rattle.net_core.specs.Steps.{FitsMore, HasGrown, most_served}
+use Rattle.net_core.specs.Steps.{AreFew, FitsMore, HasGrown, most_served}
 use Rattle.net_core.specs.Views.{NetworkView}
-use Rattle.net_core.proofs.Runs.{fits_fewer, fits_after}
-use Rattle.net_core.proofs.Scopes.{length-standing_all}
+use Rattle.net_core.proofs.Runs.{fits_first, fits_fewer, fits_after}
 use Rattle.replay.specs.Replays.{IsUnmatched}
 
 pub leads_more : (e : Endpoints) (hosts : Hosts) (xs : List Event) (x : Event) (n m k : NetworkState) → NetworkLeads e hosts None n xs m → NetworkSteps e hosts None m x k → NetworkLeads e hosts None n (xs ++ x ∷ []) k
@@ -36,23 +35,16 @@ pub record Underway (e : Endpoints) (hosts : Hosts) (xs : List Event) (i : ℕ) 
   pub run : IsNetworkRun e hosts None (take i xs) v.state
   pub fits : FitsMore v (length xs - i)
 
-pub begun : (e : Endpoints) (hosts : Hosts) (xs : List Event) (v : NetworkView) → v.endpoints ≡ e → v.capacity ≡ None → v.state ≡ first_state e → length xs < 2 ^ 28 → length e.processes + length xs * most_served e.channels < 2 ^ 32 → Underway e hosts xs 0 v
-begun e hosts xs v same none at few numbers =
-    let s : v.state.sid ≡ 0 = ap (λ (n : NetworkState). n.sid) at in
-    let m : length v.state.machines ≡ length (standing_all e.processes) = ap (λ (n : NetworkState). length n.machines) at in
-    let count = length-standing_all e.processes in
-    let whole : length xs ≡ length xs - 0 = omega arith in
-    let all : length v.state.machines + length xs * most_served e.channels < 2 ^ 32 = omega arith in
-    let fits : length v.state.machines + (length xs - 0) * most_served e.channels < 2 ^ 32 = subst (λ (k : ℕ). length v.state.machines + k * most_served e.channels < 2 ^ 32) whole all in
-    record {
-      endpoints = same;
-      capacity = none;
-      run = sym at;
-      fits = record { sid = omega arith; machines = subst (λ (a : Endpoints). length v.state.machines + (length xs - 0) * most_served a.channels < 2 ^ 32) (sym same) fits };
-    }
+pub begun : (e : Endpoints) (hosts : Hosts) (xs : List Event) (v : NetworkView) → v.endpoints ≡ e → v.capacity ≡ None → v.state ≡ first_state e → length xs < 2 ^ 28 → AreFew e (length xs) → Underway e hosts xs 0 v
+begun e hosts xs v same none at small few = record {
+  endpoints = same;
+  capacity = none;
+  run = sym at;
+  fits = subst (FitsMore v) (omega arith) (fits_first e v (length xs) same at (omega (arith, small)) few);
+}
 
 pub fits_one : (e : Endpoints) (hosts : Hosts) (xs : List Event) (i : ℕ) (v : NetworkView) → i < length xs → Underway e hosts xs i v → FitsMore v 1
-fits_one e hosts xs i v lt u = fits_fewer v (length xs - i) (omega arith) u.fits
+fits_one e hosts xs i v lt u = fits_fewer v 1 (length xs - i) (omega arith) u.fits
 
 pub underway_more : (e : Endpoints) (hosts : Hosts) (xs : List Event) (i : ℕ) (d : Event) (old new : NetworkView) → i < length xs → Underway e hosts xs i old → HasFollowed hosts old (get_or xs i d) new → HasGrown old new → Underway e hosts xs (i + 1) new
 underway_more e hosts xs i d old new lt u f g =

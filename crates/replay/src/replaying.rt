@@ -4,7 +4,7 @@ ghost use Rattle.std.specs.Prelude.{◌+◌, ◌*◌, ◌<◌, ◌^◌, length};
 ghost use Rattle.chor_host.specs.Functions.{hosts_in, names_of};
 ghost use Rattle.chor_host.specs.Tables.{functions_of};
 ghost use Rattle.endpoint_code.specs.Faults.{IsFaultlessWith};
-ghost use Rattle.net_core.specs.Steps.{most_served};
+ghost use Rattle.net_core.specs.Steps.{AreFew};
 ghost use Rattle.replay.specs.Replays.{Replays};
 
 use crate::answer::{ReplayFault, Replayed};
@@ -23,7 +23,7 @@ pub fn replay(
 ) -> Result<Replayed, ReplayFault>
     requires faultless { IsFaultlessWith (names_of (functions_of hosts.now)) endpoints.now }
     requires few { length events.now < 2 ^ 28 }
-    requires numbers { length endpoints.now.processes + length events.now * most_served endpoints.now.channels < 2 ^ 32 }
+    requires numbers { AreFew endpoints.now (length events.now) }
     ensures { Replays endpoints.now (hosts_in endpoints.now.names (functions_of hosts.now)) events.now result }
 {
     let mut network = Network::new(alloc, endpoints, None)?;

@@ -1,51 +1,25 @@
 -- What holds of a network under test before its first step, and after each.
 use Rattle.std.proofs.Common.{◌≡◌, ℕ, suc, ◌+◌, ◌-◌, ◌*◌, ◌^◌, ◌<◌, ◌≤◌, List, [], ◌∷◌, length, refl, sym, ap, ◌∙◌, subst, arith}
-use Rattle.std.specs.Prelude.{All}
-use native.Mathlib.Nat.{mul-le-mul}
 use Rattle.chor_base.specs.declared.event.Entry.{Entry}
 use Rattle.chor_base.specs.Meaning.{Hosts}
 use Rattle.chor_host.specs.Functions.{names_of}
-use Rattle.endpoint_code.specs.declared.endpoints.Process.{Process}
 use Rattle.endpoint_code.specs.declared.endpoints.Endpoints.{Endpoints}
 use Rattle.endpoint_code.specs.Faults.{IsFaultlessWith}
-use Rattle.endpoint_code.specs.Network.{NetworkState, first_state, standing_all}
+use Rattle.endpoint_code.specs.Network.{NetworkState, first_state}
 use Rattle.net_core.specs.declared.answer.Step.{Step}
 use Rattle.net_core.specs.declared.answer.Step.TheVariants.{Did, Waits, Ended, Memory}
 use Rattle.net_core.specs.Views.{NetworkView, IsSame}
-use Rattle.net_core.specs.Steps.{FitsMore, Answers, most_served}
-use Rattle.net_core.proofs.Runs.{fits_after}
-use Rattle.endpoint_runs.proofs.Runs.{fits_first}
+use Rattle.net_core.specs.Steps.{AreFew, FitsMore, Answers, most_served}
+use Rattle.net_core.proofs.Runs.{fits_first, fits_fewer, fits_after}
+use Rattle.net_core.proofs.Scopes.{length-standing_all}
 use Rattle.running_tests.specs.Known.{known}
 use Rattle.running_tests.specs.Steps.{IsOnItsWay}
 
-as_many : (ps : List Process) → length (standing_all ps) ≡ length ps
-as_many [] = refl
-as_many (p ∷ ps) = ap suc (as_many ps)
-
 -- the first state
-pub begins : (e : Endpoints) (v : NetworkView) → IsFaultlessWith (names_of known) e → v.endpoints ≡ e → v.state ≡ first_state e → v.history ≡ []
-    → All (λ k. length k.serve ≤ 4000) e.channels → length e.processes ≤ 1000000 → IsOnItsWay e 1000000 v
-begins e v faultless programs state history served processes =
-    let none : length v.history ≡ 0 = ap (λ (es : List Entry). length es) history in
-    let left : 1000000 - length v.history ≡ 1000000 = omega arith in
-    let machines : length v.state.machines ≡ length e.processes = ap (λ (n : NetworkState). length n.machines) state ∙ as_many e.processes in
-    let enough : 1000000 ≤ 1000000 = omega arith in
-    record {
-      faultless = faultless;
-      same = programs;
-      there = omega arith;
-      fits = subst (FitsMore v) left (fits_first v e 1000000 programs state history enough served processes);
-    }
-
--- fewer events fit where more fit
-fits_fewer : (v : NetworkView) (k n : ℕ) → k ≤ n → FitsMore v n → FitsMore v k
-fits_fewer v k n fewer f =
-    let most : ℕ = most_served v.endpoints.channels in
-    let self : most ≤ most = omega arith in
-    let product : k * most ≤ n * most = mul-le-mul fewer self in
-    let sid : v.state.sid + n < 2 ^ 32 = f.sid in
-    let machines : length v.state.machines + n * most < 2 ^ 32 = f.machines in
-    record { sid = omega arith; machines = omega arith }
+pub begins : (e : Endpoints) (v : NetworkView) → IsFaultlessWith (names_of known) e → v.endpoints ≡ e → v.state ≡ first_state e → AreFew e 1000000 → IsOnItsWay e 1000000 v
+begins e v faultless same at few =
+    let machines : length v.state.machines ≡ length e.processes = ap (λ (n : NetworkState). length n.machines) at ∙ length-standing_all e.processes in
+    record { faultless = faultless; same = same; there = omega (arith, machines); fits = fits_first e v 1000000 same at (omega arith) few }
 
 -- a run to so many events in all fits, where it makes no more than fit
 pub run_fits : (e : Endpoints) (left more before : ℕ) (v : NetworkView) → IsOnItsWay e left v → more ≤ left → length v.history ≡ before → FitsMore v ((before + more) - length v.history)

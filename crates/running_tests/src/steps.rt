@@ -9,8 +9,8 @@ ghost use Rattle.running_tests.specs.Known.{known};
 use chor_base::Entry;
 use chor_host::HostTable;
 use endpoint_code::Endpoints;
-use endpoint_runs::{Closed, are_few};
-use net_core::{Network, Picked, Step};
+use endpoint_runs::Closed;
+use net_core::{Network, Picked, Step, are_few};
 use std::alloc::Global;
 use std::marker::Model;
 use std::process::Abort;
@@ -61,7 +61,7 @@ impl<'a> Steps<'a> {
     ) -> Result<Steps<'a>, Fail>
         requires { IsFaultlessWith (names_of known) endpoints.now }
     {
-        if !are_few(endpoints) {
+        if !are_few(endpoints, 1_000_000) {
             panic!(rt; "too many processes");
         }
         let network = Network::new(alloc, endpoints, capacity)?;

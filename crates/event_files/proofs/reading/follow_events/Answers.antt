@@ -10,7 +10,7 @@ use Rattle.event_files.proofs.reading.follow_events.Goals as goal
 pub loop-line-init : goal.loop-line-init
 loop-line-init g c =
     let e = c.args.endpoints.now in
-    begun (words c.args.book.now) e (hosts_in e.names (functions_of c.args.hosts.now)) c.args.bytes.now c.in_ok-network.network c.in_ok-network.ensures.endpoints c.in_ok-network.ensures.capacity c.in_ok-network.ensures.state c.requires.few c.requires.serve c.requires.processes
+    begun (words c.args.book.now) e (hosts_in e.names (functions_of c.args.hosts.now)) c.args.bytes.now c.in_ok-network.network c.in_ok-network.ensures.endpoints c.in_ok-network.ensures.capacity c.in_ok-network.ensures.state c.requires.few c.requires.numbers
 
 pub overflow_add-count : goal.overflow_add-count
 overflow_add-count g c =

@@ -1,4 +1,4 @@
-use Rattle.std.proofs.Common.{◌≡◌, ◌∙◌, sym, ap, true, false}
+use Rattle.std.proofs.Common.{◌≡◌, ◌∙◌, sym, true, false}
 use Rattle.office_runs.proofs.Received.{still_room}
 use Rattle.office_runs.proofs.making.make_sent.Goals as goal
 

@@ -1,11 +1,9 @@
 use Rattle.std.proofs.Common.{◌∙◌, List, ◌++◌, ◌∷◌, [], take, length, ap, subst, sym, refl}
 use Rattle.std.proofs.lemmas.List.{take_more}
 use Rattle.chor_base.specs.declared.event.Entry.{Entry}
-use Rattle.chor_base.specs.declared.event.Event.{Event}
 use Rattle.chor_host.specs.Functions.{hosts_in}
 use Rattle.chor_host.specs.Tables.{functions_of}
 use Rattle.endpoint_code.specs.declared.endpoints.Endpoints.{Endpoints}
-use Rattle.net_core.specs.Follows.{HasFollowed}
 use Rattle.endpoint_code.specs.Network.{first_state}
 use Rattle.endpoint_code.specs.NetworkRuns.{NetworkLeads}
 use Rattle.office_runs.proofs.Ahead.{begun, fits_one, ahead_more}
@@ -23,7 +21,7 @@ loop-event-init g c =
     let w = c.in_ok-office.office in
     let n = c.in_ok-network.ensures in
     let o = c.in_ok-office.ensures in (
-      begun e c.args.capacity c.args.events.now v n.endpoints n.capacity n.state c.if-events-ge-EVENTS.false (c.if-not-are_few.ensures refl),
+      begun e c.args.capacity c.args.events.now v n.endpoints n.capacity n.state c.if-events-ge-EVENTS.false (c.if-not-are_few.ensures.0 refl),
       record {
         endpoints = o.endpoints ∙ sym n.endpoints;
         hosts = o.hosts;

@@ -6,4 +6,4 @@ pub invariant_of-result : goal.invariant_of-result
 invariant_of-result g c =
     let n = c.in_ok-network.ensures in
     let few : c.are_few.result ≡ true = search in
-    begins c.args.endpoints.now c.in_ok-network.network c.requires n.endpoints n.state n.history (c.are_few.ensures.serve few) (c.are_few.ensures.processes few)
+    begins c.args.endpoints.now c.in_ok-network.network c.requires n.endpoints n.state (c.are_few.ensures.0 few)
