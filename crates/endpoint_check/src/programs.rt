@@ -6,12 +6,12 @@ ghost use Rattle.chor_host.specs.Tables.{functions_of};
 ghost use Rattle.endpoint_making.specs.Making.{AreNumbered};
 ghost use Rattle.endpoint_check.specs.Programs.{AreProgramsOf, IsWrittenWithoutFault, IsDenialOfInput, IsDenialOfPrograms};
 
+use crate::check::check_written;
 use chor_base::{Denied, Names, Texts};
 use chor_host::HostTable;
 use chor_lexer::tokens;
 use endpoint_code::Endpoints;
 use endpoint_making::endpoints_of;
-use endpoint_names::check_written;
 use endpoint_reader::{Input, Written};
 use endpoint_units::read_endpoints;
 use std::alloc::Global;

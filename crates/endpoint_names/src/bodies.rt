@@ -107,7 +107,7 @@ impl<'a> Declared<'a> {
     }
 }
 
-// The line of a number: the body there is made of the bodies of those that follow it.
+/// The line of a number: the body there is made of the bodies of those that follow it.
 pub fn line_at(written: &Written, id: LineId) -> &Line
     requires { id.0 < length written.now.lines.items }
     ensures body { let lines = written.now.lines.items in body_at lines id ≡ line_body (bodies_of lines) result.now }

@@ -1,44 +1,25 @@
-//! The check of an endpoint file beyond its grammar.
+//! The check of what an endpoint file names.
 
-ghost use Rattle.std.specs.Prelude.{◌≡◌, ◌<◌, [], Contains, IfOk, IfErr, OnOk, length};
+ghost use Rattle.std.specs.Prelude.{◌≡◌, [], Contains, IfOk, IfErr, OnOk};
 ghost use Rattle.chor_base.specs.Faults.{first_of_all, IsDenial};
 ghost use Rattle.chor_host.specs.Functions.{names_of};
 ghost use Rattle.chor_host.specs.Tables.{functions_of};
 ghost use Rattle.endpoint_names.specs.Faults.{setting, name_faults};
-ghost use Rattle.endpoint_names.specs.Bodies.{body_at};
-ghost use Rattle.endpoint_names.specs.Class.{opening_faults, begin_faults, IsFaultless, IsBroken};
 
-use crate::bodies::line_at;
 use crate::declared::Declared;
 use crate::functions::Functions;
-use chor_base::{Denied, Fault, Memory, Names, Rule, earlier};
+use chor_base::{Denied, Fault, Memory, Names};
 use chor_host::HostTable;
-use endpoint_reader::{Line, Procedure, Written};
+use endpoint_reader::Written;
 use std::alloc::Global;
 
-/// Checks what an endpoint file names, where programs may call these host functions, and then how its
-/// procedures begin. The first fault of names decides, or, where there is none, the first procedure
-/// that begins with a call.
+/// Checks what an endpoint file names, where programs may call these host functions. The first fault
+/// decides.
 ///
 /// What isn't declared or isn't bound, what is declared or bound twice, and a call that doesn't fit
-/// its procedure are refused by E2, and a procedure that begins with a call by E3.
-#[tactic(auto, using(crate::proofs::Classes::names_broken, crate::proofs::Classes::beginnings_broken))]
-pub fn check_written(
-    alloc: Global,
-    written: &Written,
-    names: &Names,
-    hosts: &HostTable,
-) -> Result<(), Denied>
-    ensures ok { OnOk result (IsFaultless (setting written.now names.now (names_of (functions_of hosts.now)))) }
-    ensures refused { IfErr result (IsBroken (setting written.now names.now (names_of (functions_of hosts.now)))) }
-{
-    check_names(alloc, written, names, hosts)?;
-    check_beginnings(written)?;
-    Ok(())
-}
-
+/// its procedure are refused by E2.
 #[tactic(auto, using(chor_base::proofs::Faults::none_is_empty, crate::proofs::Classes::denied_for))]
-fn check_names(
+pub fn check_names(
     alloc: Global,
     written: &Written,
     names: &Names,
@@ -48,17 +29,6 @@ fn check_names(
     ensures refused { IfErr result (IsDenial (Contains (name_faults (setting written.now names.now (names_of (functions_of hosts.now)))))) }
 {
     match first_of_names(alloc, written, names, hosts)? {
-        None => Ok(()),
-        Some(fault) => Err(fault.denied()),
-    }
-}
-
-#[tactic(auto, using(chor_base::proofs::Faults::none_is_empty, crate::proofs::Classes::denied_for))]
-fn check_beginnings(written: &Written) -> Result<(), Denied>
-    ensures ok { OnOk result (begin_faults written.now ≡ []) }
-    ensures refused { IfErr result (IsDenial (Contains (begin_faults written.now))) }
-{
-    match first_beginning(written) {
         None => Ok(()),
         Some(fault) => Err(fault.denied()),
     }
@@ -77,29 +47,4 @@ fn first_of_names(
     let declared = Declared::new(alloc, written, functions)?;
     let first = declared.first_in_file()?;
     Ok(first)
-}
-
-// The first procedure that begins with a call.
-fn first_beginning(written: &Written) -> Option<Fault>
-    ensures { result ≡ first_of_all (begin_faults written.now) }
-{
-    let mut first = None;
-    for procedure in written.procedures.as_slice() {
-        first = earlier(first, beginning(written, procedure));
-    }
-    first
-}
-
-// A procedure's body that begins with a call.
-fn beginning(written: &Written, procedure: &Procedure) -> Option<Fault>
-    requires { procedure.now.body.0 < length written.now.lines.items }
-    ensures { result ≡ first_of_all (opening_faults (body_at written.now.lines.items procedure.now.body)) }
-{
-    match line_at(written, procedure.body) {
-        Line::Call(place, _) => Some(Fault {
-            rule: Rule::E3,
-            place: *place,
-        }),
-        Line::Act(..) | Line::Branch(..) | Line::If(..) | Line::End => None,
-    }
 }

@@ -1,4 +1,4 @@
-//! Names and beginnings of endpoint files: what is named is declared, once, and no procedure begins with a call.
+//! Names of endpoint files: what is named is declared, once.
 #![tactic(auto)]
 
 mod bodies;
@@ -11,4 +11,5 @@ mod key;
 mod places;
 mod units;
 
-pub use check::check_written;
+pub use bodies::line_at;
+pub use check::check_names;

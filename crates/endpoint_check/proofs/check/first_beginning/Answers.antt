@@ -1,7 +1,7 @@
 use Rattle.chor_base.proofs.Faults.{turn_from}
 use Rattle.endpoint_names.specs.Bodies.{body_at}
 use Rattle.endpoint_names.specs.Class.{opening_faults}
-use Rattle.endpoint_names.proofs.check.first_beginning.Goals as goal
+use Rattle.endpoint_check.proofs.check.first_beginning.Goals as goal
 
 pub loop-procedure-preserved : goal.loop-procedure-preserved
 loop-procedure-preserved c =

@@ -3,7 +3,7 @@ use Rattle.std.specs.List.{flat_map}
 use Rattle.chor_base.specs.Faults.{earlier, first_of_all}
 use Rattle.endpoint_names.specs.Bodies.{body_at}
 use Rattle.endpoint_names.specs.Class.{opening_faults, begin_faults}
-use Rattle.endpoint_names.proofs.check.first_beginning.Given as goal
+use Rattle.endpoint_check.proofs.check.first_beginning.Given as goal
 
 abbrev pub invariant-loop-procedure : goal.invariant-loop-procedure
 invariant-loop-procedure l =
