@@ -24,7 +24,7 @@ use Rattle.typed_sources.proofs.Resolved.{found_in}
 use Rattle.correspondence.specs.Premises.{IsUnhindered}
 use Rattle.projection.specs.Codes.{proc_named}
 use Rattle.projection.specs.Projects.{Projects, parameters_of, body_at}
-use Rattle.projection_follows.specs.Premises.{EachGuarded, ProceduresChecked, MainChecked, IsProjectionOf}
+use Rattle.accepted_files.specs.Premises.{EachGuarded, ProceduresChecked, MainChecked, IsProjectionOf}
 use Rattle.file_trees.specs.Lists.{lists_of}
 use Rattle.file_trees.proofs.Places.{lists_fit}
 use Rattle.file_trees.proofs.Declared.{main_held, bodies_held}

@@ -33,7 +33,7 @@ use Rattle.typed_sources.proofs.Opened.{IsNamedStart, holder_other, holder_new}
 use Rattle.chor_semantics.specs.Blocks.{node_of, choreography_of}
 use Rattle.typed_sources.proofs.Sources.{NamesKept, IsNamedCall, IsFaultless, scope_with}
 use Rattle.projection.specs.Codes.{is_named, role_in, proc_named, param_for}
-use Rattle.projection_follows.specs.Roles.{Roles, with_role, HoldsRole, GivesAway, roles_sent, roles_gained, TakesPart, HoldsPassed, HoldsPassedFor, HoldsAtCall, HoldsRoles}
+use Rattle.accepted_files.specs.PlayedRoles.{Roles, with_role, HoldsRole, GivesAway, roles_sent, roles_gained, TakesPart, HoldsPassed, HoldsPassedFor, HoldsAtCall, HoldsRoles}
 use Rattle.typed_sources.proofs.Scopes.{among_front}
 use Rattle.file_trees.proofs.Owned.{KeepsOwners, two_parties, GivenFits, given_fits, statement_owned, call_sessions}
 use Rattle.file_trees.proofs.Scopes.{none_of}

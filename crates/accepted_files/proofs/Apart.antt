@@ -19,8 +19,8 @@ use Rattle.chor_semantics.specs.Blocks.{choreography_of}
 use Rattle.chor_semantics.proofs.Blocks.{choreography_at}
 use Rattle.typed_sources.proofs.Sources.{scope_with}
 use Rattle.projection.specs.Projects.{body_at}
-use Rattle.projection_follows.specs.Roles.{sessions_of}
-use Rattle.projection_follows.specs.Premises.{BindsNo}
+use Rattle.accepted_files.specs.PlayedRoles.{sessions_of}
+use Rattle.accepted_files.specs.Premises.{BindsNo}
 use Rattle.file_trees.proofs.Channels.{channel_from, channels_from}
 use Rattle.file_trees.proofs.References.{among_named}
 use Rattle.file_trees.proofs.Named.{AreNamed}

@@ -35,8 +35,8 @@ use Rattle.typed_sources.proofs.Resolved.{both_empty, found_in}
 use Rattle.typed_sources.proofs.Accepted.{main_faultless, procedures_keep, head_fine}
 use Rattle.projection.specs.Codes.{proc_named}
 use Rattle.projection.specs.Projects.{body_at}
-use Rattle.projection_follows.specs.Roles.{with_role, has_name, params_of, holder_role, roles_of, HoldsRoles, EachServiceHolds, ServicesHoldAt, ServicesHold}
-use Rattle.projection_follows.specs.Premises.{ProceduresHold, MainHolds, AllServicesHold, HoldsItsRoles}
+use Rattle.accepted_files.specs.PlayedRoles.{with_role, has_name, params_of, holder_role, roles_of, HoldsRoles, EachServiceHolds, ServicesHoldAt, ServicesHold}
+use Rattle.accepted_files.specs.Premises.{ProceduresHold, MainHolds, AllServicesHold, HoldsItsRoles}
 use Rattle.file_trees.proofs.Owned.{KeepsOwners, statement_owned}
 use Rattle.file_trees.proofs.Declared.{main_keeps, body_keeps}
 use Rattle.file_trees.proofs.Files.{params_apart}

@@ -18,7 +18,7 @@ use Rattle.typing_rules.specs.Environment.{Environment}
 use Rattle.typing_rules.specs.Checks.{holds_as}
 use Rattle.typed_sources.proofs.Checked.{some_is, holder_is}
 use Rattle.projection.specs.Codes.{role_in, proc_named, param_for, holds as is_listed}
-use Rattle.projection_follows.specs.Roles.{holder_role}
+use Rattle.accepted_files.specs.PlayedRoles.{holder_role}
 use Rattle.typed_sources.proofs.Opened.{holder_among, not_is}
 
 -- ---- starts

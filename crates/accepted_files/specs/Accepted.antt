@@ -18,7 +18,7 @@ use Rattle.typed_sources.specs.Laws.{IsAccepted}
 use Rattle.linearity.specs.OrderFaults.{IsOrderFault}
 use Rattle.projection.specs.Projects.{Projects}
 use Rattle.correspondence.specs.Laws.{CannotStep, HasEndedEmpty}
-use Rattle.projection_follows.specs.Premises.{IsProjectionOf}
+use Rattle.accepted_files.specs.Premises.{IsProjectionOf}
 use Rattle.file_trees.specs.Lists.{lists_of}
 
 -- no fault of names, where the host functions have these names, none of protocols and none of types, no call that isn't

@@ -1,6 +1,14 @@
+pub mod FreeSessions
+pub mod PlayedRoles
+pub mod Premises
+pub mod ProjectionLaws
+pub mod ProjectionExample
 pub mod Roles
 pub mod Accepted
 pub mod Scheduled
 pub mod Runs
 pub mod GreatestSets
 pub mod Example
+pub mod FaultlessLaws
+pub mod Held
+pub mod HeldLaws

@@ -2,7 +2,7 @@
 use Rattle.std.specs.Prelude.{ℕ, List}
 use Rattle.chor_tree.specs.declared.file.File.{File}
 use Rattle.typed_sources.specs.Laws.{IsAccepted}
-use Rattle.projection_follows.specs.Premises.{HoldsItsRoles}
+use Rattle.accepted_files.specs.Premises.{HoldsItsRoles}
 
 -- everybody holds the roles that it plays
 abbrev pub EverybodyHoldsItsRoles : Type 0

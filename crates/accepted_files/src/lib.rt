@@ -1,8 +1,13 @@
-//! From a file without faults, in which each process holds the roles that it plays, to the runs of
-//! its projection's network, and from the scheduled run of that network to runs of the choreography.
+//! The code of a projection follows its choreography, and its network has the same runs. From a file
+//! without faults, in which each process holds the roles that it plays, to the runs of its
+//! projection's network, and from the scheduled run of that network to runs of the choreography. The
+//! projection of such a file has no fault either, and asks only host functions that are known.
 #![tactic(auto)]
 
+mod faultless;
+mod following;
 mod greatest;
+mod held;
 mod worked;
 
 ghost use Rattle.accepted_files.specs.Roles.{EverybodyHoldsItsRoles};
@@ -10,7 +15,13 @@ ghost use Rattle.accepted_files.specs.Accepted.{CheckedIsProjection, NetworkRuns
 ghost use Rattle.accepted_files.specs.Scheduled.{NothingHappens, ScheduledRunsClose};
 ghost use Rattle.accepted_files.specs.Runs.{ScheduledRunsAreRuns};
 
+pub use faultless::{asked_functions_answer, projection_asks_known, projection_is_faultless};
+pub use following::{
+    call_follows, endless_exchange_holds_its_roles, projected_code_follows, projection_never_stuck,
+    projection_realizes, projection_runs, service_started_twice_is_a_projection,
+};
 pub use greatest::{faultless_is_linear, greatest_sets_exist};
+pub use held::{codes_are_scoped, services_are_scoped};
 pub use worked::service_started_twice_is_checked;
 
 /// In a file without faults of names, protocols and types everybody holds its roles: the processes
@@ -32,7 +43,7 @@ pub fn checked_runs()
     ensures conform { NetworkRunsConform }
     ensures end { EndedNetworkEnds }
 {
-    projection_follows::projection_runs();
+    crate::projection_runs();
     typed_sources::runs_conform();
 }
 
@@ -40,7 +51,7 @@ pub fn checked_runs()
 pub fn checked_never_stuck()
     ensures { NeverStuck }
 {
-    projection_follows::projection_never_stuck();
+    crate::projection_never_stuck();
 }
 
 /// Where no process of a network can step, no event can happen.

@@ -8,7 +8,7 @@ use Rattle.chor_tree.specs.declared.file.File.{File}
 use Rattle.delegation.specs.Checks.{all_differ}
 use Rattle.well_formed.proofs.References.{true_eq, or_left, or_rights, and_first, and_second}
 use Rattle.type_check.specs.Typed.{IsFine}
-use Rattle.faultless_projections.proofs.Files.{processes_differ}
+use Rattle.accepted_files.proofs.Files.{processes_differ}
 use Rattle.source_check.specs.Source.{IsFileOf, IsAccepted}
 use Rattle.source_check.specs.declared.rules.Rules.TheVariants.{All}
 use Rattle.chor_lexer.proofs.DistinctTables.{distinct_names, distinct_texts}

@@ -5,7 +5,7 @@ ghost use Rattle.chor_host.specs.Functions.{names_of as host_names, hosts_in};
 ghost use Rattle.chor_host.specs.Tables.{functions_of};
 ghost use Rattle.chor_tree.specs.Names.{names_in};
 ghost use Rattle.accepted_files.specs.Accepted.{NetworkRunsAreRuns, RunsAreNetworkRuns};
-ghost use Rattle.faultless_projections.specs.Laws.{ProjectionIsFaultless};
+ghost use Rattle.accepted_files.specs.FaultlessLaws.{ProjectionIsFaultless};
 ghost use Rattle.endpoint_code.specs.Faults.{IsFaultlessWith};
 ghost use Rattle.event_files.specs.Networks.{ReplaysNetwork};
 ghost use Rattle.event_reader.specs.Known.{AreWords, IsBook};
@@ -56,7 +56,7 @@ fn laws()
     ensures back { RunsAreNetworkRuns }
     ensures end { RunsEndTogether }
 {
-    faultless_projections::projection_is_faultless();
+    accepted_files::projection_is_faultless();
     accepted_files::checked_runs();
     crate::laws::runs_end_together();
 }

@@ -5,7 +5,7 @@ use Rattle.chor_tree.specs.declared.file.File.{File}
 use Rattle.endpoint_code.specs.declared.endpoints.Endpoints.{Endpoints}
 use Rattle.endpoint_code.specs.Faults.{IsFaultless}
 use Rattle.accepted_files.specs.Accepted.{IsChecked}
-use Rattle.faultless_projections.specs.Laws.{ProjectionIsFaultless}
+use Rattle.accepted_files.specs.FaultlessLaws.{ProjectionIsFaultless}
 use Rattle.source_check.specs.Classes.{classes_of, IsFaultless as HasNoFault}
 use Rattle.source_check.specs.Source.{IsAccepted}
 use Rattle.source_check.specs.declared.rules.Rules.TheVariants.{All}

@@ -11,7 +11,7 @@ use Rattle.chor_host.specs.Exact.{IsExact}
 use Rattle.endpoint_code.specs.declared.endpoints.Channel.{Channel}
 use Rattle.endpoint_code.specs.declared.endpoints.Endpoints.{Endpoints}
 use Rattle.endpoint_code.specs.Trees.{Action, Joins, Sends, Receives, Selects, Gives, Gains, Sets, Shows, Asks, CodeTree, Does, Offers, Tests, Calls, Ends, Arms, NoArms, Arm, code_at}
-use Rattle.faultless_projections.specs.Laws.{AreExact}
+use Rattle.accepted_files.specs.FaultlessLaws.{AreExact}
 use Rattle.event_reader.specs.Known.{IsInt}
 use Rattle.printed_units.specs.Spelled.{IsWritable, IsActionSpelled, IsCodeSpelled, AreArmsSpelled, IsProcedureSpelled, IsServiceSpelled, IsProcessSpelled}
 use Rattle.printed_units.specs.Limits.{IsChannelWithin}

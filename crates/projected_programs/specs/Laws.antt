@@ -20,7 +20,7 @@ use Rattle.event_reader.specs.Known.{HasEvent}
 use Rattle.projected_programs.specs.Told.{AreNumbersSmall, IsShort, AreTold}
 use Rattle.projection.specs.Projects.{Projects}
 use Rattle.accepted_files.specs.Runs.{IsRunOf}
-pub use Rattle.faultless_projections.specs.Laws.{AreExact}
+pub use Rattle.accepted_files.specs.FaultlessLaws.{AreExact}
 use Rattle.source_check.specs.Source.{IsAccepted}
 use Rattle.source_check.specs.declared.rules.Rules.TheVariants.{All}
 

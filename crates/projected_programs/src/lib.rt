@@ -43,8 +43,8 @@ pub fn projected_text_is_taken()
     ensures { ProjectedTextIsTaken }
 {
     writable_sources::projection_is_writable();
-    faultless_projections::projection_is_faultless();
-    faultless_projections::projection_asks_known();
+    accepted_files::projection_is_faultless();
+    accepted_files::projection_asks_known();
     printed_endpoints::text_is_taken();
 }
 
@@ -54,11 +54,11 @@ pub fn projected_text_runs()
     ensures { ProjectedTextRuns }
 {
     writable_sources::projection_is_writable();
-    faultless_projections::projection_is_faultless();
+    accepted_files::projection_is_faultless();
     printed_endpoints::text_reads_back();
     crate::copies_are_faultless();
     program_runs::transcripts_agree();
-    faultless_projections::asked_functions_answer();
+    accepted_files::asked_functions_answer();
     accepted_files::scheduled_runs_are_runs();
 }
 
@@ -68,7 +68,7 @@ pub fn source_runs_are_told()
     ensures { SourceRunsAreTold }
 {
     writable_sources::projection_is_writable();
-    faultless_projections::projection_is_faultless();
+    accepted_files::projection_is_faultless();
     accepted_files::checked_runs();
     crate::few_told();
 }

@@ -4,7 +4,7 @@ ghost use Rattle.std.specs.Prelude.{◌≡◌, ◌<◌, ◌≤◌, ◌^◌, IfOk
 ghost use Rattle.chor_host.specs.Functions.{names_of, hosts_in};
 ghost use Rattle.chor_host.specs.Tables.{functions_of};
 ghost use Rattle.well_formed.specs.Asked.{IsAnswered};
-ghost use Rattle.faultless_projections.specs.Laws.{ProjectionIsFaultless};
+ghost use Rattle.accepted_files.specs.FaultlessLaws.{ProjectionIsFaultless};
 ghost use Rattle.accepted_files.specs.Runs.{ScheduledRunsAreRuns};
 ghost use Rattle.simulation.specs.Runs.{IsOutcomeOf};
 
@@ -63,7 +63,7 @@ pub(crate) fn laws()
     ensures faultless { ProjectionIsFaultless }
     ensures runs { ScheduledRunsAreRuns }
 {
-    faultless_projections::projection_is_faultless();
+    accepted_files::projection_is_faultless();
     accepted_files::scheduled_runs_are_runs();
 }
 
@@ -72,7 +72,7 @@ pub(crate) fn functions_answer(accepted: &Accepted, hosts: &HostTable)
     requires { accepted.now.typed.hosts ≡ names_of (functions_of hosts.now) }
     ensures { IsAnswered accepted.now.typed.file (hosts_in accepted.now.typed.file.names (functions_of hosts.now)) }
 {
-    faultless_projections::asked_functions_answer();
+    accepted_files::asked_functions_answer();
     // that no name stands twice
     let _count = accepted.typed().file().names.len();
 }

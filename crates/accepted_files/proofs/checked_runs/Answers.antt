@@ -1,4 +1,4 @@
-use Rattle.projection_follows.proofs.Realizes.{realizes}
+use Rattle.accepted_files.proofs.Realizes.{realizes}
 use Rattle.file_trees.specs.Lists.{lists_of}
 use Rattle.accepted_files.proofs.Accepted.{sets, has_active, is_projection}
 use Rattle.accepted_files.proofs.Ended.{ended_run}

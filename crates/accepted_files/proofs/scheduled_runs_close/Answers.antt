@@ -3,7 +3,7 @@ use Rattle.endpoint_code.specs.Network.{first_state}
 use Rattle.endpoint_code.specs.NetworkRuns.{IsNetworkRun}
 use Rattle.endpoint_code.specs.Scheduled.{Closes, ended, limit, stuck, Ended, Limit, Stuck, Close, first_waiting}
 use Rattle.endpoint_code.proofs.Chosen.{scheduled_leads}
-use Rattle.projection_follows.proofs.Realizes.{realizes}
+use Rattle.accepted_files.proofs.Realizes.{realizes}
 use Rattle.file_trees.specs.Lists.{lists_of}
 use Rattle.accepted_files.proofs.Accepted.{sets, has_active, is_projection}
 use Rattle.accepted_files.proofs.Ended.{ended_run}

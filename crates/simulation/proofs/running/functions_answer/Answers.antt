@@ -4,7 +4,7 @@ use Rattle.chor_tree.specs.declared.file.File.{File}
 use Rattle.type_check.specs.declared.typed.Typed.{Typed}
 use Rattle.type_check.specs.Typed.{HasFineNames}
 use Rattle.chor_host.specs.Tables.{functions_of}
-use Rattle.faultless_projections.proofs.Tables.{all_exact}
+use Rattle.accepted_files.proofs.Tables.{all_exact}
 use Rattle.simulation.proofs.running.functions_answer.Goals as goal
 
 pub returns : goal.returns

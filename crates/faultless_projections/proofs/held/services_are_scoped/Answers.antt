@@ -1,6 +1,0 @@
-use Rattle.projection_follows.proofs.FromProjects.{has_units}
-use Rattle.faultless_projections.proofs.Services.{service_scoped}
-use Rattle.faultless_projections.proofs.held.services_are_scoped.Goals as goal
-
-pub returns : goal.returns
-returns o f e pr a r starts x some uses code = service_scoped f e (has_units f e pr) a r starts x some uses code
