@@ -17,7 +17,7 @@ use Rattle.endpoint_laws.proofs.Verdicts.{never_refused, one_refusal}
 use Rattle.endpoint_text.specs.Text.{endpoints_text}
 use Rattle.transcript.specs.Text.{transcript}
 use Rattle.program_runs.specs.Transcripts.{closing_text, IsTranscriptOf}
-use Rattle.one_execution.proofs.Transcripts.{transcript_agrees}
+use Rattle.projected_programs.proofs.Transcripts.{transcript_agrees}
 use Rattle.program_runs.specs.Books.{book_of}
 use Rattle.simulation.specs.Runs.{IsRunOf}
 use Rattle.projected_programs.specs.Laws.{AreProjected, ProjectedTextIsTaken, IsRunTranscript, ProjectedTextRuns}

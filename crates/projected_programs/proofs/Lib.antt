@@ -23,3 +23,7 @@ mod Acts
 mod Starts
 pub mod SizedRuns
 pub mod Read
+pub mod SameTerms
+pub mod SameCodes
+pub mod Programs
+pub mod Transcripts

@@ -1,8 +1,10 @@
-//! Bytes are endpoint programs or violate a rule; programs that are read tell each event of their
-//! runs; and what the endpoint programs of a source do, and those that are read from their text.
+//! Bytes are endpoint programs or violate a rule; programs that are read from the same bytes are the
+//! same, and tell each event of their runs; and what the endpoint programs of a source do, and those
+//! that are read from their text.
 #![tactic(auto)]
 
 mod copies;
+mod same_bytes;
 mod telling;
 mod texts;
 
@@ -15,6 +17,7 @@ ghost use Rattle.projected_programs.specs.Laws.{AreProgramsOrRefused, RunsAreTol
 
 use chor_host::HostTable;
 pub use copies::{copies_are_faultless, copies_ask_known};
+pub use same_bytes::{programs_of_bytes_are_same, transcripts_of_bytes_agree};
 pub use telling::{all_told, few_told};
 pub use texts::text_is_of_programs;
 

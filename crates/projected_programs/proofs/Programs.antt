@@ -32,8 +32,8 @@ use Rattle.endpoint_laws.specs.Reading.{written_body}
 use Rattle.same_programs.specs.Codes.{SameCode}
 use Rattle.same_programs.specs.Programs.{SameCodeAt, SameChannel, SameProcedure, SameService, SameProcess, SamePrograms, IsCopy}
 use Rattle.printed_endpoints.proofs.There.{body_there}
-use Rattle.one_execution.proofs.Terms.{HaveTables, N, T, name_same, names_same}
-use Rattle.one_execution.proofs.Codes.{body_same}
+use Rattle.projected_programs.proofs.SameTerms.{HaveTables, N, T, name_same, names_same}
+use Rattle.projected_programs.proofs.SameCodes.{body_same}
 
 module _ (hosts : List (List ℕ)) {e f : Endpoints} {i j : Input} (tables : HaveTables e f i j) (w v : Written)
     (made : IsMadeOf w i.names.now i.texts.now e) (other : IsMadeOf v j.names.now j.texts.now f)

@@ -14,7 +14,7 @@ use Rattle.endpoint_laws.specs.Reading.{written_body, written_arms}
 use Rattle.same_programs.specs.Codes as same
 use Rattle.same_programs.specs.Codes.{SameAction, SameCode, SameArms}
 use Rattle.printed_endpoints.proofs.There.{IsBodyThere, AreArmsThere}
-use Rattle.one_execution.proofs.Terms.{HaveTables, N, T, name_same, names_same, term_same}
+use Rattle.projected_programs.proofs.SameTerms.{HaveTables, N, T, name_same, names_same, term_same}
 
 module _ {e f : Endpoints} {i j : Input} (tables : HaveTables e f i j) where
   action_same : (a b : Action) → IsActionThere i a → IsActionThere j b → deed_of i a ≡ deed_of j b → SameAction (N tables) (T tables) (action_of a) (action_of b)

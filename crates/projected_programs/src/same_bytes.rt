@@ -1,7 +1,6 @@
 //! Endpoint programs that the same bytes are the text of are the same programs, and have the same transcripts.
-#![tactic(auto)]
 
-ghost use Rattle.one_execution.specs.Laws.{ProgramsOfBytesAreSame, TranscriptsOfBytesAgree};
+ghost use Rattle.projected_programs.specs.SameBytes.{ProgramsOfBytesAreSame, TranscriptsOfBytesAgree};
 
 /// What is read from the same bytes are the same programs, up to the numbers of nodes.
 pub fn programs_of_bytes_are_same()

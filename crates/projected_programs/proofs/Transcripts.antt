@@ -5,7 +5,7 @@ use Rattle.endpoint_code.specs.declared.endpoints.Endpoints.{Endpoints}
 use Rattle.endpoint_check.specs.Programs.{AreProgramsOf}
 use Rattle.program_runs.specs.Transcripts.{IsTranscriptOf}
 use Rattle.program_runs.proofs.SameTranscripts.{transcript_same}
-use Rattle.one_execution.proofs.Programs.{are_copies}
+use Rattle.projected_programs.proofs.Programs.{are_copies}
 
 pub transcript_agrees : (functions : List Function) (bytes : List ℕ) (e f : Endpoints) (seed steps : ℕ) (text : List ℕ) (stuck : Bool)
     → AreProgramsOf (names_of functions) bytes e → AreProgramsOf (names_of functions) bytes f → IsTranscriptOf functions e seed steps text stuck → IsTranscriptOf functions f seed steps text stuck

@@ -1,4 +1,0 @@
-pub mod Terms
-pub mod Codes
-pub mod Programs
-pub mod Transcripts

@@ -1,5 +1,0 @@
-use Rattle.one_execution.proofs.Programs.{are_same}
-use Rattle.one_execution.proofs.programs_of_bytes_are_same.Goals as goal
-
-pub returns : goal.returns
-returns g hosts bytes e f p q = are_same hosts bytes e f p q
