@@ -15,3 +15,21 @@ mod Alike
 mod Readings
 mod Rules
 pub mod Verdicts
+pub mod SymbolReading
+pub mod Expressions
+pub mod PrintedBodies
+pub mod LimitOrdering
+pub mod PrintedUnits
+pub mod SymbolOrdering
+pub mod Cutting
+pub mod SameNames
+pub mod AskedOrdering
+pub mod PrintedFaults
+pub mod FaultlessBodies
+pub mod FaultlessUnits
+pub mod Whole
+pub mod Reordered
+pub mod Terms
+pub mod There
+pub mod Codes
+pub mod Programs

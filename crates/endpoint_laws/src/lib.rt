@@ -1,6 +1,10 @@
 //! Endpoint programs that are written without a fault have none; bytes that are endpoint programs
-//! violate no rule, and bytes violate one rule at most.
+//! violate no rule, and bytes violate one rule at most; the text of endpoint programs has tokens and
+//! units that say them, and what is read from it are the same programs.
 #![tactic(auto)]
+
+mod printed;
+mod tokens;
 
 ghost use Rattle.std.specs.Prelude.{◌≡◌, ℕ, List};
 ghost use Rattle.chor_base.specs.declared.rule.Refusal.{Refusal};
@@ -8,6 +12,9 @@ ghost use Rattle.endpoint_code.specs.declared.endpoints.Endpoints.{Endpoints};
 ghost use Rattle.endpoint_check.specs.Programs.{AreProgramsOf, ViolatesPrograms};
 ghost use Rattle.endpoint_laws.specs.Laws.{MadeIsFaultless, MadeAsksKnown, FaultlessIsMade, AreAlike};
 ghost use Rattle.endpoint_laws.specs.Reading.{BodiesAreWritten, NamesAreWords};
+
+pub use printed::{text_has_units, text_is_taken, text_reads_back};
+pub use tokens::text_has_symbols;
 
 /// What is made of units without a fault of names and beginnings has no such fault.
 pub fn made_is_faultless()

@@ -31,7 +31,7 @@ use Rattle.endpoint_laws.proofs.Trees.{bodies_written}
 use Rattle.endpoint_laws.specs.Reading.{written_body}
 use Rattle.same_programs.specs.Codes.{SameCode}
 use Rattle.same_programs.specs.Programs.{SameCodeAt, SameChannel, SameProcedure, SameService, SameProcess, SamePrograms, IsCopy}
-use Rattle.printed_endpoints.proofs.There.{body_there}
+use Rattle.endpoint_laws.proofs.There.{body_there}
 use Rattle.projected_programs.proofs.SameTerms.{HaveTables, N, T, name_same, names_same}
 use Rattle.projected_programs.proofs.SameCodes.{body_same}
 

@@ -5,7 +5,7 @@ use Rattle.endpoint_check.specs.Programs.{AreProgramsOf}
 use Rattle.endpoint_code.specs.declared.endpoints.Endpoints.{Endpoints}
 use Rattle.endpoint_text.specs.Text.{endpoints_text}
 use Rattle.projected_programs.specs.Laws.{AreProgramsOrRefused}
-use Rattle.printed_endpoints.proofs.Whole.{text_is_taken}
+use Rattle.endpoint_laws.proofs.Whole.{text_is_taken}
 use Rattle.projected_programs.specs.ReadLaws.{TextIsOfPrograms}
 
 pub text_is_of_programs : ((hosts : List (List ℕ)) (bytes : List ℕ) → length bytes ≤ 2 ^ 24 → AreProgramsOrRefused hosts bytes) → TextIsOfPrograms

@@ -13,7 +13,7 @@ use Rattle.endpoint_making.specs.Codes.{action_of, code_of, arms_of}
 use Rattle.endpoint_laws.specs.Reading.{written_body, written_arms}
 use Rattle.same_programs.specs.Codes as same
 use Rattle.same_programs.specs.Codes.{SameAction, SameCode, SameArms}
-use Rattle.printed_endpoints.proofs.There.{IsBodyThere, AreArmsThere}
+use Rattle.endpoint_laws.proofs.There.{IsBodyThere, AreArmsThere}
 use Rattle.projected_programs.proofs.SameTerms.{HaveTables, N, T, name_same, names_same, term_same}
 
 module _ {e f : Endpoints} {i j : Input} (tables : HaveTables e f i j) where

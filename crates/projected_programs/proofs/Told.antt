@@ -13,9 +13,9 @@ use Rattle.endpoint_code.specs.declared.endpoints.Endpoints.{Endpoints}
 use Rattle.endpoint_code.specs.Trees.{Action, Joins, Sends, Receives, Selects, Gives, Gains, Sets, Shows, Asks, CodeTree, Does, Offers, Tests, Calls, Ends, Arms, NoArms, Arm, code_at}
 use Rattle.accepted_files.specs.FaultlessLaws.{AreExact}
 use Rattle.event_reader.specs.Known.{IsInt}
-use Rattle.printed_units.specs.Spelled.{IsWritable, IsActionSpelled, IsCodeSpelled, AreArmsSpelled, IsProcedureSpelled, IsServiceSpelled, IsProcessSpelled}
-use Rattle.printed_units.specs.Limits.{IsChannelWithin}
-use Rattle.printed_units.specs.Laws.{AreWritable}
+use Rattle.endpoint_laws.specs.Spelled.{IsWritable, IsActionSpelled, IsCodeSpelled, AreArmsSpelled, IsProcedureSpelled, IsServiceSpelled, IsProcessSpelled}
+use Rattle.endpoint_laws.specs.Limits.{IsChannelWithin}
+use Rattle.endpoint_laws.specs.PrintedLaws.{AreWritable}
 use Rattle.projected_programs.specs.Sizes.{IsTermSized, IsActionSized, IsCodeSized, AreArmsSized, AreLiteralsSized, AreMeaningsSized}
 use Rattle.projected_programs.proofs.Hosts.{functions_sized}
 use Rattle.projected_programs.specs.Told.{most_served, IsShort}

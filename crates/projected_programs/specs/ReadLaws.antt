@@ -5,7 +5,7 @@ use Rattle.endpoint_code.specs.declared.endpoints.Endpoints.{Endpoints}
 use Rattle.endpoint_code.specs.Faults.{IsFaultless}
 use Rattle.merged_codes.specs.Asked.{BodiesAskKnown}
 use Rattle.endpoint_text.specs.Text.{endpoints_text}
-use Rattle.printed_units.specs.Laws.{AreWritable}
+use Rattle.endpoint_laws.specs.PrintedLaws.{AreWritable}
 
 -- The text of programs without a fault, where it is no longer than a file may be, is that of some programs
 abbrev pub TextIsOfPrograms : Type 0

@@ -48,7 +48,7 @@ pub fn projected_text_is_taken()
     writable_sources::projection_is_writable();
     accepted_files::projection_is_faultless();
     accepted_files::projection_asks_known();
-    printed_endpoints::text_is_taken();
+    endpoint_laws::text_is_taken();
 }
 
 /// What is read from that text has no transcript but that of the source's own run: first in, first
@@ -58,7 +58,7 @@ pub fn projected_text_runs()
 {
     writable_sources::projection_is_writable();
     accepted_files::projection_is_faultless();
-    printed_endpoints::text_reads_back();
+    endpoint_laws::text_reads_back();
     crate::copies_are_faultless();
     program_runs::transcripts_agree();
     accepted_files::asked_functions_answer();

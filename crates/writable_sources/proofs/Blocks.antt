@@ -19,7 +19,7 @@ use Rattle.canonical_laws.proofs.Derived.{list_derived}
 use Rattle.canonical_laws.proofs.Tokens.{Stands}
 use Rattle.chor_semantics.specs.Sources.{name_ref, parts_of}
 use Rattle.endpoint_code.specs.declared.endpoints.Endpoints.{Endpoints}
-use Rattle.printed_units.specs.Spelled.{IsNamed}
+use Rattle.endpoint_laws.specs.Spelled.{IsNamed}
 use Rattle.chor_semantics.specs.Blocks.{node_of, choreography_of}
 use Rattle.writable_sources.specs.Written.{IsShortSource, IsNamedRef, IsWritableNode, IsWritableIn}
 use Rattle.writable_sources.specs.Sources.{AreNamedThere}

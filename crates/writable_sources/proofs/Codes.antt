@@ -8,8 +8,8 @@ use Rattle.chor_tree.specs.declared.file.SessionParam.{SessionParam}
 use Rattle.chor_semantics.specs.Choreography.{Ref, Content, OfValue, OfLabel, OfPart, Own, Sets as SetsOwn, Shows as ShowsOwn, Asks as AsksOwn, Node, Starts, Communicates, InTransit, Alone, Choreography}
 use Rattle.endpoint_code.specs.declared.endpoints.Endpoints.{Endpoints}
 use Rattle.endpoint_code.specs.Trees.{CodeTree}
-use Rattle.printed_units.specs.Spelled.{IsNamed, AreNamed, IsActionSpelled}
-use Rattle.printed_units.specs.Limits.{IsActionShort}
+use Rattle.endpoint_laws.specs.Spelled.{IsNamed, AreNamed, IsActionSpelled}
+use Rattle.endpoint_laws.specs.Limits.{IsActionShort}
 use Rattle.projection.specs.Codes.{Part, Absent, Acts, Learns, name_of, is_named, role_in, joins, sends, receives, acts_alone, part_in, proc_named, param_for, holds, passed_for, call_as, call_code, IsCodeOf, acts, learns, absent, decides, merges, calls, ends}
 use Rattle.projection.proofs.OneCode.{code_distinct}
 use Rattle.writable_sources.specs.Written.{IsNamedRef, IsWritableContent, IsWritableOwn, IsWritableNode, IsWritableIn, IsWritableHead, IsWritableCode}

@@ -6,8 +6,8 @@ use Rattle.endpoint_code.specs.declared.endpoints.Endpoints.{Endpoints}
 use Rattle.endpoint_code.specs.Labels.{HasDistinctLabels, ArmIsIn, here, there, IsReordered, does, offers, tests, calls, ends, AreReordered, no_arm, one_arm}
 use Rattle.endpoint_code.specs.LeastAbove.{IsLeastAbove}
 use Rattle.endpoint_code.specs.Trees.{CodeTree, Does, Offers, Tests, Calls, Ends, Arms, NoArms, Arm}
-use Rattle.printed_units.specs.Spelled.{IsCodeSpelled, AreArmsSpelled, IsNamed}
-use Rattle.printed_units.specs.Limits.{HasArm, Fits, EachFits}
+use Rattle.endpoint_laws.specs.Spelled.{IsCodeSpelled, AreArmsSpelled, IsNamed}
+use Rattle.endpoint_laws.specs.Limits.{HasArm, Fits, EachFits}
 use Rattle.merged_codes.specs.Merges.{IsMerge, both_do, both_offer, both_test, both_call, both_end, AreMergedArms, left_over, alone, in_both, IsMergeOf, no_other, one_other}
 use Rattle.merged_codes.proofs.Least.{least_made}
 use Rattle.writable_sources.specs.Written.{IsWritableCode}

@@ -8,7 +8,7 @@ use Rattle.endpoint_code.specs.declared.endpoints.Endpoints.{Endpoints}
 use Rattle.endpoint_code.specs.Labels.{HasDistinctLabels}
 use Rattle.endpoint_code.specs.LeastAbove.{IsLeastAbove}
 use Rattle.endpoint_code.specs.Trees.{CodeTree}
-use Rattle.printed_units.specs.Spelled.{IsNamed}
+use Rattle.endpoint_laws.specs.Spelled.{IsNamed}
 use Rattle.projection.specs.Projects.{Started, is_some_start, session_as, IsStartCode, IsServiceCode}
 use Rattle.projection.proofs.OneCode.{code_distinct}
 use Rattle.writable_sources.specs.Written.{IsNamedRef, IsWritableContent, IsWritableNode, IsWritableIn, IsWritableHead, IsWritableCode}

@@ -22,7 +22,7 @@ use Rattle.canonical_laws.proofs.Known.{file_sound}
 use Rattle.canonical_laws.proofs.Tables.{are_words, known}
 use Rattle.canonical_laws.proofs.Tokens.{Stands, name_begins}
 use Rattle.endpoint_code.specs.declared.endpoints.Endpoints.{Endpoints}
-use Rattle.printed_units.specs.Spelled.{IsNamed}
+use Rattle.endpoint_laws.specs.Spelled.{IsNamed}
 use Rattle.writable_sources.specs.Sources.{IsWritableService, IsWritableProcedure, IsWritableSource}
 use Rattle.writable_sources.proofs.Limits.{list_few, derived_all}
 use Rattle.writable_sources.proofs.Blocks.{name_named, names_named, any_names_named, block_writable}

@@ -15,8 +15,8 @@ use Rattle.endpoint_code.specs.declared.endpoints.Procedure.{Procedure}
 use Rattle.endpoint_code.specs.declared.endpoints.ServiceCode.{ServiceCode}
 use Rattle.endpoint_code.specs.declared.endpoints.Process.{Process}
 use Rattle.endpoint_code.specs.declared.endpoints.Endpoints.{Endpoints}
-use Rattle.printed_units.specs.Spelled.{IsNamed, AreNamed, IsChannelSpelled, IsProcedureSpelled, IsServiceSpelled, IsProcessSpelled}
-use Rattle.printed_units.specs.Limits.{IsBodyWithin, IsChannelWithin, IsProcedureWithin}
+use Rattle.endpoint_laws.specs.Spelled.{IsNamed, AreNamed, IsChannelSpelled, IsProcedureSpelled, IsServiceSpelled, IsProcessSpelled}
+use Rattle.endpoint_laws.specs.Limits.{IsBodyWithin, IsChannelWithin, IsProcedureWithin}
 use Rattle.projection.specs.Codes.{holds, sessions_for}
 use Rattle.projection.specs.Projects.{body_at, is_some_start, starts_of, channel_from, names_of, parameters_of, service_roles, IsProcedureOf, IsServiceOf, IsProcessOf}
 use Rattle.writable_sources.specs.Written.{IsWritableIn, IsWritableHead}

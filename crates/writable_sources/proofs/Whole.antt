@@ -10,9 +10,9 @@ use Rattle.chor_tree.specs.Source.{body_of, procedure_of, source_of}
 use Rattle.source_grammar.specs.Faults.{IsWithin}
 use Rattle.chor_lexer.proofs.DistinctTables.{distinct_names, distinct_texts}
 use Rattle.endpoint_code.specs.declared.endpoints.Endpoints.{Endpoints}
-use Rattle.printed_units.specs.Spelled.{AreSpelled, IsChannelSpelled, IsProcedureSpelled, IsServiceSpelled, IsProcessSpelled}
-use Rattle.printed_units.specs.Laws.{AreWritable}
-use Rattle.printed_units.specs.Limits.{IsBodyWithin, IsChannelWithin, IsProcedureWithin, AreWithin}
+use Rattle.endpoint_laws.specs.Spelled.{AreSpelled, IsChannelSpelled, IsProcedureSpelled, IsServiceSpelled, IsProcessSpelled}
+use Rattle.endpoint_laws.specs.PrintedLaws.{AreWritable}
+use Rattle.endpoint_laws.specs.Limits.{IsBodyWithin, IsChannelWithin, IsProcedureWithin, AreWithin}
 use Rattle.projection.specs.Projects.{Projects, starts_of, body_at, is_some_start, started_services, channel_from, IsProcessOf}
 use Rattle.chor_semantics.specs.Blocks.{choreography_of}
 use Rattle.chor_semantics.proofs.Blocks.{block_choreography}

@@ -13,8 +13,8 @@ use Rattle.endpoint_code.specs.declared.endpoints.Endpoints.{Endpoints}
 use Rattle.endpoint_code.specs.Labels.{HasDistinctLabels}
 use Rattle.endpoint_code.specs.LeastAbove.{IsLeastAbove}
 use Rattle.endpoint_code.specs.Trees.{CodeTree}
-use Rattle.printed_units.specs.Spelled.{IsNamed}
-use Rattle.printed_units.specs.Laws.{AreWritable}
+use Rattle.endpoint_laws.specs.Spelled.{IsNamed}
+use Rattle.endpoint_laws.specs.PrintedLaws.{AreWritable}
 use Rattle.projection.specs.Codes.{IsCodeOf}
 use Rattle.projection.specs.Projects.{Started, is_some_start, IsServiceCode, Projects}
 use Rattle.source_check.specs.Source.{IsFileOf, IsAccepted}

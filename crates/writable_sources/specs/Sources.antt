@@ -5,7 +5,7 @@ use Rattle.chor_tree.specs.declared.file.Named.{Named}
 use Rattle.chor_tree.specs.declared.file.Service.{Service}
 use Rattle.chor_tree.specs.Source.{Procedure, Source}
 use Rattle.endpoint_code.specs.declared.endpoints.Endpoints.{Endpoints}
-use Rattle.printed_units.specs.Spelled.{IsNamed}
+use Rattle.endpoint_laws.specs.Spelled.{IsNamed}
 use Rattle.chor_semantics.specs.Blocks.{choreography_of}
 use Rattle.writable_sources.specs.Written.{IsWritableIn}
 

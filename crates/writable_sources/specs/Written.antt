@@ -6,8 +6,8 @@ use Rattle.chor_tree.specs.declared.file.Proc.{Proc}
 use Rattle.chor_semantics.specs.Choreography.{Ref, Content, OfValue, OfLabel, OfPart, Own, Sets, Shows, Asks, Node, Starts, Communicates, InTransit, Alone, Choreography, Then, Either, Calls, Ends}
 use Rattle.endpoint_code.specs.declared.endpoints.Endpoints.{Endpoints}
 use Rattle.endpoint_code.specs.Trees.{CodeTree}
-use Rattle.printed_units.specs.Spelled.{IsNamed, IsWritable, IsCodeSpelled}
-use Rattle.printed_units.specs.Limits.{IsShort, Fits}
+use Rattle.endpoint_laws.specs.Spelled.{IsNamed, IsWritable, IsCodeSpelled}
+use Rattle.endpoint_laws.specs.Limits.{IsShort, Fits}
 use Rattle.projection.specs.Codes.{name_of}
 
 -- ---- choreographies

@@ -1,6 +1,0 @@
-pub mod Limits
-pub mod Says
-pub mod Laws
-pub mod Ordered
-pub mod Symbols
-pub mod Spelled
