@@ -25,12 +25,12 @@ use Rattle.correspondence.specs.Premises.{IsUnhindered}
 use Rattle.projection.specs.Codes.{proc_named}
 use Rattle.projection.specs.Projects.{Projects, parameters_of, body_at}
 use Rattle.accepted_files.specs.Premises.{EachGuarded, ProceduresChecked, MainChecked, IsProjectionOf}
-use Rattle.file_trees.specs.Lists.{lists_of}
-use Rattle.file_trees.proofs.Places.{lists_fit}
-use Rattle.file_trees.proofs.Declared.{main_held, bodies_held}
-use Rattle.file_trees.proofs.Channels.{channels_from}
-use Rattle.file_trees.proofs.Files.{active_there, roles_apart, processes_apart, main_fits, all_fit}
-use Rattle.file_trees.proofs.Guards.{all_guarded}
+use Rattle.typed_sources.specs.Lists.{lists_of}
+use Rattle.typed_sources.proofs.Places.{lists_fit}
+use Rattle.typed_sources.proofs.Declared.{main_held, bodies_held}
+use Rattle.typed_sources.proofs.Channels.{channels_from}
+use Rattle.typed_sources.proofs.WellFormedFiles.{active_there, roles_apart, processes_apart, main_fits, all_fit}
+use Rattle.typed_sources.proofs.Guards.{all_guarded}
 use Rattle.accepted_files.proofs.Parts.{proc_same}
 use Rattle.accepted_files.proofs.Begins.{holds_its_roles}
 use Rattle.accepted_files.specs.Accepted.{IsChecked}

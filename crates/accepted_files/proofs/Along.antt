@@ -35,8 +35,8 @@ use Rattle.typed_sources.proofs.Sources.{NamesKept, IsNamedCall, IsFaultless, sc
 use Rattle.projection.specs.Codes.{is_named, role_in, proc_named, param_for}
 use Rattle.accepted_files.specs.PlayedRoles.{Roles, with_role, HoldsRole, GivesAway, roles_sent, roles_gained, TakesPart, HoldsPassed, HoldsPassedFor, HoldsAtCall, HoldsRoles}
 use Rattle.typed_sources.proofs.Scopes.{among_front}
-use Rattle.file_trees.proofs.Owned.{KeepsOwners, two_parties, GivenFits, given_fits, statement_owned, call_sessions}
-use Rattle.file_trees.proofs.Scopes.{none_of}
+use Rattle.typed_sources.proofs.Owned.{KeepsOwners, two_parties, GivenFits, given_fits, statement_owned, call_sessions}
+use Rattle.typed_sources.proofs.BlockScopes.{none_of}
 use Rattle.accepted_files.proofs.Parts.{active_role, proc_same, passed_holds, listed_role}
 
 -- it knows the roles that it holds

@@ -31,7 +31,7 @@ use Rattle.well_formed.specs.Asked.{CanAnswer, AllAsked, IsAnswered}
 use Rattle.typed_sources.proofs.Calls.{all_of}
 use Rattle.typed_sources.proofs.Resolved.{no_items, both_empty}
 use Rattle.typed_sources.proofs.ProcedureHeads.{no_fault_at}
-use Rattle.file_trees.proofs.Followers.{low, only, other}
+use Rattle.typed_sources.proofs.Followers.{low, only, other}
 use Rattle.chor_host.specs.Functions.{Function, names_of, hosts_in}
 use Rattle.accepted_files.specs.FaultlessLaws.{AreExact}
 use Rattle.accepted_files.proofs.Found.{has_answer}

@@ -21,10 +21,10 @@ use Rattle.typed_sources.proofs.Sources.{scope_with}
 use Rattle.projection.specs.Projects.{body_at}
 use Rattle.accepted_files.specs.PlayedRoles.{sessions_of}
 use Rattle.accepted_files.specs.Premises.{BindsNo}
-use Rattle.file_trees.proofs.Channels.{channel_from, channels_from}
-use Rattle.file_trees.proofs.References.{among_named}
-use Rattle.file_trees.proofs.Named.{AreNamed}
-use Rattle.file_trees.proofs.Files.{main_named, procedure_named, sessions_named}
+use Rattle.typed_sources.proofs.Channels.{channel_from, channels_from}
+use Rattle.typed_sources.proofs.References.{among_named}
+use Rattle.typed_sources.proofs.Named.{AreNamed}
+use Rattle.typed_sources.proofs.WellFormedFiles.{main_named, procedure_named, sessions_named}
 
 -- a channel of the endpoints has a service's name
 channel_known : (wanted : Service → Bool) (ss : List Service) (a : NameId) (k : Channel) → channel_in (map channel_from (filter wanted ss)) a ≡ Some k → is_among (map (λ s. s.name.name) ss) a ≡ true

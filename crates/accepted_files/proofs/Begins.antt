@@ -37,10 +37,10 @@ use Rattle.projection.specs.Codes.{proc_named}
 use Rattle.projection.specs.Projects.{body_at}
 use Rattle.accepted_files.specs.PlayedRoles.{with_role, has_name, params_of, holder_role, roles_of, HoldsRoles, EachServiceHolds, ServicesHoldAt, ServicesHold}
 use Rattle.accepted_files.specs.Premises.{ProceduresHold, MainHolds, AllServicesHold, HoldsItsRoles}
-use Rattle.file_trees.proofs.Owned.{KeepsOwners, statement_owned}
-use Rattle.file_trees.proofs.Declared.{main_keeps, body_keeps}
-use Rattle.file_trees.proofs.Files.{params_apart}
-use Rattle.file_trees.proofs.Scopes.{none_of}
+use Rattle.typed_sources.proofs.Owned.{KeepsOwners, statement_owned}
+use Rattle.typed_sources.proofs.Declared.{main_keeps, body_keeps}
+use Rattle.typed_sources.proofs.WellFormedFiles.{params_apart}
+use Rattle.typed_sources.proofs.BlockScopes.{none_of}
 use Rattle.accepted_files.proofs.Parts.{part_role, proc_same, head_role}
 use Rattle.accepted_files.proofs.Along.{Knows, block_holds}
 

@@ -25,10 +25,10 @@ use Rattle.chor_semantics.proofs.Blocks.{choreography_at}
 use Rattle.typed_sources.proofs.Resolved.{both_empty, each_empty, found_in, is_named_there}
 use Rattle.typed_sources.proofs.ProcedureHeads.{no_fault_at, not_true, is_known, all_apart, names_append, names_map}
 use Rattle.typed_sources.proofs.Accepted.{declared, channels_fine, procedures_fine, main_faultless, procedures_keep}
-use Rattle.file_trees.proofs.Declared.{main_keeps, body_keeps}
-use Rattle.file_trees.proofs.Channels.{StartsIn, channel_there}
-use Rattle.file_trees.proofs.Files.{each_first, main_named, procedure_named, params_apart, sessions_named}
-use Rattle.file_trees.proofs.Roles.{once_apart}
+use Rattle.typed_sources.proofs.Declared.{main_keeps, body_keeps}
+use Rattle.typed_sources.proofs.Channels.{StartsIn, channel_there}
+use Rattle.typed_sources.proofs.WellFormedFiles.{each_first, main_named, procedure_named, params_apart, sessions_named}
+use Rattle.typed_sources.proofs.Roles.{once_apart}
 use Rattle.accepted_files.proofs.StartedChannels.{named_so, main_starts, body_starts}
 use Rattle.projection.specs.Projects.{Projects, starts_in, starts_in_procs, starts_of, body_at, is_some_start, channel_from}
 use Rattle.accepted_files.specs.Held.{UsesHeld, StartUses}

@@ -35,10 +35,10 @@ use Rattle.chor_semantics.specs.Blocks.{node_of, choreography_of}
 use Rattle.typed_sources.proofs.Sources.{NamesKept, IsNamedCall, IsFaultless, scope_with}
 use Rattle.projection.specs.Codes.{is_named, name_of, role_in, proc_named, param_for}
 use Rattle.typed_sources.proofs.Scopes.{among_front}
-use Rattle.file_trees.proofs.Owned.{KeepsOwners, two_parties, GivenFits, given_fits, statement_owned, call_sessions}
-use Rattle.file_trees.proofs.Channels.{channel_from}
-use Rattle.file_trees.proofs.Named.{IsNewStart, SessionsKept, AreNamed}
-use Rattle.file_trees.proofs.Scopes.{none_of}
+use Rattle.typed_sources.proofs.Owned.{KeepsOwners, two_parties, GivenFits, given_fits, statement_owned, call_sessions}
+use Rattle.typed_sources.proofs.Channels.{channel_from}
+use Rattle.typed_sources.proofs.Named.{IsNewStart, SessionsKept, AreNamed}
+use Rattle.typed_sources.proofs.BlockScopes.{none_of}
 use Rattle.accepted_files.proofs.Parts.{active_role, proc_same, passed_holds, listed_role}
 use Rattle.accepted_files.specs.Held.{Held, with_held, GivesHeld, GainsNew, held_after, Exchanges, JoinsNew, HoldsListed, PassesFor, PassesAtCall, UsesHeld}
 use Rattle.accepted_files.proofs.Knows.{HasRole, Knows, AreThere, DiffersThere, start_roles, parts_apart}

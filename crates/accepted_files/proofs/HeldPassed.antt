@@ -13,7 +13,7 @@ use Rattle.typing_rules.specs.Environment.{Environment}
 use Rattle.typed_sources.proofs.Checked.{some_is}
 use Rattle.typed_sources.proofs.Moved.{passed_other, passed_this, holds_one}
 use Rattle.accepted_files.specs.Held.{Held, with_held}
-use Rattle.file_trees.proofs.Owned.{KeepsOwners}
+use Rattle.typed_sources.proofs.Owned.{KeepsOwners}
 use Rattle.accepted_files.proofs.Knows.{HasRole, Knows}
 
 module _ (r : NameId) (f : File) (scope : Scope) (e : Environment) (t : KeepsOwners scope e) (g : Held) (knows : Knows r g e)

@@ -20,8 +20,8 @@ use Rattle.delegation.specs.Checks.{all_differ}
 use Rattle.typing_rules.specs.Environment.{Environment}
 use Rattle.typed_sources.proofs.ProcedureHeads.{no_fault_at, not_true}
 use Rattle.accepted_files.specs.Held.{Held}
-use Rattle.file_trees.proofs.Channels.{channel_from, StartsIn}
-use Rattle.file_trees.proofs.Scopes.{same_names}
+use Rattle.typed_sources.proofs.Channels.{channel_from, StartsIn}
+use Rattle.typed_sources.proofs.BlockScopes.{same_names}
 
 -- a role of a session that a process holds
 pub record HasRole (hs : List Entry) (k r : NameId) : Type 0 where

@@ -17,7 +17,7 @@ use Rattle.linearity.specs.OrderFaults.{main_of, IsLinearFile}
 use Rattle.linearity.proofs.Orders.{linear_procedures, linear_main}
 use Rattle.typed_sources.proofs.Checked.{some_is}
 use Rattle.typed_sources.proofs.Resolved.{found_in}
-use Rattle.file_trees.proofs.Channels.{channel_from, channels_from}
+use Rattle.typed_sources.proofs.Channels.{channel_from, channels_from}
 
 kept_in : (wanted : Service → Bool) (ss : List Service) (s : Service) → Contains (filter wanted ss) s → Contains ss s
 kept_in wanted [] s (i, l, e) = absurd (omega (arith, l))

@@ -10,7 +10,7 @@ use Rattle.chor_semantics.specs.Choreography.{Node, Starts, Communicates, InTran
 use Rattle.well_formed.proofs.References.{same_name, true_eq}
 use Rattle.typed_sources.proofs.Checked.{some_is}
 use Rattle.projection.specs.Projects.{Started, start_at, starts_in, body_at, starts_in_procs, starts_of, is_some_start}
-use Rattle.file_trees.proofs.Channels.{IsStartOf, StartsIn}
+use Rattle.typed_sources.proofs.Channels.{IsStartOf, StartsIn}
 
 some_left : (xs ys : List Started) → is_some_start xs ≡ true → is_some_start (xs ++ ys) ≡ true
 some_left [] ys h = absurd cc

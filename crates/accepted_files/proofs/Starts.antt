@@ -25,9 +25,9 @@ use Rattle.typed_sources.proofs.Sources.{IsFaultless, scope_with}
 use Rattle.projection.specs.Projects.{start_at, starts_in, serving}
 use Rattle.projection.specs.Renamed.{AreOther}
 use Rattle.typed_sources.proofs.Scopes.{among_front}
-use Rattle.file_trees.proofs.Owned.{KeepsOwners, statement_owned}
-use Rattle.file_trees.proofs.Named.{IsNewStart, AreNamed}
-use Rattle.file_trees.proofs.Scopes.{none_of}
+use Rattle.typed_sources.proofs.Owned.{KeepsOwners, statement_owned}
+use Rattle.typed_sources.proofs.Named.{IsNewStart, AreNamed}
+use Rattle.typed_sources.proofs.BlockScopes.{none_of}
 use Rattle.accepted_files.specs.FreeSessions.{IsFree}
 use Rattle.accepted_files.specs.Held.{UsesHeld, only_in, StartUses}
 use Rattle.accepted_files.proofs.Lists.{append_all}

@@ -5,7 +5,7 @@ use Rattle.chor_tree.specs.declared.file.File.{File}
 use Rattle.chor_tree.specs.declared.file.Proc.{Proc}
 use Rattle.chor_tree.specs.declared.file.Service.{Service}
 use Rattle.projection.specs.Projects.{body_at, starts_of, is_some_start}
-use Rattle.file_trees.proofs.Channels.{AreWanted}
+use Rattle.typed_sources.proofs.Channels.{AreWanted}
 use Rattle.accepted_files.proofs.StartedChannels.{named_so, main_starts, body_starts}
 
 -- a start of the service's channel stands in the file

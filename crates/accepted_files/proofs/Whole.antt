@@ -26,9 +26,9 @@ use Rattle.delegation.specs.Checks.{all_differ}
 use Rattle.typing_rules.specs.Guarded.{IsGuarded}
 use Rattle.typed_sources.specs.Laws.{IsAccepted}
 use Rattle.typed_sources.proofs.Accepted.{procedures_keep}
-use Rattle.file_trees.proofs.Files.{each_first, params_apart}
-use Rattle.file_trees.proofs.Guards.{all_guarded}
-use Rattle.file_trees.proofs.Roles.{back_apart}
+use Rattle.typed_sources.proofs.WellFormedFiles.{each_first, params_apart}
+use Rattle.typed_sources.proofs.Guards.{all_guarded}
+use Rattle.typed_sources.proofs.Roles.{back_apart}
 use Rattle.projection.specs.Codes.{sessions_for}
 use Rattle.projection.specs.Projects.{Projects, starts_of, body_at, is_some_start, started_services, channel_from, names_of, parameters_of, service_roles, IsProcedureOf, IsServiceOf, IsProcessOf}
 use Rattle.accepted_files.specs.Premises.{EachGuarded}

@@ -19,7 +19,7 @@ use Rattle.linearity.specs.OrderFaults.{IsOrderFault}
 use Rattle.projection.specs.Projects.{Projects}
 use Rattle.correspondence.specs.Laws.{CannotStep, HasEndedEmpty}
 use Rattle.accepted_files.specs.Premises.{IsProjectionOf}
-use Rattle.file_trees.specs.Lists.{lists_of}
+use Rattle.typed_sources.specs.Lists.{lists_of}
 
 -- no fault of names, where the host functions have these names, none of protocols and none of types, no call that isn't
 -- guarded, and no start that isn't ordered

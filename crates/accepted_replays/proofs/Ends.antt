@@ -20,7 +20,7 @@ use Rattle.correspondence.proofs.Capacity.{run_has_room}
 use Rattle.correspondence.proofs.Ended.{terminated_ended}
 use Rattle.projection.specs.Projects.{Projects}
 use Rattle.accepted_files.proofs.Realizes.{realizes}
-use Rattle.file_trees.specs.Lists.{lists_of}
+use Rattle.typed_sources.specs.Lists.{lists_of}
 use Rattle.accepted_files.specs.Accepted.{IsChecked}
 use Rattle.accepted_files.proofs.Accepted.{sets, has_active, is_projection}
 use Rattle.accepted_files.proofs.Ended.{ended_run}

@@ -33,3 +33,17 @@ pub mod StartKept
 pub mod Roots
 pub mod Conforming
 pub mod NeverStuck
+pub mod Followers
+pub mod Places
+pub mod Owners
+pub mod Owned
+pub mod Declared
+pub mod Channels
+pub mod References
+pub mod Named
+pub mod Sorted
+pub mod BlockScopes
+pub mod Fit
+pub mod Roles
+pub mod WellFormedFiles
+pub mod Guards

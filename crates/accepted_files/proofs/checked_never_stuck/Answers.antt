@@ -1,4 +1,4 @@
-use Rattle.file_trees.specs.Lists.{lists_of}
+use Rattle.typed_sources.specs.Lists.{lists_of}
 use Rattle.accepted_files.proofs.Accepted.{sets, is_projection, is_unhindered}
 use Rattle.accepted_files.proofs.checked_never_stuck.Goals as goal
 

@@ -1,5 +1,5 @@
 use Rattle.accepted_files.proofs.Realizes.{realizes}
-use Rattle.file_trees.specs.Lists.{lists_of}
+use Rattle.typed_sources.specs.Lists.{lists_of}
 use Rattle.accepted_files.proofs.Accepted.{sets, has_active, is_projection}
 use Rattle.accepted_files.proofs.Ended.{ended_run}
 use Rattle.accepted_files.proofs.checked_runs.Goals as goal

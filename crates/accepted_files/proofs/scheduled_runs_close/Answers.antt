@@ -4,7 +4,7 @@ use Rattle.endpoint_code.specs.NetworkRuns.{IsNetworkRun}
 use Rattle.endpoint_code.specs.Scheduled.{Closes, ended, limit, stuck, Ended, Limit, Stuck, Close, first_waiting}
 use Rattle.endpoint_code.proofs.Chosen.{scheduled_leads}
 use Rattle.accepted_files.proofs.Realizes.{realizes}
-use Rattle.file_trees.specs.Lists.{lists_of}
+use Rattle.typed_sources.specs.Lists.{lists_of}
 use Rattle.accepted_files.proofs.Accepted.{sets, has_active, is_projection}
 use Rattle.accepted_files.proofs.Ended.{ended_run}
 use Rattle.accepted_files.specs.Scheduled.{ClosesWell}

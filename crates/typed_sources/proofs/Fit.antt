@@ -37,12 +37,12 @@ use Rattle.typed_sources.proofs.Opened.{IsNamedStart}
 use Rattle.chor_semantics.specs.Blocks.{node_of, choreography_of}
 use Rattle.typed_sources.proofs.Sources.{IsIn, NamesKept, IsNamedCall, IsFaultless, scope_with, named_same}
 use Rattle.typed_sources.proofs.ProcedureHeads.{no_fault_at, not_true}
-use Rattle.file_trees.proofs.Owned.{KeepsOwners, two_parties, statement_owned}
-use Rattle.file_trees.proofs.Channels.{channel_from, channels_from, AreWanted, channel_there}
-use Rattle.file_trees.proofs.References.{distinct_refs, all_in, refs_same, firsts_same, roles_same, served_roles, list_of, length_map, front_differ}
-use Rattle.file_trees.proofs.Named.{IsNewStart, IsSession, SessionsKept, AreNamed}
-use Rattle.file_trees.proofs.Sorted.{plain_checked}
-use Rattle.file_trees.proofs.Scopes.{Alike, alike_after, none_of, all_new, same_names}
+use Rattle.typed_sources.proofs.Owned.{KeepsOwners, two_parties, statement_owned}
+use Rattle.typed_sources.proofs.Channels.{channel_from, channels_from, AreWanted, channel_there}
+use Rattle.typed_sources.proofs.References.{distinct_refs, all_in, refs_same, firsts_same, roles_same, served_roles, list_of, length_map, front_differ}
+use Rattle.typed_sources.proofs.Named.{IsNewStart, IsSession, SessionsKept, AreNamed}
+use Rattle.typed_sources.proofs.Sorted.{plain_checked}
+use Rattle.typed_sources.proofs.BlockScopes.{Alike, alike_after, none_of, all_new, same_names}
 
 module _ (f : File) (good : ProtocolsFit f) (wanted : Service → Bool) where
   abbrev ks : List Channel

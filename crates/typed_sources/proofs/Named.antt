@@ -21,7 +21,7 @@ use Rattle.typed_sources.proofs.Sources.{scope_with}
 use Rattle.typed_sources.proofs.Resolved.{no_items, both_empty}
 use Rattle.typed_sources.proofs.ProcedureHeads.{no_fault_at, is_known}
 use Rattle.typed_sources.proofs.Accepted.{in_table, all_in_scope, among_either}
-use Rattle.file_trees.proofs.Followers.{low, only, other}
+use Rattle.typed_sources.proofs.Followers.{low, only, other}
 
 -- a start has its channel's roles, and its session has a new name, which is no channel's
 pub record IsNewStart (f : File) (scope : Scope) (c k : Written) (active serve : List Part) : Type 0 where

@@ -31,14 +31,14 @@ use Rattle.typed_sources.proofs.Resolved.{both_empty, each_empty, found_in, is_n
 use Rattle.typed_sources.proofs.ProcedureHeads.{no_fault_at, not_true, is_known, all_apart, names_append, names_map}
 use Rattle.typed_sources.proofs.Accepted.{good, main_faultless, procedures_keep, procedures_fine, channels_fine, declared, bodies_there, procs_there, less}
 use Rattle.typed_sources.proofs.Opened.{not_is}
-use Rattle.file_trees.proofs.Places.{from_file}
-use Rattle.file_trees.proofs.Declared.{main_keeps, body_keeps}
-use Rattle.file_trees.proofs.Channels.{channels_from, AreWanted, channel_back}
-use Rattle.file_trees.proofs.References.{distinct_refs, front_differ}
-use Rattle.file_trees.proofs.Named.{AreNamed, body_named}
-use Rattle.file_trees.proofs.Scopes.{alike_first}
-use Rattle.file_trees.proofs.Fit.{block_fits}
-use Rattle.file_trees.proofs.Roles.{once_apart, front_apart, back_apart}
+use Rattle.typed_sources.proofs.Places.{from_file}
+use Rattle.typed_sources.proofs.Declared.{main_keeps, body_keeps}
+use Rattle.typed_sources.proofs.Channels.{channels_from, AreWanted, channel_back}
+use Rattle.typed_sources.proofs.References.{distinct_refs, front_differ}
+use Rattle.typed_sources.proofs.Named.{AreNamed, body_named}
+use Rattle.typed_sources.proofs.BlockScopes.{alike_first}
+use Rattle.typed_sources.proofs.Fit.{block_fits}
+use Rattle.typed_sources.proofs.Roles.{once_apart, front_apart, back_apart}
 
 has_one : {A : Type 0} (xs : List A) → has_items xs ≡ true → 0 < length xs
 has_one [] h = absurd (clash h)

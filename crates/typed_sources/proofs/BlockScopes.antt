@@ -14,7 +14,7 @@ use Rattle.typed_sources.proofs.Opened.{AreNew, among_more}
 use Rattle.typed_sources.proofs.Arguments.{named}
 use Rattle.chor_semantics.specs.Blocks.{node_of}
 use Rattle.typed_sources.proofs.Sources.{scope_with}
-use Rattle.file_trees.proofs.References.{named_eq, among_named, no_deeper, among_entered, no_deeper_entered}
+use Rattle.typed_sources.proofs.References.{named_eq, among_named, no_deeper, among_entered, no_deeper_entered}
 
 pub record Alike (sc : RunScope) (scope : Scope) : Type 0 where
   pub processes : (x : ℕ) → among (Named x 0) sc.processes ≡ is_among scope.processes (named x)

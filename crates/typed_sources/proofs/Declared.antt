@@ -29,11 +29,11 @@ use Rattle.typed_sources.proofs.Resolved.{both_empty, each_empty, found_in}
 use Rattle.typed_sources.proofs.ProcedureHeads.{is_known}
 use Rattle.typed_sources.proofs.Sources.{ProceduresFit}
 use Rattle.typed_sources.proofs.Accepted.{good, main_faultless, procedures_keep, procedures_fine}
-use Rattle.file_trees.specs.Lists.{one_more, place_of, listed_for, place_for, listed_in, listed_by, lists_of}
+use Rattle.typed_sources.specs.Lists.{one_more, place_of, listed_for, place_for, listed_in, listed_by, lists_of}
 use Rattle.typed_sources.proofs.Opened.{not_is}
-use Rattle.file_trees.proofs.Places.{from_file, place_named, listed_there}
-use Rattle.file_trees.proofs.Owners.{AreKept}
-use Rattle.file_trees.proofs.Owned.{holder_in, KeepsOwners, block_owned}
+use Rattle.typed_sources.proofs.Places.{from_file, place_named, listed_there}
+use Rattle.typed_sources.proofs.Owners.{AreKept}
+use Rattle.typed_sources.proofs.Owned.{holder_in, KeepsOwners, block_owned}
 
 -- ---- the place of a parameter
 

@@ -27,10 +27,10 @@ use Rattle.chor_semantics.proofs.Blocks.{choreography_at}
 use Rattle.typed_sources.proofs.Sources.{NamesKept, IsFaultless, scope_with}
 use Rattle.typed_sources.proofs.Accepted.{procedures_keep}
 use Rattle.typed_sources.proofs.Scopes.{among_front}
-use Rattle.file_trees.proofs.Followers.{only, other}
-use Rattle.file_trees.proofs.References.{named_eq, among_named, refs_same}
-use Rattle.file_trees.proofs.Scopes.{none_of}
-use Rattle.file_trees.proofs.Files.{each_first}
+use Rattle.typed_sources.proofs.Followers.{only, other}
+use Rattle.typed_sources.proofs.References.{named_eq, among_named, refs_same}
+use Rattle.typed_sources.proofs.BlockScopes.{none_of}
+use Rattle.typed_sources.proofs.WellFormedFiles.{each_first}
 
 module _ (p : NameId) where
   -- a name in scope that no active process of a start has isn't among its processes

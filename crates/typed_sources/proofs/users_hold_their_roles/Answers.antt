@@ -1,6 +1,6 @@
-use Rattle.file_trees.proofs.Places.{lists_fit}
-use Rattle.file_trees.proofs.Declared.{main_held, bodies_held}
-use Rattle.file_trees.proofs.users_hold_their_roles.Goals as goal
+use Rattle.typed_sources.proofs.Places.{lists_fit}
+use Rattle.typed_sources.proofs.Declared.{main_held, bodies_held}
+use Rattle.typed_sources.proofs.users_hold_their_roles.Goals as goal
 
 pub returns-clause-lists : goal.returns-clause-lists
 returns-clause-lists c f = lists_fit f

@@ -35,10 +35,10 @@ use Rattle.typed_sources.proofs.Arguments.{named}
 use Rattle.typed_sources.proofs.Calls.{all_of}
 use Rattle.chor_semantics.specs.Blocks.{node_of, choreography_of}
 use Rattle.typed_sources.proofs.Sources.{NamesKept, IsNamedCall, IsFaultless, IsIn, scope_with}
-use Rattle.file_trees.specs.Lists.{one_more, place_of, listed_for, place_for, listed_in, listed_by, lists_of}
+use Rattle.typed_sources.specs.Lists.{one_more, place_of, listed_for, place_for, listed_in, listed_by, lists_of}
 use Rattle.typed_sources.proofs.Opened.{not_is}
-use Rattle.file_trees.proofs.Places.{listed_there, placed, more_is}
-use Rattle.file_trees.proofs.Owners.{AreKept, kept_moved, kept_passed, kept_started}
+use Rattle.typed_sources.proofs.Places.{listed_there, placed, more_is}
+use Rattle.typed_sources.proofs.Owners.{AreKept, kept_moved, kept_passed, kept_started}
 
 -- who holds the roles of a source's sessions, as is known at a block
 abbrev pub holder_in : List Held → ℕ → NameId → Option Ref

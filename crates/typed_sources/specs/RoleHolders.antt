@@ -6,7 +6,7 @@ use Rattle.chor_semantics.specs.Choreography.{Named}
 use Rattle.chor_semantics.specs.Sources.{procedures_of, tree_in, trees_of}
 use Rattle.well_formed.specs.Holders.{ListsFit, HoldersFit, AllHoldersFit}
 use Rattle.typed_sources.specs.Laws.{IsAccepted}
-use Rattle.file_trees.specs.Lists.{lists_of}
+use Rattle.typed_sources.specs.Lists.{lists_of}
 
 -- what is listed is the place of a parameter, in each file
 abbrev pub ListsAreParameters : Type 0

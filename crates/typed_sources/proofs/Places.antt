@@ -13,7 +13,7 @@ use Rattle.chor_semantics.specs.Steps.{procedure_named}
 use Rattle.well_formed.proofs.References.{same_name}
 use Rattle.typed_sources.proofs.Checked.{some_is}
 use Rattle.well_formed.specs.Holders.{ListsFit}
-use Rattle.file_trees.specs.Lists.{one_more, place_of, listed_for, place_for, listed_in, listed_by, lists_of}
+use Rattle.typed_sources.specs.Lists.{one_more, place_of, listed_for, place_for, listed_in, listed_by, lists_of}
 
 -- a procedure of the choreography is one of the file
 pub record FromFile (f : File) (h : NameId) (b : Procedure) : Type 0 where
