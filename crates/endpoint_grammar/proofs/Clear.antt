@@ -1,7 +1,7 @@
 -- In the grammar of endpoint files the next token tells what comes.
 use Rattle.std.proofs.Common.{◌≡◌, Bool, true, false, [], refl}
-use Rattle.grammar_laws.specs.Grammars.{is_clear, furthers, is_finished, is_endless, is_ending, AreClear, AreEnding}
-use Rattle.grammar_laws.proofs.Apart.{IsClear, clear_of}
+use Rattle.endpoint_grammar.specs.Grammars.{is_clear, furthers, is_finished, is_endless, is_ending, AreClear, AreEnding}
+use Rattle.endpoint_grammar.proofs.Apart.{IsClear, clear_of}
 use Rattle.endpoint_grammar.specs.Grammar.{Nonterminal, units, lines, roles, served, operand, parens, endpoints}
 use Rattle.endpoint_grammar.specs.Values.{rules}
 

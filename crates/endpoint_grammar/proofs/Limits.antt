@@ -4,9 +4,9 @@ use Rattle.chor_base.specs.declared.rule.Place.{Place}
 use Rattle.chor_base.specs.declared.rule.Rule.{Rule}
 use Rattle.chor_base.specs.declared.rule.Rule.TheVariants.{E4}
 use Rattle.chor_lexer.specs.Lexeme.{Lexeme}
-use Rattle.grammar_laws.specs.Faults.{IsFirstFault}
-use Rattle.grammar_laws.proofs.OneLimit.{HasLimits, excess_rule}
-use Rattle.grammar_laws.proofs.OneFault.{Agree, both_wrong, both_exceed, one_fault}
+use Rattle.endpoint_grammar.specs.Faults.{IsFirstFault}
+use Rattle.endpoint_grammar.proofs.OneLimit.{HasLimits, excess_rule}
+use Rattle.endpoint_grammar.proofs.OneFault.{Agree, both_wrong, both_exceed, one_fault}
 use Rattle.endpoint_grammar.specs.Grammar.{Nonterminal, units, lines, roles, served, operand, parens, product, sum, comparison, conjunction, disjunction, expr, names, sessions, node, tail, endpoints}
 use Rattle.endpoint_grammar.specs.Values.{rules}
 

@@ -1,4 +1,5 @@
-//! The grammar of endpoint files, and what holds of all tokens.
+//! Grammars of tokens as data, and what holds of all of them; the grammar of endpoint files, and what
+//! holds of all tokens.
 #![tactic(auto)]
 
 mod laws;

@@ -7,8 +7,8 @@ use Rattle.chor_base.specs.declared.expr.BinOp.{BinOp}
 use Rattle.chor_base.specs.declared.expr.BinOp.TheVariants.{And, Or}
 use Rattle.chor_lexer.specs.declared.mark.Mark.TheVariants.{Star, Slash, Plus, Minus, And as And', Or as Or'}
 use Rattle.chor_lexer.specs.Lexeme.{Symbol, word, number, text, mark, last, Lexeme}
-use Rattle.grammar_laws.specs.Classes.{Class, a_mark, a_word, a_kept_word, a_name, a_number, exactly, a_text, the_end, is_keyword, is_of, Says, says}
-use Rattle.grammar_laws.specs.Grammars.{nowhere, Derives}
+use Rattle.endpoint_grammar.specs.Classes.{Class, a_mark, a_word, a_kept_word, a_name, a_number, exactly, a_text, the_end, is_keyword, is_of, Says, says}
+use Rattle.endpoint_grammar.specs.Grammars.{nowhere, Derives}
 use Rattle.endpoint_grammar.specs.Written.{Phrase, Leaf, Unary, Binary, Deed, Joins, Sends, Receives, Selects, Gives, Gains, Sets, Shows, Asks, Body, Does, Offers, Tests, Calls, Ends, Arms, NoArms, Arm, Roles, Channel, Procedure, Service, Process, Units}
 use Rattle.endpoint_grammar.specs.Grammar.{Nonterminal, units, lines, roles, served, operand, parens, Part, operators, un, product, sum, comparison, conjunction, disjunction, node, tail, sessions, lines_of, roles_of, served_of, units_of, endpoints, rule_of}
 use Rattle.endpoint_grammar.specs.Values.{Meaning, Derived, leaf_of, grouped, product_op, sum_op, product_phrase, sum_phrase, comparison_phrase, conjunction_phrase, phrase, deed, session_list, arms_of, last_node, body_of, role_list, role_lists, units_from, make, rules, written_units}

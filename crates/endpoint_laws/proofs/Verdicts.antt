@@ -12,11 +12,11 @@ use Rattle.chor_lexer.specs.Lexeme.{Lexeme}
 use Rattle.chor_lexer.specs.Tokens.{with_name, with_text}
 use Rattle.chor_lexer.proofs.Cuts.{one_reading, not_both}
 use Rattle.chor_lexer.proofs.Faults.{one_refusal as one_refusal_of_tokens}
-use Rattle.grammar_laws.specs.Grammars.{nowhere as within_limits, Derives}
-use Rattle.grammar_laws.specs.Faults.{IsFirstFault}
-use Rattle.grammar_laws.proofs.Completed.{never_both}
-use Rattle.grammar_laws.proofs.OneFault.{one_fault}
-use Rattle.grammar_laws.proofs.Unique.{unique}
+use Rattle.endpoint_grammar.specs.Grammars.{nowhere as within_limits, Derives}
+use Rattle.endpoint_grammar.specs.Faults.{IsFirstFault}
+use Rattle.endpoint_grammar.proofs.Completed.{never_both}
+use Rattle.endpoint_grammar.proofs.OneFault.{one_fault}
+use Rattle.endpoint_grammar.proofs.Unique.{unique}
 use Rattle.endpoint_grammar.specs.Written.{Units}
 use Rattle.endpoint_grammar.specs.Grammar.{endpoints}
 use Rattle.endpoint_grammar.specs.Values.{rules, Derived, written_units}

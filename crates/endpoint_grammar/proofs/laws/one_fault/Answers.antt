@@ -1,4 +1,4 @@
-use Rattle.grammar_laws.proofs.OneFault.{one_fault}
+use Rattle.endpoint_grammar.proofs.OneFault.{one_fault}
 use Rattle.endpoint_grammar.proofs.Limits.{one_fault_rule}
 use Rattle.endpoint_grammar.proofs.laws.one_fault.Goals as goal
 

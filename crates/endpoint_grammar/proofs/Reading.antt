@@ -2,15 +2,15 @@
 use Rattle.std.proofs.Common.{◌≡◌, inl, inr, true, false, List, [], ◌∷◌, Option, Some, None, refl, sym, ap, ◌∙◌, subst}
 use Rattle.chor_base.specs.declared.rule.Place.{Place}
 use Rattle.chor_base.specs.declared.rule.Rule.{Rule}
-use Rattle.grammar_laws.proofs.Apart.{class_apart}
-use Rattle.grammar_laws.proofs.Nexts.{is_false}
+use Rattle.endpoint_grammar.proofs.Apart.{class_apart}
+use Rattle.endpoint_grammar.proofs.Nexts.{is_false}
 use Rattle.chor_base.specs.declared.rule.Denied.{Denied}
 use Rattle.chor_base.specs.declared.rule.Denied.TheVariants.{Memory}
 use Rattle.chor_lexer.specs.Lexeme.{Lexeme}
-use Rattle.grammar_laws.specs.Classes.{Class, is_of, is_apart, says}
-use Rattle.grammar_laws.specs.Grammars.{Grammar, empty, one, seq, alt, many, more, within, after, Room, is_full, less, Value, Rules, nowhere, HasRoom, Derives, is_empty, is_one, in_turn, the_first, the_second, none_of_many, one_of_many, no_more, one_more, with_room, by_rule}
-use Rattle.grammar_laws.specs.Machine.{Next, goes, skips, refuses, taken, followed, either, over, limited, repeated, next, Stop, at, stopped, stop}
-use Rattle.grammar_laws.specs.Readers.{Reads, Halts, Leads, Refuses, Stands, Lacks, Begins, Misses}
+use Rattle.endpoint_grammar.specs.Classes.{Class, is_of, is_apart, says}
+use Rattle.endpoint_grammar.specs.Grammars.{Grammar, empty, one, seq, alt, many, more, within, after, Room, is_full, less, Value, Rules, nowhere, HasRoom, Derives, is_empty, is_one, in_turn, the_first, the_second, none_of_many, one_of_many, no_more, one_more, with_room, by_rule}
+use Rattle.endpoint_grammar.specs.Machine.{Next, goes, skips, refuses, taken, followed, either, over, limited, repeated, next, Stop, at, stopped, stop}
+use Rattle.endpoint_grammar.specs.Readers.{Reads, Halts, Leads, Refuses, Stands, Lacks, Begins, Misses}
 
 module _ {N : Type 0} (r : Rules N) where
   -- ---- one after another

@@ -4,10 +4,10 @@ use Rattle.std.proofs.lemmas.List.{append-nil}
 use Rattle.chor_base.specs.declared.rule.Rule.{Rule}
 use Rattle.chor_base.specs.declared.rule.Denied.{Denied}
 use Rattle.chor_lexer.specs.Lexeme.{Lexeme}
-use Rattle.grammar_laws.specs.Classes.{Class}
-use Rattle.grammar_laws.specs.Grammars.{Grammar, more, within, listed, Room, less, Value, Rules}
-use Rattle.grammar_laws.specs.Readers.{Reads, Halts, Leads, Lacks, HasOne}
-use Rattle.grammar_laws.proofs.Reading.{past, reads_past, first_halts, after_reads, leads_on, leads_same, reads_same, one_more_comes, no_more_comes}
+use Rattle.endpoint_grammar.specs.Classes.{Class}
+use Rattle.endpoint_grammar.specs.Grammars.{Grammar, more, within, listed, Room, less, Value, Rules}
+use Rattle.endpoint_grammar.specs.Readers.{Reads, Halts, Leads, Lacks, HasOne}
+use Rattle.endpoint_grammar.proofs.Reading.{past, reads_past, first_halts, after_reads, leads_on, leads_same, reads_same, one_more_comes, no_more_comes}
 
 map_append : {A B : Type 0} (f : A → B) (xs ys : List A) → map f (xs ++ ys) ≡ map f xs ++ map f ys
 map_append f [] ys = refl

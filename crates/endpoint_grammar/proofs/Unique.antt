@@ -2,11 +2,11 @@
 use Rattle.std.proofs.Common.{◌≡◌, inl, inr, Bool, true, false, ◌&&◌, List, [], ◌∷◌, ◌++◌, refl, sym, ap, ◌∙◌, subst}
 use Rattle.std.proofs.lemmas.Bool.{or_left, or_right}
 use Rattle.chor_lexer.specs.Lexeme.{Symbol, Lexeme}
-use Rattle.grammar_laws.specs.Classes.{Class, is_among, says}
-use Rattle.grammar_laws.specs.Grammars.{Grammar, seq, alt, many, more, within, less, Value, Rules, Allowed, Derives, is_empty, is_one, in_turn, the_first, the_second, none_of_many, one_of_many, no_more, one_more, with_room, in_short, by_rule, is_nullable, where_so, firsts, furthers, AreClear}
-use Rattle.grammar_laws.proofs.Apart.{among_left, among_right, AreApart, IsClear, clear_of}
-use Rattle.grammar_laws.proofs.Nexts.{so_there}
-use Rattle.grammar_laws.proofs.Steps.{Moves, moved, stays, step, begun}
+use Rattle.endpoint_grammar.specs.Classes.{Class, is_among, says}
+use Rattle.endpoint_grammar.specs.Grammars.{Grammar, seq, alt, many, more, within, less, Value, Rules, Allowed, Derives, is_empty, is_one, in_turn, the_first, the_second, none_of_many, one_of_many, no_more, one_more, with_room, in_short, by_rule, is_nullable, where_so, firsts, furthers, AreClear}
+use Rattle.endpoint_grammar.proofs.Apart.{among_left, among_right, AreApart, IsClear, clear_of}
+use Rattle.endpoint_grammar.proofs.Nexts.{so_there}
+use Rattle.endpoint_grammar.proofs.Steps.{Moves, moved, stays, step, begun}
 
 -- what comes next doesn't go on with it
 abbrev pub EndsHere : {N : Type 0} → Grammar N → List Lexeme → Type 0

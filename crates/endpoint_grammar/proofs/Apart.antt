@@ -6,8 +6,8 @@ use Rattle.std.proofs.lemmas.Bool.Decides.{nat_tests}
 use Rattle.std.proofs.lemmas.Slice.Eq.{bytes_eq-Decides}
 use Rattle.chor_lexer.specs.Mark.{spelling}
 use Rattle.chor_lexer.specs.Lexeme.{Symbol, word, number, text, mark, last}
-use Rattle.grammar_laws.specs.Classes.{Class, a_mark, a_word, a_kept_word, a_name, a_number, exactly, a_text, the_end, is_keyword, is_of, is_among, is_apart}
-use Rattle.grammar_laws.specs.Grammars.{Grammar, empty, one, seq, alt, many, more, within, short, after, is_nullable, firsts, furthers, is_apart_from, are_apart, is_clear}
+use Rattle.endpoint_grammar.specs.Classes.{Class, a_mark, a_word, a_kept_word, a_name, a_number, exactly, a_text, the_end, is_keyword, is_of, is_among, is_apart}
+use Rattle.endpoint_grammar.specs.Grammars.{Grammar, empty, one, seq, alt, many, more, within, short, after, is_nullable, firsts, furthers, is_apart_from, are_apart, is_clear}
 
 clash : (b : Bool) → not b ≡ true → b ≡ true → ⊥
 clash true n t = cc

@@ -5,9 +5,9 @@ use Rattle.chor_base.specs.declared.rule.Denied.{Denied}
 use Rattle.chor_base.specs.declared.rule.Denied.TheVariants.{Refused}
 use Rattle.chor_base.specs.declared.rule.Refusal.{Refusal}
 use Rattle.chor_lexer.specs.Lexeme.{Lexeme, last}
-use Rattle.grammar_laws.specs.Classes.{Class, is_of}
-use Rattle.grammar_laws.specs.Grammars.{Grammar, seq, short, Room, Value, Rules, nowhere, Derives}
-use Rattle.grammar_laws.specs.Machine.{stop, at, next, goes, refuses}
+use Rattle.endpoint_grammar.specs.Classes.{Class, is_of}
+use Rattle.endpoint_grammar.specs.Grammars.{Grammar, seq, short, Room, Value, Rules, nowhere, Derives}
+use Rattle.endpoint_grammar.specs.Machine.{stop, at, next, goes, refuses}
 
 -- it has read x, and whatever comes then, the tokens go on with it
 pub record Reads {N : Type 0} (r : Rules N) (g : Grammar N) (ts : List Lexeme) (x : Value r.V g) (rest : List Lexeme) : Type 0 where

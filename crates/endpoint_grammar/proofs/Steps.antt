@@ -3,12 +3,12 @@ use Rattle.std.proofs.Common.{◌≡◌, ◌⊎◌, inl, inr, Bool, true, false,
 use Rattle.std.proofs.lemmas.Bool.{and_parts, or_cases, or_left, or_right}
 use Rattle.chor_base.specs.declared.rule.Rule.{Rule}
 use Rattle.chor_lexer.specs.Lexeme.{Symbol, Lexeme}
-use Rattle.grammar_laws.specs.Classes.{Class, is_of, is_among, says}
-use Rattle.grammar_laws.specs.Grammars.{Grammar, empty, one, seq, alt, many, more, within, short, after, Room, is_full, less, Value, Rules, Allowed, HasRoom, Derives, is_empty, is_one, in_turn, the_first, the_second, none_of_many, one_of_many, no_more, one_more, with_room, in_short, AreFew, no_token, a_token, cut, by_rule, is_nullable, where_so, firsts, furthers, AreClear}
-use Rattle.grammar_laws.specs.Machine.{Next, goes, skips, refuses, taken, followed, either, limited, clipped, repeated, next}
-use Rattle.grammar_laws.proofs.Progress.{no_longer}
-use Rattle.grammar_laws.proofs.Apart.{among_left, among_right, among_both, AreApart, IsClear, clear_of}
-use Rattle.grammar_laws.proofs.Nexts.{AllowedBy, Fits, Quiet, allowed_over, by_first, by_second, clipped_by, either_by, either_quiet, fits_under, followed_by, is_false, limited_by, never_both, quiet_repeats, quiet_skips, repeated_by, room_under, skips_clipped, skips_quiet, so_here, so_there, taken_by}
+use Rattle.endpoint_grammar.specs.Classes.{Class, is_of, is_among, says}
+use Rattle.endpoint_grammar.specs.Grammars.{Grammar, empty, one, seq, alt, many, more, within, short, after, Room, is_full, less, Value, Rules, Allowed, HasRoom, Derives, is_empty, is_one, in_turn, the_first, the_second, none_of_many, one_of_many, no_more, one_more, with_room, in_short, AreFew, no_token, a_token, cut, by_rule, is_nullable, where_so, firsts, furthers, AreClear}
+use Rattle.endpoint_grammar.specs.Machine.{Next, goes, skips, refuses, taken, followed, either, limited, clipped, repeated, next}
+use Rattle.endpoint_grammar.proofs.Progress.{no_longer}
+use Rattle.endpoint_grammar.proofs.Apart.{among_left, among_right, among_both, AreApart, IsClear, clear_of}
+use Rattle.endpoint_grammar.proofs.Nexts.{AllowedBy, Fits, Quiet, allowed_over, by_first, by_second, clipped_by, either_by, either_quiet, fits_under, followed_by, is_false, limited_by, never_both, quiet_repeats, quiet_skips, repeated_by, room_under, skips_clipped, skips_quiet, so_here, so_there, taken_by}
 
 -- what may be derived
 pub record CanBe {N : Type 0} (r : Rules N) (Q : Allowed) (g : Grammar N) (ts rest : List Lexeme) : Type 0 where

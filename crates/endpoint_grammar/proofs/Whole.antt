@@ -3,14 +3,14 @@ use Rattle.std.proofs.Common.{◌≡◌, ◌⊎◌, inl, inr, Bool, true, ◌&&�
 use Rattle.std.proofs.lemmas.Bool.{and_parts, not-true}
 use Rattle.chor_base.specs.declared.rule.Rule.{Rule}
 use Rattle.chor_lexer.specs.Lexeme.{Symbol, Lexeme}
-use Rattle.grammar_laws.specs.Classes.{the_end, is_of, is_apart}
-use Rattle.grammar_laws.specs.Grammars.{Grammar, empty, one, seq, alt, many, more, within, short, after, is_full, less, Rules, nowhere, AreClear, AreEnding, is_endless, is_ending, is_nullable}
-use Rattle.grammar_laws.specs.Machine.{Next, goes, skips, refuses, next, Stop, on, at, stopped, stop}
-use Rattle.grammar_laws.specs.Faults.{is_closed, IsDerived, HasFault}
-use Rattle.grammar_laws.proofs.Apart.{class_apart, IsClear}
-use Rattle.grammar_laws.proofs.Nexts.{taken_by, by_first, by_second, followed_by, either_by, limited_by, clipped_by, repeated_by, inside}
-use Rattle.grammar_laws.proofs.Steps.{CanBe, back, kept, nothing}
-use Rattle.grammar_laws.proofs.Completed.{first_fault}
+use Rattle.endpoint_grammar.specs.Classes.{the_end, is_of, is_apart}
+use Rattle.endpoint_grammar.specs.Grammars.{Grammar, empty, one, seq, alt, many, more, within, short, after, is_full, less, Rules, nowhere, AreClear, AreEnding, is_endless, is_ending, is_nullable}
+use Rattle.endpoint_grammar.specs.Machine.{Next, goes, skips, refuses, next, Stop, on, at, stopped, stop}
+use Rattle.endpoint_grammar.specs.Faults.{is_closed, IsDerived, HasFault}
+use Rattle.endpoint_grammar.proofs.Apart.{class_apart, IsClear}
+use Rattle.endpoint_grammar.proofs.Nexts.{taken_by, by_first, by_second, followed_by, either_by, limited_by, clipped_by, repeated_by, inside}
+use Rattle.endpoint_grammar.proofs.Steps.{CanBe, back, kept, nothing}
+use Rattle.endpoint_grammar.proofs.Completed.{first_fault}
 
 module _ {N : Type 0} (r : Rules N) (z : AreClear r) (w : AreEnding r) where
   abbrev endless : Grammar N → Bool

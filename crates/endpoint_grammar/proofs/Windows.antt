@@ -5,12 +5,12 @@ use Rattle.chor_base.specs.declared.rule.Place.{Place}
 use Rattle.chor_base.specs.declared.rule.Rule.{Rule}
 use Rattle.chor_base.specs.declared.rule.Denied.{Denied}
 use Rattle.chor_lexer.specs.Lexeme.{Lexeme}
-use Rattle.grammar_laws.specs.Classes.{Class, is_of, says}
-use Rattle.grammar_laws.specs.Grammars.{Grammar, empty, one, seq, alt, many, short, after, Room, is_full, cut, Value, Rules, nowhere, HasRoom, Derives, is_empty, is_one, in_turn, the_first, the_second, none_of_many, one_of_many, in_short, AreFew, no_token, a_token, by_rule}
-use Rattle.grammar_laws.specs.Machine.{Next, goes, skips, refuses, taken, followed, either, over, clipped, next, Stop, at, stopped, stop}
-use Rattle.grammar_laws.specs.Readers.{Reads, Halts, Leads, Refuses, Stands, Misses, ReadsIn, HaltsIn, LeadsIn}
-use Rattle.grammar_laws.proofs.Reading as rd
-use Rattle.grammar_laws.proofs.Reading.{Comes}
+use Rattle.endpoint_grammar.specs.Classes.{Class, is_of, says}
+use Rattle.endpoint_grammar.specs.Grammars.{Grammar, empty, one, seq, alt, many, short, after, Room, is_full, cut, Value, Rules, nowhere, HasRoom, Derives, is_empty, is_one, in_turn, the_first, the_second, none_of_many, one_of_many, in_short, AreFew, no_token, a_token, by_rule}
+use Rattle.endpoint_grammar.specs.Machine.{Next, goes, skips, refuses, taken, followed, either, over, clipped, next, Stop, at, stopped, stop}
+use Rattle.endpoint_grammar.specs.Readers.{Reads, Halts, Leads, Refuses, Stands, Misses, ReadsIn, HaltsIn, LeadsIn}
+use Rattle.endpoint_grammar.proofs.Reading as rd
+use Rattle.endpoint_grammar.proofs.Reading.{Comes}
 
 module _ {N : Type 0} (r : Rules N) (e : Rule) where
   -- ---- where it stops

@@ -9,13 +9,13 @@ use Rattle.chor_base.specs.declared.rule.Place.{Place}
 use Rattle.chor_base.specs.declared.rule.Rule.{Rule}
 use Rattle.chor_lexer.specs.Mark.{spelling}
 use Rattle.chor_lexer.specs.Lexeme.{Lexeme}
-use Rattle.grammar_laws.specs.Classes.{Class, a_mark, a_word, a_kept_word, a_name, a_number, exactly, a_text, the_end, is_of, says, sample}
-use Rattle.grammar_laws.specs.Grammars.{Grammar, empty, one, seq, alt, many, more, within, short, after, Room, cut, Value, Rules, Allowed, nowhere, anywhere, only_at, but_at, HasRoom, Derives, is_empty, is_one, in_turn, the_first, the_second, none_of_many, one_of_many, no_more, one_more, with_room, in_short, AreFew, no_token, a_token, by_rule, is_nullable, is_finished_by, is_finished, AreClear}
-use Rattle.grammar_laws.specs.Machine.{Next, goes, skips, refuses, next, at, stopped, stop}
-use Rattle.grammar_laws.specs.Faults.{CanEnd, IsFaultAt, unexpected, excess, IsFirstFault}
-use Rattle.grammar_laws.proofs.Apart.{IsClear, clear_of}
-use Rattle.grammar_laws.proofs.Nexts.{AllowedBy, inside, allowed}
-use Rattle.grammar_laws.proofs.Steps.{CanBe, Moves, moved, stays, step, back, kept}
+use Rattle.endpoint_grammar.specs.Classes.{Class, a_mark, a_word, a_kept_word, a_name, a_number, exactly, a_text, the_end, is_of, says, sample}
+use Rattle.endpoint_grammar.specs.Grammars.{Grammar, empty, one, seq, alt, many, more, within, short, after, Room, cut, Value, Rules, Allowed, nowhere, anywhere, only_at, but_at, HasRoom, Derives, is_empty, is_one, in_turn, the_first, the_second, none_of_many, one_of_many, no_more, one_more, with_room, in_short, AreFew, no_token, a_token, by_rule, is_nullable, is_finished_by, is_finished, AreClear}
+use Rattle.endpoint_grammar.specs.Machine.{Next, goes, skips, refuses, next, at, stopped, stop}
+use Rattle.endpoint_grammar.specs.Faults.{CanEnd, IsFaultAt, unexpected, excess, IsFirstFault}
+use Rattle.endpoint_grammar.proofs.Apart.{IsClear, clear_of}
+use Rattle.endpoint_grammar.proofs.Nexts.{AllowedBy, inside, allowed}
+use Rattle.endpoint_grammar.proofs.Steps.{CanBe, Moves, moved, stays, step, back, kept}
 
 own_bytes : (v : List ℕ) → is_of (a_word v) (sample (a_word v)) ≡ true
 own_bytes v = (bytes_eq-Decides v v).1 refl

@@ -1,9 +1,9 @@
 -- What is left is no longer, and shorter where something has to come.
 use Rattle.std.proofs.Common.{◌≡◌, ◌<◌, ◌≤◌, ◌⊎◌, inl, inr, Bool, true, false, ◌&&◌, ◌||◌, List, length, refl, ap, arith}
 use Rattle.chor_lexer.specs.Lexeme.{Lexeme}
-use Rattle.grammar_laws.specs.Classes.{Class}
-use Rattle.grammar_laws.specs.Grammars.{Grammar, Value, Rules, Allowed, Derives, is_empty, is_one, in_turn, the_first, the_second, none_of_many, one_of_many, no_more, one_more, with_room, in_short, by_rule, is_nullable}
-use Rattle.grammar_laws.specs.Readers.{Reads, HasOne}
+use Rattle.endpoint_grammar.specs.Classes.{Class}
+use Rattle.endpoint_grammar.specs.Grammars.{Grammar, Value, Rules, Allowed, Derives, is_empty, is_one, in_turn, the_first, the_second, none_of_many, one_of_many, no_more, one_more, with_room, in_short, by_rule, is_nullable}
+use Rattle.endpoint_grammar.specs.Readers.{Reads, HasOne}
 
 some_and : (a b : Bool) → (a && b) ≡ false → (a ≡ false) ⊎ (b ≡ false)
 some_and true b h = inr h

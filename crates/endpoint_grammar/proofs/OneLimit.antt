@@ -3,8 +3,8 @@ use Rattle.std.proofs.Common.{◌≡◌, List, [], ◌∷◌, ◌++◌, sym, ◌
 use Rattle.chor_base.specs.declared.rule.Place.{Place}
 use Rattle.chor_base.specs.declared.rule.Rule.{Rule}
 use Rattle.chor_lexer.specs.Lexeme.{Lexeme}
-use Rattle.grammar_laws.specs.Grammars.{Grammar, empty, one, seq, alt, many, more, within, short, after, Room, Value, Rules, anywhere, but_at, HasRoom, AreFew, no_token, a_token, Derives, is_empty, is_one, in_turn, the_first, the_second, none_of_many, one_of_many, no_more, one_more, with_room, in_short, by_rule}
-use Rattle.grammar_laws.specs.Faults.{CanEnd, IsViable}
+use Rattle.endpoint_grammar.specs.Grammars.{Grammar, empty, one, seq, alt, many, more, within, short, after, Room, Value, Rules, anywhere, but_at, HasRoom, AreFew, no_token, a_token, Derives, is_empty, is_one, in_turn, the_first, the_second, none_of_many, one_of_many, no_more, one_more, with_room, in_short, by_rule}
+use Rattle.endpoint_grammar.specs.Faults.{CanEnd, IsViable}
 
 -- all limits have this rule
 abbrev pub HasLimits : {N : Type 0} → Rule → Grammar N → Type 0

@@ -3,11 +3,11 @@ use Rattle.std.proofs.Common.{◌≡◌, ◌∙◌, sym, true, false, None, List
 use Rattle.chor_base.specs.declared.rule.Rule.{Rule}
 use Rattle.chor_base.specs.declared.rule.Denied.{Denied}
 use Rattle.chor_lexer.specs.Lexeme.{Lexeme}
-use Rattle.grammar_laws.specs.Classes.{Class}
-use Rattle.grammar_laws.specs.Grammars.{Grammar, one, seq, alt, within, many, after, Room, is_full, Value, Rules, nowhere, Derives, is_one, in_turn}
-use Rattle.grammar_laws.specs.Machine.{stop}
-use Rattle.grammar_laws.specs.Readers.{Reads, Halts, Leads, Lacks, HasOne, Ways, Passes, Missed, Begins, Refuses}
-use Rattle.grammar_laws.proofs.Reading.{again, inner, many_begins, begins, has_room, full_halts, first_of_two, second_of_two, comes_then, token_comes, token_reads, misses_then, past, reads_past, after_reads, leads_on, missed, rule_misses, token_misses, into_rule}
+use Rattle.endpoint_grammar.specs.Classes.{Class}
+use Rattle.endpoint_grammar.specs.Grammars.{Grammar, one, seq, alt, within, many, after, Room, is_full, Value, Rules, nowhere, Derives, is_one, in_turn}
+use Rattle.endpoint_grammar.specs.Machine.{stop}
+use Rattle.endpoint_grammar.specs.Readers.{Reads, Halts, Leads, Lacks, HasOne, Ways, Passes, Missed, Begins, Refuses}
+use Rattle.endpoint_grammar.proofs.Reading.{again, inner, many_begins, begins, has_room, full_halts, first_of_two, second_of_two, comes_then, token_comes, token_reads, misses_then, past, reads_past, after_reads, leads_on, missed, rule_misses, token_misses, into_rule}
 
 module _ {N : Type 0} (r : Rules N) where
   pub way : {g k : Grammar N} {ts us : List Lexeme} {f : Value r.V k → Value r.V g} → Leads r g ts k us f → Ways r g ts k us

@@ -3,9 +3,9 @@ use Rattle.std.proofs.Common.{◌≡◌, ◌⊎◌, inl, inr, Bool, true, false,
 use Rattle.chor_base.specs.declared.rule.Place.{Place}
 use Rattle.chor_base.specs.declared.rule.Rule.{Rule}
 use Rattle.chor_lexer.specs.Lexeme.{Symbol}
-use Rattle.grammar_laws.specs.Classes.{Class, is_among}
-use Rattle.grammar_laws.specs.Grammars.{Grammar, seq, short, Room, is_full, Allowed, cut, where_so}
-use Rattle.grammar_laws.specs.Machine.{Next, goes, skips, refuses, taken, followed, otherwise, either, over, limited, clipped, repeated}
+use Rattle.endpoint_grammar.specs.Classes.{Class, is_among}
+use Rattle.endpoint_grammar.specs.Grammars.{Grammar, seq, short, Room, is_full, Allowed, cut, where_so}
+use Rattle.endpoint_grammar.specs.Machine.{Next, goes, skips, refuses, taken, followed, otherwise, either, over, limited, clipped, repeated}
 
 -- ---- where something goes, by its parts
 

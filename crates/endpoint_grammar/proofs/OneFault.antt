@@ -3,8 +3,8 @@ use Rattle.std.proofs.Common.{◌≡◌, List, [], ◌∷◌, ◌++◌, refl, sy
 use Rattle.chor_base.specs.declared.rule.Place.{Place}
 use Rattle.chor_base.specs.declared.rule.Rule.{Rule}
 use Rattle.chor_lexer.specs.Lexeme.{Lexeme}
-use Rattle.grammar_laws.specs.Grammars.{Grammar, Rules, but_at}
-use Rattle.grammar_laws.specs.Faults.{CanEnd, IsFaultAt, unexpected, excess, IsFirstFault, IsViable}
+use Rattle.endpoint_grammar.specs.Grammars.{Grammar, Rules, but_at}
+use Rattle.endpoint_grammar.specs.Faults.{CanEnd, IsFaultAt, unexpected, excess, IsFirstFault, IsViable}
 
 data Order (b c : List Lexeme) (t u : Lexeme) : Type 0 where
   same : b ≡ c → t ≡ u → Order b c t u

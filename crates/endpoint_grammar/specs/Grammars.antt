@@ -4,7 +4,7 @@ use Rattle.std.proofs.Common.{inl, inr, zero, suc}
 use Rattle.chor_base.specs.declared.rule.Place.{Place}
 use Rattle.chor_base.specs.declared.rule.Rule.{Rule}
 use Rattle.chor_lexer.specs.Lexeme.{Lexeme}
-use Rattle.grammar_laws.specs.Classes.{Class, the_end, is_of, Says, says, is_apart}
+use Rattle.endpoint_grammar.specs.Classes.{Class, the_end, is_of, Says, says, is_apart}
 
 -- how many more may come; none: any number
 abbrev pub Room : Type 0

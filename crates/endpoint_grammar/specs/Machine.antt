@@ -3,8 +3,8 @@ use Rattle.std.specs.Prelude.{Bool, true, false, List, [], ◌∷◌, Option, So
 use Rattle.chor_base.specs.declared.rule.Place.{Place}
 use Rattle.chor_base.specs.declared.rule.Rule.{Rule}
 use Rattle.chor_lexer.specs.Lexeme.{Symbol, Lexeme}
-use Rattle.grammar_laws.specs.Classes.{is_of}
-use Rattle.grammar_laws.specs.Grammars.{Grammar, empty, one, seq, alt, many, more, within, short, after, Rules, Room, is_full, less, cut}
+use Rattle.endpoint_grammar.specs.Classes.{is_of}
+use Rattle.endpoint_grammar.specs.Grammars.{Grammar, empty, one, seq, alt, many, more, within, short, after, Rules, Room, is_full, less, cut}
 
 -- what comes of a token: it is taken, exceeds this limit, if any, and this grammar is left; or it isn't the grammar's, which can
 -- be without a token; or it can't stand there
