@@ -15,11 +15,11 @@ use Rattle.chor_lexer.specs.Lexeme.{Symbol, word, number, text, mark, last}
 use Rattle.chor_lexer.specs.Spelling.{SpellAll}
 use Rattle.chor_lexer.specs.Tokens.{Spells}
 use Rattle.chor_lexer.proofs.Spelling.{name_of}
-use Rattle.token_grammar.specs.Symbols.{nowhere, AllowsFirst, Room}
+use Rattle.source_grammar.specs.Symbols.{nowhere, AllowsFirst, Room}
 use Rattle.chor_tree.specs.declared.file.Named.{Named}
 use Rattle.chor_tree.specs.Same.{Same, all_same, same_named, same_words, same_found, same_texts}
 use Rattle.source_grammar.specs.Grammar.{MarkIs, WordIs, NameIs, StandsAt, EndIs, MoreAre, no_more, one_more, ListIs, a_list}
-use Rattle.token_grammar.specs.Expressions.{KeepsLength}
+use Rattle.source_grammar.specs.Expressions.{KeepsLength}
 use Rattle.source_grammar.specs.Limits.{KeepsMore, KeepsList}
 use Rattle.canonical_laws.proofs.Tokens.{Stands}
 

@@ -5,7 +5,7 @@ use Rattle.chor_base.specs.declared.rule.Rule.TheVariants.{P3}
 use Rattle.chor_base.specs.declared.value.Sort.{Sort}
 use Rattle.chor_base.specs.declared.value.Sort.TheVariants as sort
 use Rattle.chor_lexer.specs.declared.token.Token.{Token}
-use Rattle.token_grammar.specs.Symbols.{nowhere}
+use Rattle.source_grammar.specs.Symbols.{nowhere}
 use Rattle.chor_tree.specs.declared.file.Named.{Named}
 use Rattle.chor_tree.specs.declared.file.Service.{Service}
 use Rattle.chor_tree.specs.declared.file.ProcParam.{ProcParam}

@@ -2,7 +2,7 @@
 use Rattle.std.proofs.Common.{ℕ, List}
 use Rattle.std.specs.List.{AllByRecursion}
 use Rattle.chor_lexer.specs.declared.token.Token.{Token}
-use Rattle.token_grammar.specs.Symbols.{nowhere}
+use Rattle.source_grammar.specs.Symbols.{nowhere}
 use Rattle.chor_tree.specs.declared.protocol.State.{State}
 use Rattle.chor_tree.specs.Source.{Items}
 use Rattle.source_grammar.specs.Grammar.{MoreAre, no_more, one_more, ListIs, a_list, StateIs, MoreStatesAre, no_state, one_state, StatesAre, some_states, ItemsAre, no_item, protocol_first, service_first, procedure_first}

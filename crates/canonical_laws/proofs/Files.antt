@@ -5,7 +5,7 @@ use Rattle.chor_base.specs.Words.{AllDistinct}
 use Rattle.chor_lexer.specs.declared.token.Token.{Token}
 use Rattle.chor_lexer.specs.Lexeme.{Symbol}
 use Rattle.chor_lexer.specs.Spelling.{IsSource, SpellAll}
-use Rattle.token_grammar.specs.Symbols.{nowhere}
+use Rattle.source_grammar.specs.Symbols.{nowhere}
 use Rattle.chor_tree.specs.declared.file.Service.{Service}
 use Rattle.chor_tree.specs.Protocols.{Protocol}
 use Rattle.chor_tree.specs.Source.{Procedure, Source}

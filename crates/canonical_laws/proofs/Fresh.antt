@@ -9,7 +9,7 @@ use Rattle.chor_lexer.specs.declared.token.Token.{Token}
 use Rattle.chor_lexer.specs.Lexeme.{Symbol, word, number, text, mark, last, Lexeme}
 use Rattle.chor_lexer.specs.Tokens.{IsTokens, AreTokensOf, with_name, with_text}
 use Rattle.chor_lexer.proofs.ReadBack.{HasKind, HaveKinds, numbered}
-use Rattle.token_grammar.proofs.Derived.{get_left}
+use Rattle.source_grammar.proofs.Derived.{get_left}
 use Rattle.chor_tree.proofs.SameLaws.{same_bytes}
 
 -- ---- tables have what was put into them

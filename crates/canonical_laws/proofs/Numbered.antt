@@ -12,7 +12,7 @@ use Rattle.chor_lexer.specs.Spelling.{IsSource, expr_symbols}
 use Rattle.chor_lexer.proofs.Each.{each_append}
 use Rattle.chor_lexer.proofs.ReadBack.{HasKind, HaveKinds, expr_kinds}
 use Rattle.chor_lexer.proofs.Spelling.{name_of}
-use Rattle.token_grammar.specs.Symbols.{nowhere}
+use Rattle.source_grammar.specs.Symbols.{nowhere}
 use Rattle.chor_tree.specs.declared.file.Named.{Named}
 use Rattle.chor_tree.specs.declared.file.Service.{Service}
 use Rattle.chor_tree.specs.declared.file.ProcParam.{ProcParam}

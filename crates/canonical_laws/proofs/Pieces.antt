@@ -8,7 +8,7 @@ use Rattle.chor_base.specs.Words.{AllDistinct}
 use Rattle.chor_lexer.specs.declared.mark.Mark.TheVariants.{Semicolon, Bar}
 use Rattle.chor_lexer.specs.declared.token.Token.{Token}
 use Rattle.chor_lexer.specs.Lexeme.{Symbol, mark}
-use Rattle.token_grammar.specs.Symbols.{nowhere}
+use Rattle.source_grammar.specs.Symbols.{nowhere}
 use Rattle.chor_tree.specs.declared.file.Named.{Named}
 use Rattle.chor_tree.specs.declared.file.Service.{Service}
 use Rattle.chor_tree.specs.declared.file.ProcParam.{ProcParam}

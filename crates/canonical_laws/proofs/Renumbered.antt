@@ -4,7 +4,7 @@ use Rattle.std.proofs.lemmas.Bool.{and_parts}
 use Rattle.chor_lexer.specs.declared.token.Token.{Token}
 use Rattle.chor_lexer.specs.Lexeme.{Symbol}
 use Rattle.chor_lexer.specs.Spelling.{SpellAll}
-use Rattle.token_grammar.specs.Symbols.{nowhere}
+use Rattle.source_grammar.specs.Symbols.{nowhere}
 use Rattle.chor_tree.specs.Source.{Procedure, Items, Source}
 use Rattle.chor_tree.specs.Same.{Same, all_same, same_process_param, same_session_param, same_protocol, same_service, same_procedure}
 use Rattle.source_grammar.specs.Grammar.{ProcedureIs, a_procedure, ItemsAre, no_item, protocol_first, service_first, procedure_first, FileIs, a_file}

@@ -19,8 +19,8 @@ use Rattle.chor_lexer.specs.Grammar.{ExprIs, IsExpr}
 use Rattle.chor_lexer.specs.Spelling.{IsSource, expr_symbols, SpellAll}
 use Rattle.chor_lexer.proofs.Derivations.{expr_cut}
 use Rattle.chor_lexer.proofs.Spelling.{name_of, symbols_read_back}
-use Rattle.token_grammar.specs.Symbols.{nowhere, AllowsFirst, Room}
-use Rattle.token_grammar.specs.Expressions.{KeepsLength, ExprPart}
+use Rattle.source_grammar.specs.Symbols.{nowhere, AllowsFirst, Room}
+use Rattle.source_grammar.specs.Expressions.{KeepsLength, ExprPart}
 use Rattle.chor_tree.specs.declared.file.Named.{Named}
 use Rattle.source_grammar.specs.Grammar.{MarkIs, WordIs, NameIs, StandsAt, EndIs}
 use Rattle.canonical_laws.specs.Places.{bare_name}

@@ -10,7 +10,7 @@ use Rattle.chor_lexer.specs.Spelling.{IsSource, SpellAll}
 use Rattle.chor_lexer.specs.Tokens.{IsTokens, AreSpelled, AreTokensOf}
 use Rattle.chor_lexer.proofs.Cuts.{one_reading}
 use Rattle.chor_lexer.proofs.ReadBack.{HaveKinds, numbered}
-use Rattle.token_grammar.specs.Symbols.{nowhere}
+use Rattle.source_grammar.specs.Symbols.{nowhere}
 use Rattle.chor_tree.specs.declared.file.File.{File}
 use Rattle.chor_tree.specs.Source.{Procedure, Items, Source, Block, source_of}
 use Rattle.source_grammar.specs.Grammar.{NameIs, AnyNamesAre, ParamsAre, BlockIs, ProcedureIs, a_procedure, FileIs, a_file}

@@ -11,10 +11,10 @@ use Rattle.chor_tree.specs.declared.file.Service.{Service}
 use Rattle.chor_tree.specs.Protocols.{Protocol}
 use Rattle.chor_tree.specs.declared.tree.Node.{Node}
 use Rattle.chor_tree.specs.declared.tree.NodeId.{NodeId}
-use Rattle.token_grammar.specs.Symbols.{Nothing, Reads, Halts, Head, left, right, Times, Leads}
-use Rattle.token_grammar.proofs.Sequels.{past, reads_past, leads_on, leads_same}
-use Rattle.token_grammar.proofs.Choices.{same_leads}
-use Rattle.token_grammar.proofs.Repetitions.{times_done, times_step, times_now}
+use Rattle.source_grammar.specs.Symbols.{Nothing, Reads, Halts, Head, left, right, Times, Leads}
+use Rattle.source_grammar.proofs.Sequels.{past, reads_past, leads_on, leads_same}
+use Rattle.source_grammar.proofs.Choices.{same_leads}
+use Rattle.source_grammar.proofs.Repetitions.{times_done, times_step, times_now}
 use Rattle.chor_parser.specs.declared.source.Declared.{Declared}
 use Rattle.chor_tree.specs.Source.{Block, Procedure, Items, procedure_of}
 use Rattle.source_grammar.specs.Grammar.{WordIs}

@@ -2,7 +2,7 @@
 use Rattle.std.specs.Prelude.{◌≡◌, ◌<◌, ℕ, List, ◌++◌, length, map}
 use Rattle.chor_lexer.specs.declared.token.Token.{Token}
 use Rattle.chor_tree.specs.declared.file.Proc.{Proc}
-use Rattle.token_grammar.specs.Symbols.{Nothing, Reads}
+use Rattle.source_grammar.specs.Symbols.{Nothing, Reads}
 use Rattle.chor_tree.specs.Source.{Items, procedure_of}
 use Rattle.source_grammar.specs.Files.{Item, AnItemPart, with_item}
 use Rattle.source_grammar.specs.Growing.{Adds, begins_of}

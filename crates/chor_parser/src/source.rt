@@ -3,7 +3,7 @@
 ghost use Rattle.std.specs.Prelude.{◌≡◌, ◌<◌, ◌∷◌, [], codes, length, IfOk, IfErr, OnOk, OnErr, IfSome, IfNone};
 ghost use Rattle.std.specs.List.{AllByRecursion};
 ghost use Rattle.chor_lexer.specs.Tokens.{IsKnown};
-ghost use Rattle.token_grammar.specs.Symbols.{Nothing, Head, Halts};
+ghost use Rattle.source_grammar.specs.Symbols.{Nothing, Head, Halts};
 ghost use Rattle.chor_tree.specs.Source.{block_in, blocks_of, procedure_of, source_of};
 ghost use Rattle.source_grammar.specs.Faults.{IsWithin, IsRefusal};
 ghost use Rattle.source_grammar.specs.Blocks.{BlockPart};

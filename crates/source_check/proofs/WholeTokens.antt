@@ -8,7 +8,7 @@ use Rattle.chor_lexer.specs.Lexeme.{Symbol, word, number, text, mark, last, Lexe
 use Rattle.chor_lexer.specs.Cut.{IsCut, here, blank, token}
 use Rattle.chor_lexer.specs.Tokens.{Spells, AreSpelled, AreTokensOf, is_last, is_ended}
 use Rattle.chor_lexer.proofs.Known.{are_known}
-use Rattle.token_grammar.specs.Symbols.{AreWhole}
+use Rattle.source_grammar.specs.Symbols.{AreWhole}
 
 -- a symbol other than the end of the file
 abbrev IsOther : Symbol → Type 0

@@ -11,9 +11,9 @@ use Rattle.chor_lexer.specs.declared.token.Token.{Token}
 use Rattle.chor_lexer.specs.Keywords.{keywords, HasMark}
 use Rattle.chor_lexer.specs.Mark.{spelling}
 use Rattle.chor_lexer.proofs.Fronts.{mark_same}
-use Rattle.token_grammar.specs.Symbols.{Part, Further, Nothing, Then}
-use Rattle.token_grammar.proofs.Starts.{then_begins, nothing_apart}
-use Rattle.token_grammar.proofs.Decided.{Tells, IsDecided, decided_same, decided_then, decided_by, decided_choice, decided_option, decided_within, decided_one, decided_times}
+use Rattle.source_grammar.specs.Symbols.{Part, Further, Nothing, Then}
+use Rattle.source_grammar.proofs.Starts.{then_begins, nothing_apart}
+use Rattle.source_grammar.proofs.DecidedTokens.{Tells, IsDecided, decided_same, decided_then, decided_by, decided_choice, decided_option, decided_within, decided_one, decided_times}
 use Rattle.source_grammar.specs.Grammar.{NameIs, ArmIs, VariableIs, HolderIs, SessionParamIs}
 use Rattle.source_grammar.specs.Parts.{MarkPart, WordPart, NamePart, AMark, AWord, AName, Or, OrComma, OrName, OrBar, OrSession, OrParams, IsKeyword, NamesPart, AnyNamesPart, PartPart, SortPart, PayloadPart, ArmPart, ArmsPart, StepPart, StatePart, StatesPart, ProtocolPart, ServedPart, ServicePart, VariablePart, VarsPart, VariablesPart, ProcParamPart, ProcParamsPart, HolderPart, HoldersPart, SessionParamPart, SessionParamsPart, SessionsPart, ParamsPart}
 use Rattle.source_grammar.proofs.Terminals.{mark_class, mark_alike, mark_begins, mark_stable, word_class, word_alike, word_begins, word_stable, name_class, name_alike, said_name, name_begins, name_stable, word_not_name, words_differ, nothing_among, or_left, or_right, or_stable, distinct_or, protocol_keyword, service_keyword, end_keyword, then_keyword, int_keyword, bool_keyword, text_keyword}

@@ -5,14 +5,14 @@ use Rattle.chor_lexer.specs.declared.mark.Mark.{Mark}
 use Rattle.chor_lexer.specs.declared.mark.Mark.TheVariants.{OpenBrace, CloseBrace, OpenParen, CloseParen, OpenBracket, CloseBracket, Comma, Semicolon, Colon, Dot, Becomes, Arrow}
 use Rattle.chor_tree.specs.declared.file.Named.{Named}
 use Rattle.chor_tree.specs.declared.tree.Part.{Part as Role}
-use Rattle.token_grammar.specs.Symbols.{Part, Further, Nothing}
-use Rattle.token_grammar.specs.Expressions.{Operator}
-use Rattle.token_grammar.specs.Values.{After}
-use Rattle.token_grammar.proofs.Starts.{then_begins, within_begins, nothing_apart}
-use Rattle.token_grammar.proofs.Values.{as_begins, after_begins}
-use Rattle.token_grammar.proofs.Expressions.{expr_begins}
-use Rattle.token_grammar.proofs.Decided.{Tells, IsDecided, decided_same, decided_as, decided_further, decided_then, decided_after, decided_later, decided_choice, decided_either, decided_option, decided_within, decided_at, decided_times}
-use Rattle.token_grammar.proofs.DecidedExpressions.{decided_expr}
+use Rattle.source_grammar.specs.Symbols.{Part, Further, Nothing}
+use Rattle.source_grammar.specs.Expressions.{Operator}
+use Rattle.source_grammar.specs.Values.{After}
+use Rattle.source_grammar.proofs.Starts.{then_begins, within_begins, nothing_apart}
+use Rattle.source_grammar.proofs.Values.{as_begins, after_begins}
+use Rattle.source_grammar.proofs.Expressions.{expr_begins}
+use Rattle.source_grammar.proofs.DecidedTokens.{Tells, IsDecided, decided_same, decided_as, decided_further, decided_then, decided_after, decided_later, decided_choice, decided_either, decided_option, decided_within, decided_at, decided_times}
+use Rattle.source_grammar.proofs.DecidedExpressions.{decided_expr}
 use Rattle.source_grammar.specs.Grammar.{NameIs, PartIs}
 use Rattle.source_grammar.specs.Parts.{MarkPart, WordPart, NamePart, PartPart, OrComma, IsKeyword}
 use Rattle.source_grammar.specs.Statements.{RolesPart, NewRolesPart, RoleMore, StatementPart, StatementFirst, StatementMore, StartTail, ValueTail, GiveTail, SessionTail, PathTail, RoleTail, SendingTail, HostTail, SetTail, PlainTail, NameTail}

@@ -5,11 +5,11 @@ use Rattle.chor_lexer.specs.declared.token.Token.{Token}
 use Rattle.chor_tree.specs.declared.file.Named.{Named}
 use Rattle.chor_tree.specs.declared.file.ProcParam.{ProcParam}
 use Rattle.chor_tree.specs.declared.file.SessionParam.{SessionParam}
-use Rattle.token_grammar.specs.Symbols.{Allowed, Part, Further, Nothing, IsPart, Then, Apart, left, right, OneOf, the_first, the_second, IsStable, AreDistinct, Head, Begins, As, Alike, Repeats, done, again, Times, AreRepeated, Leads}
-use Rattle.token_grammar.proofs.Sequels.{then_part, leads_on}
-use Rattle.token_grammar.proofs.Choices.{same_part, choice_part, choice_begins, first_leads, second_leads}
-use Rattle.token_grammar.proofs.Starts.{then_begins, same_begins, begins_apart}
-use Rattle.token_grammar.proofs.Repetitions.{times_part}
+use Rattle.source_grammar.specs.Symbols.{Allowed, Part, Further, Nothing, IsPart, Then, Apart, left, right, OneOf, the_first, the_second, IsStable, AreDistinct, Head, Begins, As, Alike, Repeats, done, again, Times, AreRepeated, Leads}
+use Rattle.source_grammar.proofs.Sequels.{then_part, leads_on}
+use Rattle.source_grammar.proofs.Choices.{same_part, choice_part, choice_begins, first_leads, second_leads}
+use Rattle.source_grammar.proofs.Starts.{then_begins, same_begins, begins_apart}
+use Rattle.source_grammar.proofs.Repetitions.{times_part}
 use Rattle.chor_tree.specs.Source.{Block, Procedure, Items}
 use Rattle.source_grammar.specs.Grammar as g
 use Rattle.source_grammar.specs.Grammar.{ProcedureIs, ItemsAre}

@@ -11,9 +11,9 @@ use Rattle.chor_base.specs.declared.rule.Denied.TheVariants.{Refused, Memory}
 use Rattle.chor_lexer.specs.declared.token.Kind.TheVariants.{Last}
 use Rattle.chor_lexer.specs.declared.token.Token.{Token}
 use Rattle.chor_lexer.specs.Tokens.{IsKnown, is_ended}
-use Rattle.token_grammar.specs.Symbols.{Allowed, anywhere, nowhere, only_at, but_at, Nothing, more_words, AreWhole, Completes, Only, Reads, Reason, wrong, excess, Stops, Halts, RefusesFirst}
-use Rattle.token_grammar.proofs.Wholes.{whole_first, whole_after}
-use Rattle.token_grammar.proofs.Sequels.{again}
+use Rattle.source_grammar.specs.Symbols.{Allowed, anywhere, nowhere, only_at, but_at, Nothing, more_words, AreWhole, Completes, Only, Reads, Reason, wrong, excess, Stops, Halts, RefusesFirst}
+use Rattle.source_grammar.proofs.Wholes.{whole_first, whole_after}
+use Rattle.source_grammar.proofs.Sequels.{again}
 use Rattle.chor_tree.specs.Source.{Items, Source}
 use Rattle.source_grammar.specs.Grammar.{FileIs, a_file, EndIs}
 use Rattle.source_grammar.specs.Limits.{Keeps}

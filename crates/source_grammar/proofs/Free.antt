@@ -5,7 +5,7 @@ use Rattle.chor_base.specs.declared.rule.Rule.{Rule}
 use Rattle.chor_base.specs.declared.rule.Rule.TheVariants.{P2, P3}
 use Rattle.chor_base.specs.declared.value.Sort.{Sort}
 use Rattle.chor_lexer.specs.declared.token.Token.{Token}
-use Rattle.token_grammar.specs.Symbols.{AllowsFirst, Room}
+use Rattle.source_grammar.specs.Symbols.{AllowsFirst, Room}
 use Rattle.chor_tree.specs.declared.file.Named.{Named}
 use Rattle.chor_tree.specs.declared.file.Service.{Service}
 use Rattle.chor_tree.specs.declared.file.ProcParam.{ProcParam}
@@ -15,7 +15,7 @@ use Rattle.chor_tree.specs.declared.protocol.State.{State}
 use Rattle.chor_tree.specs.declared.protocol.ProtoStep.{ProtoStep}
 use Rattle.chor_tree.specs.Source.{Statement, Block, Procedure, Items, Source}
 use Rattle.source_grammar.specs.Grammar.{MoreAre, no_more, one_more, ListIs, a_list, AnyNamesAre, no_names, some_names, StepIs, end_step, value_step, choice_step, StateIs, a_state, MoreStatesAre, no_state, one_state, StatesAre, some_states, ProtocolIs, a_protocol, ServedAre, none_served, some_served, ServiceIs, a_service, VariablesAre, no_variables, some_variables, ProcParamIs, a_param, SessionsAre, no_sessions, some_sessions, ParamsAre, no_params, some_params, StatementIs, a_start, a_value, a_label, a_delegation, a_set, a_host_call, a_show, BlockIs, a_block, LinesAre, a_line, a_tail, TailIs, an_end, a_call, a_conditional, ProcedureIs, a_procedure, ItemsAre, no_item, protocol_first, service_first, procedure_first, FileIs, a_file}
-use Rattle.token_grammar.specs.Expressions.{KeepsLength}
+use Rattle.source_grammar.specs.Expressions.{KeepsLength}
 use Rattle.source_grammar.specs.Limits.{KeepsMore, KeepsList, KeepsAnyNames, KeepsStep, KeepsState, KeepsMoreStates, KeepsStates, KeepsProtocol, KeepsServed, KeepsService, KeepsVariables, KeepsParam, KeepsSessions, KeepsParams, KeepsStatement, KeepsBlock, KeepsLines, KeepsTail, KeepsProcedure, KeepsItems, Keeps}
 
 -- by both rules

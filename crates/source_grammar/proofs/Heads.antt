@@ -6,10 +6,10 @@ use Rattle.chor_lexer.specs.declared.token.Token.{Token}
 use Rattle.chor_tree.specs.declared.file.Named.{Named}
 use Rattle.chor_tree.specs.declared.file.ProcParam.{ProcParam}
 use Rattle.chor_tree.specs.declared.file.SessionParam.{SessionParam}
-use Rattle.token_grammar.specs.Symbols.{Allowed, Part, Nothing, IsPart, Then, Apart, AtMost, without, with, IsStable, Among, AreDistinct, Begins, As, Alike}
-use Rattle.token_grammar.proofs.Sequels.{then_part}
-use Rattle.token_grammar.proofs.Choices.{same_part, option_part}
-use Rattle.token_grammar.proofs.Starts.{then_begins, same_begins, then_opens, same_opens, option_apart, same_apart}
+use Rattle.source_grammar.specs.Symbols.{Allowed, Part, Nothing, IsPart, Then, Apart, AtMost, without, with, IsStable, Among, AreDistinct, Begins, As, Alike}
+use Rattle.source_grammar.proofs.Sequels.{then_part}
+use Rattle.source_grammar.proofs.Choices.{same_part, option_part}
+use Rattle.source_grammar.proofs.Starts.{then_begins, same_begins, then_opens, same_opens, option_apart, same_apart}
 use Rattle.source_grammar.specs.Grammar as g
 use Rattle.source_grammar.specs.Grammar.{VariableIs, VariablesAre, ProcParamIs, HolderIs, SessionParamIs, SessionsAre, ParamsAre}
 use Rattle.source_grammar.specs.Limits.{KeepsVariables, KeepsParam, KeepsSessions, KeepsParams}

@@ -5,11 +5,11 @@ use Rattle.chor_base.specs.declared.rule.Rule.TheVariants.{P3}
 use Rattle.chor_base.specs.declared.rule.Denied.{Denied}
 use Rattle.chor_lexer.specs.declared.mark.Mark.TheVariants.{Comma}
 use Rattle.chor_lexer.specs.declared.token.Token.{Token}
-use Rattle.token_grammar.specs.Symbols.{Allowed, Part, Further, IsPart, Reads, Halts, Then, Apart, Within, IsStable, AreDistinct, Begins, Opens, As, Alike, Repeats, done, again, Times, AreRepeated, Leads}
-use Rattle.token_grammar.proofs.Sequels.{then_part, now, leads, leads_on, leads_same}
-use Rattle.token_grammar.proofs.Choices.{same_leads}
-use Rattle.token_grammar.proofs.Starts.{then_begins, within_part, within_begins, nothing_apart}
-use Rattle.token_grammar.proofs.Repetitions.{times_part, times_apart, times_done, times_step, times_now}
+use Rattle.source_grammar.specs.Symbols.{Allowed, Part, Further, IsPart, Reads, Halts, Then, Apart, Within, IsStable, AreDistinct, Begins, Opens, As, Alike, Repeats, done, again, Times, AreRepeated, Leads}
+use Rattle.source_grammar.proofs.Sequels.{then_part, now, leads, leads_on, leads_same}
+use Rattle.source_grammar.proofs.Choices.{same_leads}
+use Rattle.source_grammar.proofs.Starts.{then_begins, within_part, within_begins, nothing_apart}
+use Rattle.source_grammar.proofs.Repetitions.{times_part, times_apart, times_done, times_step, times_now}
 use Rattle.source_grammar.specs.Grammar.{MarkIs, MoreAre, no_more, one_more, ListIs, a_list}
 use Rattle.source_grammar.specs.Limits.{KeepsMore, KeepsList}
 use Rattle.source_grammar.specs.Parts.{MarkPart, AComma, OrComma, ItemPart, MorePart, ListPart, AnyListPart}

@@ -14,7 +14,7 @@ use Rattle.chor_tree.specs.Protocols.{Protocol, has_items}
 use Rattle.chor_tree.specs.declared.tree.Part.{Part as Role}
 use Rattle.chor_tree.specs.Source.{Statement, Block, Procedure, Items, Source}
 use Rattle.chor_tree.specs.Kept.{named_there, names_there, protocol_there, service_there, process_param_there, session_param_there, comes_after_items, has_name, has_text}
-use Rattle.token_grammar.specs.Symbols.{Part, Further, IsPart, anywhere}
+use Rattle.source_grammar.specs.Symbols.{Part, Further, IsPart, anywhere}
 use Rattle.source_grammar.specs.Grammar as g
 use Rattle.source_grammar.specs.Grammar.{MarkIs, WordIs, NameIs, AnyNamesAre, PartIs, ProtocolIs, ServiceIs, ParamsAre, StatementIs, BlockIs, LinesAre, TailIs, ProcedureIs, ItemsAre, FileIs}
 use Rattle.source_grammar.specs.Known.{IsTextKnown}

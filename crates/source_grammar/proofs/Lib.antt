@@ -1,3 +1,15 @@
+pub mod Wholes
+pub mod Sequels
+pub mod Choices
+pub mod Starts
+pub mod Singles
+pub mod Repetitions
+pub mod Derived
+pub mod Expressions
+pub mod Values
+pub mod Sound
+pub mod DecidedTokens
+pub mod DecidedExpressions
 pub mod Terminals
 pub mod ItemLists
 pub mod Protocols

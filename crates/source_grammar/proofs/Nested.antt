@@ -7,15 +7,15 @@ use Rattle.chor_lexer.specs.Tokens.{IsKnown}
 use Rattle.chor_lexer.specs.declared.mark.Mark.TheVariants.{OpenBrace, CloseBrace, OpenParen, CloseParen, Semicolon, Dot, Comma}
 use Rattle.chor_lexer.specs.declared.token.Token.{Token}
 use Rattle.chor_tree.specs.declared.file.Named.{Named}
-use Rattle.token_grammar.specs.Symbols.{Allowed, Part, Further, Nothing, more_words, only_at, Completes, IsPart, Reads, Halts, Apart, IsStable, AreDistinct, Head, Begins, Opens, Within, As, Alike, Leads, RefusesFirst}
-use Rattle.token_grammar.specs.Expressions.{Operator}
-use Rattle.token_grammar.specs.Values.{After, by_first, by_second, StandsAt}
-use Rattle.token_grammar.proofs.Expressions.{expr_part}
-use Rattle.token_grammar.proofs.Values.{as_alike, as_part, as_leads, as_begins, as_opens, after_part, after_leads, after_now, after_begins, after_opens, either_part, either_first, either_second, either_begins, either_opens, at_part, at_leads, at_begins, at_opens, stands_there}
-use Rattle.token_grammar.proofs.Sequels.{leads_on}
-use Rattle.token_grammar.proofs.Choices.{same_part, same_leads}
-use Rattle.token_grammar.proofs.Starts.{same_begins, same_opens, nothing_apart, begins_apart, within_part, within_begins, within_leads, full_halts, wrong_halts, allows_added}
-use Rattle.token_grammar.proofs.Sound.{Sound, sound_of, sound_after, sound_first, sound_second, sound_within, sound_at, sound_alike, sound_part}
+use Rattle.source_grammar.specs.Symbols.{Allowed, Part, Further, Nothing, more_words, only_at, Completes, IsPart, Reads, Halts, Apart, IsStable, AreDistinct, Head, Begins, Opens, Within, As, Alike, Leads, RefusesFirst}
+use Rattle.source_grammar.specs.Expressions.{Operator}
+use Rattle.source_grammar.specs.Values.{After, by_first, by_second, StandsAt}
+use Rattle.source_grammar.proofs.Expressions.{expr_part}
+use Rattle.source_grammar.proofs.Values.{as_alike, as_part, as_leads, as_begins, as_opens, after_part, after_leads, after_now, after_begins, after_opens, either_part, either_first, either_second, either_begins, either_opens, at_part, at_leads, at_begins, at_opens, stands_there}
+use Rattle.source_grammar.proofs.Sequels.{leads_on}
+use Rattle.source_grammar.proofs.Choices.{same_part, same_leads}
+use Rattle.source_grammar.proofs.Starts.{same_begins, same_opens, nothing_apart, begins_apart, within_part, within_begins, within_leads, full_halts, wrong_halts, allows_added}
+use Rattle.source_grammar.proofs.Sound.{Sound, sound_of, sound_after, sound_first, sound_second, sound_within, sound_at, sound_alike, sound_part}
 use Rattle.chor_tree.specs.Source.{Statement, Block, Then, Calls, Ends}
 use Rattle.source_grammar.specs.Grammar.{MarkIs, WordIs, NameIs, BlockIs, LinesAre, TailIs, a_block, a_line, a_tail, an_end, a_call, a_conditional}
 use Rattle.source_grammar.specs.Limits.{KeepsBlock, KeepsLines, KeepsTail}

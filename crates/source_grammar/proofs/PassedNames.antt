@@ -4,12 +4,12 @@ use Rattle.chor_base.specs.declared.rule.Denied.{Denied}
 use Rattle.chor_lexer.specs.declared.mark.Mark.TheVariants.{CloseParen, Comma, Semicolon}
 use Rattle.chor_lexer.specs.declared.token.Token.{Token}
 use Rattle.chor_tree.specs.declared.file.Named.{Named}
-use Rattle.token_grammar.specs.Symbols.{Allowed, Part, Further, Nothing, IsPart, Reads, Halts, Head, Apart, Then, AtMost, without, with, IsStable, Among, AreDistinct, Begins, As, Alike, Leads}
-use Rattle.token_grammar.specs.Values.{After}
-use Rattle.token_grammar.proofs.Values.{after_begins, as_begins}
-use Rattle.token_grammar.proofs.Sequels.{leads_on, then_part, leads, now}
-use Rattle.token_grammar.proofs.Choices.{same_part, same_reads, same_leads, option_part, option_leads, without_reads}
-use Rattle.token_grammar.proofs.Starts.{then_begins, same_begins, begins_apart, option_apart, same_apart}
+use Rattle.source_grammar.specs.Symbols.{Allowed, Part, Further, Nothing, IsPart, Reads, Halts, Head, Apart, Then, AtMost, without, with, IsStable, Among, AreDistinct, Begins, As, Alike, Leads}
+use Rattle.source_grammar.specs.Values.{After}
+use Rattle.source_grammar.proofs.Values.{after_begins, as_begins}
+use Rattle.source_grammar.proofs.Sequels.{leads_on, then_part, leads, now}
+use Rattle.source_grammar.proofs.Choices.{same_part, same_reads, same_leads, option_part, option_leads, without_reads}
+use Rattle.source_grammar.proofs.Starts.{then_begins, same_begins, begins_apart, option_apart, same_apart}
 use Rattle.source_grammar.specs.Grammar.{MarkIs, NameIs, PassedSessionsAre, no_session_passed, sessions_passed, PassedAre, nothing_passed, processes_passed}
 use Rattle.source_grammar.specs.Parts.{MarkPart, AMark, AName, OrComma}
 use Rattle.source_grammar.specs.Blocks.{AllNamesPart, PassedSessionsPart, PassedSessionsMore, PassedPart, PassedMore}

@@ -15,11 +15,11 @@ use Rattle.chor_tree.specs.declared.protocol.ProtoArm.{ProtoArm}
 use Rattle.chor_tree.specs.declared.protocol.Payload.{Payload}
 use Rattle.chor_tree.specs.declared.protocol.Payload.TheVariants as payload
 use Rattle.chor_tree.specs.declared.tree.Part.{Part as ProcessRole}
-use Rattle.token_grammar.specs.Symbols.{Allowed, Part, Further, Nothing, IsPart, ThenBy, Then, Apart, Choice, left, right, OneOf, the_first, the_second, AtMost, without, with, IsStable, AreDistinct, Begins, Opens, As, Alike, Repeats, done, again, Times, AreRepeated}
-use Rattle.token_grammar.proofs.Sequels.{then_part, by_part}
-use Rattle.token_grammar.proofs.Choices.{same_part, choice_part, choice_begins, option_part}
-use Rattle.token_grammar.proofs.Starts.{then_begins, same_begins, then_opens, same_opens, within_part, within_begins, nothing_apart, begins_apart, option_apart, then_apart, same_apart}
-use Rattle.token_grammar.proofs.Repetitions.{times_part}
+use Rattle.source_grammar.specs.Symbols.{Allowed, Part, Further, Nothing, IsPart, ThenBy, Then, Apart, Choice, left, right, OneOf, the_first, the_second, AtMost, without, with, IsStable, AreDistinct, Begins, Opens, As, Alike, Repeats, done, again, Times, AreRepeated}
+use Rattle.source_grammar.proofs.Sequels.{then_part, by_part}
+use Rattle.source_grammar.proofs.Choices.{same_part, choice_part, choice_begins, option_part}
+use Rattle.source_grammar.proofs.Starts.{then_begins, same_begins, then_opens, same_opens, within_part, within_begins, nothing_apart, begins_apart, option_apart, then_apart, same_apart}
+use Rattle.source_grammar.proofs.Repetitions.{times_part}
 use Rattle.source_grammar.specs.Grammar as g
 use Rattle.source_grammar.specs.Grammar.{NameIs, PartIs, SortIs, PayloadIs, ArmIs, StepIs, StateIs, MoreStatesAre, StatesAre, ProtocolIs, AnyNamesAre, ServedAre, ServiceIs}
 use Rattle.source_grammar.specs.Limits.{KeepsMoreStates, KeepsAnyNames, KeepsStep, KeepsState, KeepsStates, KeepsProtocol, KeepsServed, KeepsService}

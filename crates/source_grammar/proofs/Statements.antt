@@ -13,14 +13,14 @@ use Rattle.chor_lexer.specs.declared.token.Token.{Token}
 use Rattle.chor_lexer.specs.Canonical.{binary_mark}
 use Rattle.chor_tree.specs.declared.file.Named.{Named}
 use Rattle.chor_tree.specs.declared.tree.Part.{Part as Role}
-use Rattle.token_grammar.specs.Symbols.{Allowed, Part, Further, Nothing, more_words, IsPart, Reads, Halts, Apart, IsStable, Among, AreDistinct, Begins, Opens, AtMost, without, with, As, Alike, Leads}
-use Rattle.token_grammar.specs.Expressions.{Operator, ExprPart, IsNoWord}
-use Rattle.token_grammar.specs.Values.{After, by_first, by_second}
-use Rattle.token_grammar.proofs.Expressions.{expr_part, expr_begins}
-use Rattle.token_grammar.proofs.Values.{as_alike, as_part, as_begins, after_part, after_leads, after_now, after_begins, after_opens, either_part, either_first, either_second, either_begins, either_opens}
-use Rattle.token_grammar.proofs.Sequels.{leads_on}
-use Rattle.token_grammar.proofs.Choices.{same_part, same_reads, same_leads, option_part, option_leads, without_reads, more_further, halts_further, reads_further}
-use Rattle.token_grammar.proofs.Starts.{same_begins, same_opens, nothing_apart, begins_apart, option_apart, same_apart}
+use Rattle.source_grammar.specs.Symbols.{Allowed, Part, Further, Nothing, more_words, IsPart, Reads, Halts, Apart, IsStable, Among, AreDistinct, Begins, Opens, AtMost, without, with, As, Alike, Leads}
+use Rattle.source_grammar.specs.Expressions.{Operator, ExprPart, IsNoWord}
+use Rattle.source_grammar.specs.Values.{After, by_first, by_second}
+use Rattle.source_grammar.proofs.Expressions.{expr_part, expr_begins}
+use Rattle.source_grammar.proofs.Values.{as_alike, as_part, as_begins, after_part, after_leads, after_now, after_begins, after_opens, either_part, either_first, either_second, either_begins, either_opens}
+use Rattle.source_grammar.proofs.Sequels.{leads_on}
+use Rattle.source_grammar.proofs.Choices.{same_part, same_reads, same_leads, option_part, option_leads, without_reads, more_further, halts_further, reads_further}
+use Rattle.source_grammar.proofs.Starts.{same_begins, same_opens, nothing_apart, begins_apart, option_apart, same_apart}
 use Rattle.chor_tree.specs.Source.{Statement, Starts, Sets}
 use Rattle.source_grammar.specs.Grammar.{MarkIs, WordIs, NameIs, PartIs, NewPartsAre, no_new, some_new, StatementIs, a_part, a_start, a_value, a_label, a_delegation, a_set, a_host_call, a_show}
 use Rattle.source_grammar.specs.Limits.{KeepsStatement}

@@ -12,12 +12,12 @@ use Rattle.chor_lexer.specs.declared.token.Token.{Token}
 use Rattle.chor_lexer.specs.Keywords.{keywords, HasMark, HasWord, HasName}
 use Rattle.chor_lexer.specs.Tokens.{IsKnown, is_last}
 use Rattle.chor_tree.specs.declared.file.Named.{Named}
-use Rattle.token_grammar.specs.Symbols.{Part, Further, Nothing, more_words, IsPart, Reads, Halts, Then, IsStable, Among, AreDistinct, Head, Begins, Opens, Alike, One, IsClass, Says, RefusesFirst, HasRoom, Leads}
-use Rattle.token_grammar.proofs.Wholes.{first_of_cons}
-use Rattle.token_grammar.proofs.Sequels.{now, leads}
-use Rattle.token_grammar.proofs.Choices.{same_part, same_reads}
-use Rattle.token_grammar.proofs.Starts.{same_opens, nothing_apart, wrong_halts}
-use Rattle.token_grammar.proofs.Singles.{one_part, one_opens, one_reads}
+use Rattle.source_grammar.specs.Symbols.{Part, Further, Nothing, more_words, IsPart, Reads, Halts, Then, IsStable, Among, AreDistinct, Head, Begins, Opens, Alike, One, IsClass, Says, RefusesFirst, HasRoom, Leads}
+use Rattle.source_grammar.proofs.Wholes.{first_of_cons}
+use Rattle.source_grammar.proofs.Sequels.{now, leads}
+use Rattle.source_grammar.proofs.Choices.{same_part, same_reads}
+use Rattle.source_grammar.proofs.Starts.{same_opens, nothing_apart, wrong_halts}
+use Rattle.source_grammar.proofs.Singles.{one_part, one_opens, one_reads}
 use Rattle.source_grammar.specs.Grammar.{MarkIs, WordIs, NameIs}
 use Rattle.source_grammar.specs.Parts.{MarkPart, WordPart, NamePart, AMark, AWord, AName, Or, IsKeyword}
 

@@ -7,9 +7,9 @@ use Rattle.chor_lexer.specs.declared.token.Kind.{Kind}
 use Rattle.chor_lexer.specs.declared.token.Kind.TheVariants.{Word, Number, Text, Mark, Last}
 use Rattle.chor_lexer.specs.declared.token.Token.{Token}
 use Rattle.chor_lexer.specs.Tokens.{is_last, is_ended}
-use Rattle.token_grammar.specs.Symbols.{but_at, also_at, Nothing, AreWhole, Reads, Reason, wrong, excess, Stops}
-use Rattle.token_grammar.proofs.Wholes.{whole_first, whole_after}
-use Rattle.token_grammar.proofs.Decided.{Outcome, reads, halts}
+use Rattle.source_grammar.specs.Symbols.{but_at, also_at, Nothing, AreWhole, Reads, Reason, wrong, excess, Stops}
+use Rattle.source_grammar.proofs.Wholes.{whole_first, whole_after}
+use Rattle.source_grammar.proofs.DecidedTokens.{Outcome, reads, halts}
 use Rattle.chor_tree.specs.Source.{Items, Source}
 use Rattle.source_grammar.specs.Faults.{IsViable, IsFaultAt, unexpected, excess as exceeds, IsFirstFault, IsWithin}
 use Rattle.source_grammar.specs.Files.{Main, SourcePart}

@@ -5,9 +5,9 @@ use Rattle.chor_base.specs.declared.rule.Rule.TheVariants.{P2, P3}
 use Rattle.chor_lexer.specs.declared.mark.Mark.TheVariants.{OpenBrace, CloseBrace, OpenParen, CloseParen, Semicolon, Dot}
 use Rattle.chor_lexer.specs.declared.token.Token.{Token}
 use Rattle.chor_tree.specs.declared.file.Named.{Named}
-use Rattle.token_grammar.specs.Symbols.{Allowed, Part, Further, Nothing, As, Within}
-use Rattle.token_grammar.specs.Expressions.{ExprPart}
-use Rattle.token_grammar.specs.Values.{After, Either, At}
+use Rattle.source_grammar.specs.Symbols.{Allowed, Part, Further, Nothing, As, Within}
+use Rattle.source_grammar.specs.Expressions.{ExprPart}
+use Rattle.source_grammar.specs.Values.{After, Either, At}
 use Rattle.chor_tree.specs.Source.{Block, Then, Either as Branch, Calls, Ends}
 use Rattle.source_grammar.specs.Grammar.{NameIs, PassedSessionsAre, PassedAre, BlockIs, LinesAre, TailIs}
 use Rattle.source_grammar.specs.Limits.{KeepsBlock, KeepsLines, KeepsTail}

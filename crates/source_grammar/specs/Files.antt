@@ -4,7 +4,7 @@ use Rattle.chor_lexer.specs.declared.mark.Mark.TheVariants.{OpenParen, ClosePare
 use Rattle.chor_tree.specs.declared.file.Named.{Named}
 use Rattle.chor_tree.specs.declared.file.Service.{Service}
 use Rattle.chor_tree.specs.Protocols.{Protocol}
-use Rattle.token_grammar.specs.Symbols.{Part, Further, Then, Choice, left, right, OneOf}
+use Rattle.source_grammar.specs.Symbols.{Part, Further, Then, Choice, left, right, OneOf}
 use Rattle.chor_tree.specs.Source.{Block, Procedure, Items}
 use Rattle.source_grammar.specs.Grammar.{ProcedureIs, ItemsAre}
 use Rattle.source_grammar.specs.Limits.{KeepsProcedure, KeepsItems}

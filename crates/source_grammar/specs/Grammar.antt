@@ -12,7 +12,7 @@ use Rattle.chor_lexer.specs.declared.token.Kind.TheVariants as kind
 use Rattle.chor_lexer.specs.declared.token.Token.{Token}
 use Rattle.chor_lexer.specs.Keywords.{HasMark, HasWord, HasName}
 use Rattle.chor_lexer.specs.Grammar.{ExprIs}
-pub use Rattle.token_grammar.specs.Values.{StandsAt}
+pub use Rattle.source_grammar.specs.Values.{StandsAt}
 use Rattle.chor_tree.specs.declared.file.Named.{Named}
 use Rattle.chor_tree.specs.declared.file.Service.{Service}
 use Rattle.chor_tree.specs.declared.file.ProcParam.{ProcParam}

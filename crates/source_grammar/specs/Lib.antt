@@ -1,3 +1,6 @@
+pub mod Symbols
+pub mod Expressions
+pub mod Values
 pub mod Grammar
 pub mod Limits
 pub mod Parts

@@ -6,8 +6,8 @@ use Rattle.chor_base.specs.declared.rule.Rule.{Rule}
 use Rattle.chor_base.specs.declared.rule.Rule.TheVariants.{P2, P3}
 use Rattle.chor_base.specs.declared.value.Sort.{Sort}
 use Rattle.chor_lexer.specs.declared.token.Token.{Token}
-use Rattle.token_grammar.specs.Symbols.{Room}
-use Rattle.token_grammar.specs.Expressions.{KeepsLength}
+use Rattle.source_grammar.specs.Symbols.{Room}
+use Rattle.source_grammar.specs.Expressions.{KeepsLength}
 use Rattle.chor_tree.specs.declared.file.Named.{Named}
 use Rattle.chor_tree.specs.declared.file.Service.{Service}
 use Rattle.chor_tree.specs.declared.file.ProcParam.{ProcParam}

@@ -8,7 +8,7 @@ use Rattle.chor_lexer.specs.declared.mark.Mark.TheVariants as mark
 use Rattle.chor_lexer.specs.declared.token.Token.{Token}
 use Rattle.chor_lexer.specs.Keywords.{keywords, HasMark, HasWord, HasName}
 use Rattle.chor_tree.specs.declared.file.Named.{Named}
-use Rattle.token_grammar.specs.Symbols.{Allowed, Part, Further, Nothing, more_words}
+use Rattle.source_grammar.specs.Symbols.{Allowed, Part, Further, Nothing, more_words}
 use Rattle.chor_tree.specs.declared.file.Service.{Service}
 use Rattle.chor_tree.specs.declared.file.ProcParam.{ProcParam}
 use Rattle.chor_tree.specs.declared.file.SessionParam.{SessionParam}
@@ -18,7 +18,7 @@ use Rattle.chor_tree.specs.declared.protocol.ProtoStep.{ProtoStep}
 use Rattle.chor_tree.specs.declared.protocol.ProtoArm.{ProtoArm}
 use Rattle.chor_tree.specs.declared.protocol.Payload.{Payload}
 use Rattle.chor_tree.specs.declared.tree.Part.{Part as ProcessRole}
-use Rattle.token_grammar.specs.Symbols.{Allowed, Part, Further, Nothing, more_words}
+use Rattle.source_grammar.specs.Symbols.{Allowed, Part, Further, Nothing, more_words}
 use Rattle.source_grammar.specs.Grammar.{MarkIs, WordIs, NameIs, MoreAre, ListIs, NamesAre, AnyNamesAre, PartIs, SortIs, PayloadIs, ArmIs, StepIs, StateIs, StatesAre, ProtocolIs, ServedAre, ServiceIs, VariableIs, VariablesAre, ProcParamIs, HolderIs, SessionParamIs, SessionsAre, ParamsAre}
 use Rattle.source_grammar.specs.Limits.{KeepsMore, KeepsList, KeepsNames, KeepsAnyNames, KeepsStep, KeepsState, KeepsStates, KeepsProtocol, KeepsServed, KeepsService, KeepsVariables, KeepsParam, KeepsSessions, KeepsParams}
 

@@ -4,9 +4,9 @@ use Rattle.chor_lexer.specs.declared.mark.Mark.TheVariants.{OpenParen, ClosePare
 use Rattle.chor_lexer.specs.declared.token.Token.{Token}
 use Rattle.chor_tree.specs.declared.file.Named.{Named}
 use Rattle.chor_tree.specs.declared.tree.Part.{Part as Role}
-use Rattle.token_grammar.specs.Symbols.{Allowed, Part, Further, Nothing, As}
-use Rattle.token_grammar.specs.Expressions.{Operator, ExprPart}
-use Rattle.token_grammar.specs.Values.{After, Either}
+use Rattle.source_grammar.specs.Symbols.{Allowed, Part, Further, Nothing, As}
+use Rattle.source_grammar.specs.Expressions.{Operator, ExprPart}
+use Rattle.source_grammar.specs.Values.{After, Either}
 use Rattle.chor_tree.specs.Source.{Statement, Starts, Sends, Selects, Gives, Sets, Asks, Shows}
 use Rattle.source_grammar.specs.Grammar.{PartIs, NewPartsAre, StatementIs}
 use Rattle.source_grammar.specs.Limits.{KeepsStatement}

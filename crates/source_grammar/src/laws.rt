@@ -4,7 +4,7 @@ ghost use Rattle.std.specs.Prelude.{◌≡◌, ◌⊎◌, ℕ, List, Some, slice
 ghost use Rattle.chor_base.specs.declared.rule.Place.{Place};
 ghost use Rattle.chor_base.specs.declared.rule.Rule.{Rule};
 ghost use Rattle.chor_lexer.specs.declared.token.Token.{Token};
-ghost use Rattle.token_grammar.specs.Symbols.{AreWhole};
+ghost use Rattle.source_grammar.specs.Symbols.{AreWhole};
 ghost use Rattle.chor_tree.specs.Source.{Source};
 ghost use Rattle.chor_tree.specs.declared.file.File.{File};
 ghost use Rattle.chor_tree.specs.declared.tree.NodeId.{NodeId};

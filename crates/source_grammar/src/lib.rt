@@ -1,4 +1,5 @@
-//! The grammar of sources, and what holds of all tokens.
+//! Grammars of tokens in which the next token tells what comes: how their parts are put together, and
+//! where they stop; the grammar of sources, and what holds of all tokens.
 #![tactic(auto)]
 
 mod laws;

@@ -9,7 +9,7 @@ use Rattle.chor_tree.specs.declared.tree.Node.{Node}
 use Rattle.chor_tree.specs.declared.tree.NodeId.{NodeId}
 use Rattle.chor_tree.specs.declared.tree.Form.TheVariants as form
 use Rattle.chor_tree.specs.Source.{Block, Either, Calls, Ends, block_in, block_of, blocks_of}
-use Rattle.token_grammar.specs.Symbols.{Part, Further, Reads}
+use Rattle.source_grammar.specs.Symbols.{Part, Further, Reads}
 use Rattle.source_grammar.specs.Growing.{Grows}
 use Rattle.source_grammar.proofs.Tables.{block_stays, block_pushed}
 

@@ -3,9 +3,9 @@ use Rattle.std.proofs.Common.{◌≡◌, ◌<◌, ◌-◌, ◌≤◌, ℕ, List,
 use Rattle.chor_base.specs.declared.rule.Place.{Place}
 use Rattle.chor_lexer.specs.declared.mark.Mark.TheVariants.{Semicolon}
 use Rattle.chor_lexer.specs.declared.token.Token.{Token}
-use Rattle.token_grammar.specs.Symbols.{Nothing, Reads, Head, Leads}
-use Rattle.token_grammar.specs.Values.{StandsAt}
-use Rattle.token_grammar.proofs.Sequels.{leads_on, leads_same}
+use Rattle.source_grammar.specs.Symbols.{Nothing, Reads, Head, Leads}
+use Rattle.source_grammar.specs.Values.{StandsAt}
+use Rattle.source_grammar.proofs.Sequels.{leads_on, leads_same}
 use Rattle.chor_tree.specs.declared.tree.Node.{Node}
 use Rattle.chor_tree.specs.declared.tree.NodeId.{NodeId}
 use Rattle.chor_tree.specs.Children.{children_of}

@@ -17,12 +17,12 @@ use Rattle.source_reader.specs.Reading.{names_of, tokens_from, Made}
 use Rattle.chor_tree.specs.declared.protocol.State.{State}
 use Rattle.chor_tree.specs.declared.protocol.ProtoStep.TheVariants as step
 use Rattle.chor_tree.specs.declared.protocol.Payload.TheVariants as payload
-use Rattle.token_grammar.specs.Symbols.{Part, Further, Nothing, Reads, Halts, Then, Head, HasRoom, IsFull, RefusesFirst, Times, Leads}
-use Rattle.token_grammar.proofs.Wholes.{reads_by_end}
-use Rattle.token_grammar.proofs.Sequels.{past, reads_past, leads, leads_on, leads_same}
-use Rattle.token_grammar.proofs.Choices.{same_leads, same_reads, same_halts, option_leads, without_reads, first_leads, second_leads, first_reads}
-use Rattle.token_grammar.proofs.Starts.{then_begins, wrong_halts, at_full, into_room}
-use Rattle.token_grammar.proofs.Repetitions.{times_part, times_step, times_now, times_done}
+use Rattle.source_grammar.specs.Symbols.{Part, Further, Nothing, Reads, Halts, Then, Head, HasRoom, IsFull, RefusesFirst, Times, Leads}
+use Rattle.source_grammar.proofs.Wholes.{reads_by_end}
+use Rattle.source_grammar.proofs.Sequels.{past, reads_past, leads, leads_on, leads_same}
+use Rattle.source_grammar.proofs.Choices.{same_leads, same_reads, same_halts, option_leads, without_reads, first_leads, second_leads, first_reads}
+use Rattle.source_grammar.proofs.Starts.{then_begins, wrong_halts, at_full, into_room}
+use Rattle.source_grammar.proofs.Repetitions.{times_part, times_step, times_now, times_done}
 use Rattle.source_grammar.specs.Grammar as g
 use Rattle.source_grammar.specs.Grammar.{MarkIs, WordIs, NameIs, SortIs}
 use Rattle.source_grammar.specs.Parts.{MarkPart, WordPart, NamePart, AMark, AWord, AName, AParen, OrComma, OrName, OrBar, OrSession, OrParams, ItemPart, Unlimited, NamesPart, AnyNamesPart, ServedPart, SortPart, PayloadPart, StepPart, StatePart, StatesPart, VarsPart, VariablesPart, SessionParamsPart, SessionsPart, ParamsPart}

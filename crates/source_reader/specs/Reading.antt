@@ -11,8 +11,8 @@ use Rattle.chor_tree.specs.declared.tree.Part.{Part as Role}
 use Rattle.chor_tree.specs.declared.tree.Form.{Form}
 use Rattle.chor_tree.specs.declared.tree.Form.TheVariants as form
 use Rattle.chor_base.specs.declared.rule.Denied.{Denied}
-use Rattle.token_grammar.specs.Symbols.{Part, Further, Nothing, Reads, Halts, Leads, As}
-use Rattle.token_grammar.specs.Values.{After}
+use Rattle.source_grammar.specs.Symbols.{Part, Further, Nothing, Reads, Halts, Leads, As}
+use Rattle.source_grammar.specs.Values.{After}
 use Rattle.source_reader.specs.declared.input.Input.{Input}
 use Rattle.source_reader.specs.declared.block.Line.{Line}
 use Rattle.source_reader.specs.declared.statement.Statement.{Statement as Read}

@@ -2,7 +2,7 @@
 
 ghost use Rattle.std.specs.Prelude.{◌≡◌, ◌-◌, ◌<◌, ◌≤◌, ◌++◌, ◌∷◌, [], List, length, IfOk, IfErr, IfSome, IfNone, OnOk};
 ghost use Rattle.chor_base.specs.declared.rule.Rule.TheVariants.{P3};
-ghost use Rattle.token_grammar.specs.Symbols.{Nothing, Head, Halts, RefusesFirst};
+ghost use Rattle.source_grammar.specs.Symbols.{Nothing, Head, Halts, RefusesFirst};
 ghost use Rattle.chor_tree.specs.declared.tree.Node.{Node};
 ghost use Rattle.chor_tree.specs.Source.{block_in, blocks_of};
 ghost use Rattle.source_grammar.specs.Grammar.{MarkIs, StandsAt};

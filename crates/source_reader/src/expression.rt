@@ -2,8 +2,8 @@
 
 ghost use Rattle.std.specs.Prelude.{IfOk, IfErr};
 ghost use Rattle.chor_base.specs.Expr.{term_of};
-ghost use Rattle.token_grammar.specs.Symbols.{Halts};
-ghost use Rattle.token_grammar.specs.Expressions.{ExprPart, Operator};
+ghost use Rattle.source_grammar.specs.Symbols.{Halts};
+ghost use Rattle.source_grammar.specs.Expressions.{ExprPart, Operator};
 ghost use Rattle.source_reader.specs.Reading.{names_of, tokens_from, ReadsTo};
 
 use crate::input::Input;

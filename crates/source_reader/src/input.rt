@@ -5,7 +5,7 @@ ghost use Rattle.chor_base.specs.declared.rule.Rule.TheVariants.{P3};
 ghost use Rattle.chor_lexer.specs.declared.token.Token.{Token};
 ghost use Rattle.chor_lexer.specs.Keywords.{IsName};
 ghost use Rattle.chor_tree.specs.declared.file.Named.{Named};
-ghost use Rattle.token_grammar.specs.Symbols.{Nothing, Head, Halts, RefusesFirst, HasRoom, IsFull};
+ghost use Rattle.source_grammar.specs.Symbols.{Nothing, Head, Halts, RefusesFirst, HasRoom, IsFull};
 ghost use Rattle.source_grammar.specs.Grammar.{NameIs, WordIs, MarkIs};
 ghost use Rattle.source_grammar.specs.Parts.{MarkPart, WordPart, NamePart, AName, IsKeyword};
 ghost use Rattle.source_reader.specs.Reading.{names_of, tokens_from, Ends};

@@ -1,7 +1,7 @@
 //! Lists of names and of parts.
 
 ghost use Rattle.std.specs.Prelude.{IfOk, IfErr};
-ghost use Rattle.token_grammar.specs.Symbols.{Nothing, Halts};
+ghost use Rattle.source_grammar.specs.Symbols.{Nothing, Halts};
 ghost use Rattle.source_grammar.specs.Grammar.{PartIs};
 ghost use Rattle.source_grammar.specs.Parts.{OrComma, OrName, AnyListPart, NamesPart, AnyNamesPart, PartPart};
 ghost use Rattle.source_reader.specs.Reading.{names_of, tokens_from, ReadsTo};

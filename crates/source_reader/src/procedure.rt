@@ -1,7 +1,7 @@
 //! The heads of procedures.
 
 ghost use Rattle.std.specs.Prelude.{IfOk, IfErr};
-ghost use Rattle.token_grammar.specs.Symbols.{Nothing, Halts};
+ghost use Rattle.source_grammar.specs.Symbols.{Nothing, Halts};
 ghost use Rattle.source_grammar.specs.Parts.{OrComma, AParen, OrSession, OrParams, VariablePart, VarsPart, VariablesPart, ProcParamPart, ProcParamsPart, HolderPart, HoldersPart, SessionParamPart, SessionParamsPart, SessionsPart, ParamsPart};
 ghost use Rattle.source_reader.specs.Reading.{names_of, tokens_from, ReadsTo};
 

@@ -3,7 +3,7 @@
 ghost use Rattle.std.specs.Prelude.{◌-◌, List, codes, IfOk, IfErr, IfSome, IfNone};
 ghost use Rattle.chor_base.specs.declared.value.Sort.{Sort};
 ghost use Rattle.chor_lexer.specs.declared.token.Token.{Token};
-ghost use Rattle.token_grammar.specs.Symbols.{Nothing, Halts};
+ghost use Rattle.source_grammar.specs.Symbols.{Nothing, Halts};
 ghost use Rattle.source_grammar.specs.Grammar.{SortIs};
 ghost use Rattle.source_grammar.specs.Parts.{AName, OrComma, OrBar, SortPart, PayloadPart, ArmPart, ArmsPart, StepPart, StatePart, StatesPart, ProtocolPart, ServedPart, ServicePart};
 ghost use Rattle.source_reader.specs.Reading.{names_of, tokens_from, ReadsTo, ReadsAfter, HaltsAfter, ReadsAfterColon, HaltsAfterColon};

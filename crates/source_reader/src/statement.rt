@@ -1,8 +1,8 @@
 //! Statements.
 
 ghost use Rattle.std.specs.Prelude.{◌≡◌, IfOk, IfErr};
-ghost use Rattle.token_grammar.specs.Symbols.{Nothing, Halts};
-ghost use Rattle.token_grammar.specs.Expressions.{Operator};
+ghost use Rattle.source_grammar.specs.Symbols.{Nothing, Halts};
+ghost use Rattle.source_grammar.specs.Expressions.{Operator};
 ghost use Rattle.source_grammar.specs.Statements.{NewRolesPart, RoleMore, StatementPart, StatementMore, StartTail, SendingTail, PathTail, ValueTail, LabelTail, GiveTail, SettingTail, HostTail};
 ghost use Rattle.chor_base.specs.Expr.{Term};
 ghost use Rattle.chor_tree.specs.Source.{Sends};

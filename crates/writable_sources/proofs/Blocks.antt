@@ -6,8 +6,8 @@ use Rattle.chor_base.specs.declared.rule.Rule.TheVariants.{P3}
 use Rattle.chor_lexer.specs.declared.token.Token.{Token}
 use Rattle.chor_lexer.specs.Grammar.{ExprIs}
 use Rattle.chor_lexer.specs.Spelling.{IsSource}
-use Rattle.token_grammar.specs.Symbols.{nowhere}
-use Rattle.token_grammar.specs.Expressions.{KeepsLength}
+use Rattle.source_grammar.specs.Symbols.{nowhere}
+use Rattle.source_grammar.specs.Expressions.{KeepsLength}
 use Rattle.chor_tree.specs.declared.file.Named.{Named}
 use Rattle.chor_tree.specs.declared.tree.Part.{Part}
 use Rattle.chor_tree.specs.Source.{Statement, Block}

@@ -9,8 +9,8 @@ use Rattle.chor_base.specs.declared.rule.Rule.TheVariants.{P3}
 use Rattle.chor_lexer.specs.declared.token.Token.{Token}
 use Rattle.chor_lexer.specs.Grammar.{ExprIs}
 use Rattle.chor_lexer.specs.Spelling.{expr_symbols}
-use Rattle.token_grammar.specs.Symbols.{nowhere, AllowsFirst, Room}
-use Rattle.token_grammar.specs.Expressions.{KeepsLength}
+use Rattle.source_grammar.specs.Symbols.{nowhere, AllowsFirst, Room}
+use Rattle.source_grammar.specs.Expressions.{KeepsLength}
 use Rattle.source_grammar.specs.Grammar.{MoreAre, no_more, one_more, ListIs, a_list}
 use Rattle.source_grammar.specs.Limits.{KeepsMore, KeepsList}
 use Rattle.canonical_laws.proofs.Derived.{Derived}

@@ -1,6 +1,6 @@
 use Rattle.std.proofs.Common.{refl}
 use Rattle.std.proofs.lemmas.Result.{err_from_is_err_and}
-use Rattle.token_grammar.proofs.Sequels.{past}
+use Rattle.source_grammar.proofs.Sequels.{past}
 use Rattle.chor_parser.proofs.Joined.{procedure_leads, procedure_goes}
 use Rattle.source_grammar.proofs.Tables.{last_is_there, all_there}
 use Rattle.chor_parser.proofs.source.add_procedure.Goals as goal

@@ -1,6 +1,6 @@
 use Rattle.std.proofs.Common.{refl}
 use Rattle.std.proofs.lemmas.Result.{err_from_is_err_and}
-use Rattle.token_grammar.proofs.Sequels.{past}
+use Rattle.source_grammar.proofs.Sequels.{past}
 use Rattle.chor_parser.proofs.Joined.{protocol_leads, protocol_goes}
 use Rattle.chor_parser.proofs.source.add_protocol.Goals as goal
 

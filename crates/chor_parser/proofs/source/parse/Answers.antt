@@ -1,5 +1,5 @@
 use Rattle.std.proofs.lemmas.Result.{err_from_is_err_and}
-use Rattle.token_grammar.proofs.Sequels.{now, later, then_reads}
+use Rattle.source_grammar.proofs.Sequels.{now, later, then_reads}
 use Rattle.source_grammar.proofs.Terminals.{holds_if, fails_if}
 use Rattle.source_grammar.proofs.Files.{items_part, items_end, main_part}
 use Rattle.chor_parser.proofs.Joined.{file_within}

@@ -1,6 +1,6 @@
 use Rattle.std.proofs.lemmas.Result.{err_from_is_err_and}
-use Rattle.token_grammar.proofs.Sequels.{past, reads_past, leads, now, then_part}
-use Rattle.token_grammar.proofs.Choices.{same_halts, same_reads}
+use Rattle.source_grammar.proofs.Sequels.{past, reads_past, leads, now, then_part}
+use Rattle.source_grammar.proofs.Choices.{same_halts, same_reads}
 use Rattle.source_grammar.proofs.Terminals.{after_name, after_mark, after_word, at_once, proc_keyword}
 use Rattle.source_grammar.proofs.Protocols.{mark_then}
 use Rattle.source_grammar.proofs.Heads.{params_part}

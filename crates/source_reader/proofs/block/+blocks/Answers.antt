@@ -1,8 +1,8 @@
-use Rattle.token_grammar.proofs.Sequels.{past, reads_past}
+use Rattle.source_grammar.proofs.Sequels.{past, reads_past}
 use Rattle.std.proofs.Common.{refl, arith}
-use Rattle.token_grammar.proofs.Values.{as_part, as_leads, after_part}
-use Rattle.token_grammar.proofs.Starts.{memory_halts, nothing_apart}
-use Rattle.token_grammar.proofs.Expressions.{expr_part}
+use Rattle.source_grammar.proofs.Values.{as_part, as_leads, after_part}
+use Rattle.source_grammar.proofs.Starts.{memory_halts, nothing_apart}
+use Rattle.source_grammar.proofs.Expressions.{expr_part}
 use Rattle.chor_lexer.specs.declared.mark.Mark.TheVariants.{Dot}
 use Rattle.source_grammar.proofs.Terminals.{mark_reads, else_keyword}
 use Rattle.source_reader.proofs.Coming.{stands_by_word}

@@ -1,7 +1,7 @@
-use Rattle.token_grammar.proofs.Sequels.{past, reads_past}
+use Rattle.source_grammar.proofs.Sequels.{past, reads_past}
 use Rattle.std.proofs.Common.{refl}
-use Rattle.token_grammar.proofs.Values.{as_part, as_leads, after_part}
-use Rattle.token_grammar.proofs.Starts.{memory_halts}
+use Rattle.source_grammar.proofs.Values.{as_part, as_leads, after_part}
+use Rattle.source_grammar.proofs.Starts.{memory_halts}
 use Rattle.chor_lexer.specs.declared.mark.Mark.TheVariants.{OpenParen, CloseParen}
 use Rattle.source_grammar.proofs.Terminals.{mark_part, mark_reads}
 use Rattle.source_grammar.proofs.PassedNames.{passed_part, close_apart}

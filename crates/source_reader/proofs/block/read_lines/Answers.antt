@@ -1,5 +1,5 @@
 use Rattle.std.proofs.Common.{arith}
-use Rattle.token_grammar.proofs.Sequels.{past}
+use Rattle.source_grammar.proofs.Sequels.{past}
 use Rattle.source_grammar.proofs.Shorter.{statement_shorter, mark_shorter}
 use Rattle.source_grammar.proofs.Statements.{passes}
 use Rattle.source_grammar.proofs.Nested.{too_many_lines, into_line, statement_halts, past_statement, semicolon_halts}

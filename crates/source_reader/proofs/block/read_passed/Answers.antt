@@ -1,4 +1,4 @@
-use Rattle.token_grammar.proofs.Sequels.{past, reads_past}
+use Rattle.source_grammar.proofs.Sequels.{past, reads_past}
 use Rattle.source_grammar.proofs.Terminals.{holds_if, fails_if}
 use Rattle.source_grammar.proofs.Statements.{passes}
 use Rattle.source_grammar.proofs.PassedNames.{to_passed, processes_halt, after_processes, nothing_is_passed}

@@ -1,5 +1,5 @@
 use Rattle.std.proofs.Common.{◌-◌, length}
-use Rattle.token_grammar.specs.Symbols.{Nothing}
+use Rattle.source_grammar.specs.Symbols.{Nothing}
 use Rattle.source_grammar.specs.Grammar.{PartIs}
 use Rattle.source_grammar.specs.Parts.{AnyListPart}
 use Rattle.source_reader.specs.Reading.{names_of, tokens_from}

@@ -1,5 +1,5 @@
 use Rattle.std.proofs.lemmas.Result.{err_from_is_err_and}
-use Rattle.token_grammar.proofs.Sequels.{past, reads_past, leads, now}
+use Rattle.source_grammar.proofs.Sequels.{past, reads_past, leads, now}
 use Rattle.source_grammar.proofs.Terminals.{mark_reads}
 use Rattle.source_grammar.proofs.Protocols.{a_mark, mark_after_list}
 use Rattle.source_grammar.proofs.Heads.{vars_part}

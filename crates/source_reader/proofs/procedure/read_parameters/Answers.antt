@@ -1,5 +1,5 @@
 use Rattle.std.proofs.lemmas.Result.{err_from_is_err_and}
-use Rattle.token_grammar.proofs.Sequels.{past, reads_past, leads, now}
+use Rattle.source_grammar.proofs.Sequels.{past, reads_past, leads, now}
 use Rattle.source_grammar.proofs.Terminals.{holds_if, fails_if}
 use Rattle.source_grammar.proofs.Heads.{proc_params_part, sessions_part, sessions_apart}
 use Rattle.source_reader.proofs.Readers.{params_lead, no_params_read}

@@ -1,6 +1,6 @@
 use Rattle.std.proofs.lemmas.Result.{err_from_is_err_and}
-use Rattle.token_grammar.proofs.Sequels.{past, reads_past, leads, now}
-use Rattle.token_grammar.proofs.Choices.{same_halts, same_reads}
+use Rattle.source_grammar.proofs.Sequels.{past, reads_past, leads, now}
+use Rattle.source_grammar.proofs.Choices.{same_halts, same_reads}
 use Rattle.source_grammar.proofs.Terminals.{after_name, after_mark, at_once, mark_reads}
 use Rattle.source_grammar.proofs.Protocols.{a_mark, name_then, mark_then, mark_after_list, not_comma_close_brace}
 use Rattle.source_grammar.proofs.Heads.{holders_part, holders_tail, session_param_alike}

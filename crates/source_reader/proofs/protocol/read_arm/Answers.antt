@@ -1,6 +1,6 @@
 use Rattle.std.proofs.lemmas.Result.{err_from_is_err_and}
-use Rattle.token_grammar.proofs.Sequels.{past, reads_past}
-use Rattle.token_grammar.proofs.Choices.{same_halts, same_reads}
+use Rattle.source_grammar.proofs.Sequels.{past, reads_past}
+use Rattle.source_grammar.proofs.Choices.{same_halts, same_reads}
 use Rattle.source_grammar.proofs.Terminals.{after_name, after_word, at_once, name_part, name_reads, then_keyword}
 use Rattle.source_grammar.proofs.Protocols.{then_name, arm_alike}
 use Rattle.source_reader.proofs.protocol.read_arm.Goals as goal

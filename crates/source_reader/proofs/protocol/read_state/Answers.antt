@@ -1,7 +1,7 @@
 use Rattle.std.proofs.lemmas.Result.{err_from_is_err_and}
-use Rattle.token_grammar.proofs.Sequels.{past, reads_past, leads}
-use Rattle.token_grammar.proofs.Choices.{same_halts, same_reads}
-use Rattle.token_grammar.proofs.Starts.{nothing_apart}
+use Rattle.source_grammar.proofs.Sequels.{past, reads_past, leads}
+use Rattle.source_grammar.proofs.Choices.{same_halts, same_reads}
+use Rattle.source_grammar.proofs.Starts.{nothing_apart}
 use Rattle.source_grammar.proofs.Terminals.{after_name, after_mark, at_once, mark_reads}
 use Rattle.source_grammar.proofs.Protocols.{and_then, a_mark, mark_then, step_part, state_alike}
 use Rattle.source_reader.proofs.protocol.read_state.Goals as goal

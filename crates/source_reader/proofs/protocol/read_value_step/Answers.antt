@@ -1,6 +1,6 @@
 use Rattle.std.proofs.lemmas.Result.{err_from_is_err_and}
-use Rattle.token_grammar.proofs.Sequels.{past, reads_past, leads}
-use Rattle.token_grammar.proofs.Starts.{nothing_apart}
+use Rattle.source_grammar.proofs.Sequels.{past, reads_past, leads}
+use Rattle.source_grammar.proofs.Starts.{nothing_apart}
 use Rattle.source_grammar.proofs.Terminals.{after_word, at_once, name_part, name_reads, then_keyword}
 use Rattle.source_grammar.proofs.Protocols.{payload_part, then_name}
 use Rattle.source_reader.proofs.Readers.{value_leads}

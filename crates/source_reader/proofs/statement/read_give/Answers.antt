@@ -1,5 +1,5 @@
-use Rattle.token_grammar.proofs.Sequels.{past, reads_past}
-use Rattle.token_grammar.proofs.Values.{as_part, as_leads}
+use Rattle.source_grammar.proofs.Sequels.{past, reads_past}
+use Rattle.source_grammar.proofs.Values.{as_part, as_leads}
 use Rattle.chor_lexer.specs.declared.mark.Mark.TheVariants.{CloseParen}
 use Rattle.source_grammar.proofs.Terminals.{mark_part, mark_reads}
 use Rattle.source_grammar.proofs.Statements.{passes, role_then, past_mark, past_role, at_one}

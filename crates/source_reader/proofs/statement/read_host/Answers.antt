@@ -1,7 +1,7 @@
 use Rattle.std.proofs.Common.{refl}
-use Rattle.token_grammar.proofs.Sequels.{past, reads_past}
-use Rattle.token_grammar.proofs.Values.{as_part, as_leads, after_part}
-use Rattle.token_grammar.proofs.Expressions.{expr_part}
+use Rattle.source_grammar.proofs.Sequels.{past, reads_past}
+use Rattle.source_grammar.proofs.Values.{as_part, as_leads, after_part}
+use Rattle.source_grammar.proofs.Expressions.{expr_part}
 use Rattle.chor_lexer.specs.declared.mark.Mark.TheVariants.{OpenParen, Comma, CloseParen}
 use Rattle.source_grammar.proofs.Terminals.{mark_part, mark_reads}
 use Rattle.source_grammar.proofs.Statements.{passes, mark_then, past_name, past_mark, past_expr, expr_halts, at_one, mark_apart, last_mark_apart}

@@ -1,5 +1,5 @@
-use Rattle.token_grammar.proofs.Sequels.{past, reads_past}
-use Rattle.token_grammar.proofs.Values.{as_leads}
+use Rattle.source_grammar.proofs.Sequels.{past, reads_past}
+use Rattle.source_grammar.proofs.Values.{as_leads}
 use Rattle.source_grammar.proofs.Terminals.{name_reads}
 use Rattle.source_grammar.proofs.Statements.{passes}
 use Rattle.source_reader.proofs.statement.read_label.Goals as goal

@@ -1,4 +1,4 @@
-use Rattle.token_grammar.proofs.Sequels.{past, leads_on}
+use Rattle.source_grammar.proofs.Sequels.{past, leads_on}
 use Rattle.chor_lexer.specs.declared.mark.Mark.TheVariants.{CloseBracket}
 use Rattle.source_grammar.proofs.Statements.{passes, mark_then, past_name, past_mark, at_one, role_tail, path_tail, to_value, to_path}
 use Rattle.source_reader.specs.Reading.{statement_of}

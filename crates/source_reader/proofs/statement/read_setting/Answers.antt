@@ -1,5 +1,5 @@
-use Rattle.token_grammar.proofs.Sequels.{past, reads_past, leads_on}
-use Rattle.token_grammar.proofs.Values.{as_leads}
+use Rattle.source_grammar.proofs.Sequels.{past, reads_past, leads_on}
+use Rattle.source_grammar.proofs.Values.{as_leads}
 use Rattle.chor_lexer.specs.declared.mark.Mark.TheVariants.{Becomes}
 use Rattle.source_grammar.proofs.Statements.{passes, mark_then, past_name, past_mark, at_one, set_tail, to_host, to_set}
 use Rattle.source_reader.specs.Reading.{statement_of}

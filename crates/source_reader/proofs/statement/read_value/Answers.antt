@@ -1,6 +1,6 @@
 use Rattle.std.proofs.Common.{refl}
-use Rattle.token_grammar.proofs.Sequels.{past, reads_past}
-use Rattle.token_grammar.proofs.Values.{as_part}
+use Rattle.source_grammar.proofs.Sequels.{past, reads_past}
+use Rattle.source_grammar.proofs.Values.{as_part}
 use Rattle.chor_lexer.specs.declared.mark.Mark.TheVariants.{Arrow, Dot, Colon}
 use Rattle.source_grammar.proofs.Terminals.{name_part}
 use Rattle.source_grammar.proofs.Statements.{passes, name_then, mark_then, role_then, past_expr, expr_halts, mark_apart}

@@ -2,7 +2,7 @@ use Rattle.std.specs.Prelude.{◌↔◌, IsTrue, IfSome, IfNone, is_some}
 use Rattle.std.proofs.Common.{ℕ, List, Option, Some, None, drop, refl}
 use Rattle.chor_lexer.specs.declared.token.Token.{Token}
 use Rattle.chor_tree.specs.declared.file.Named.{Named}
-use Rattle.token_grammar.specs.Symbols.{Head}
+use Rattle.source_grammar.specs.Symbols.{Head}
 use Rattle.source_grammar.specs.Grammar.{NameIs}
 use Rattle.source_grammar.specs.Parts.{AName}
 use Rattle.source_grammar.proofs.Terminals.{name_head, no_name_head}

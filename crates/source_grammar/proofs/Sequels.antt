@@ -6,8 +6,8 @@ use Rattle.chor_base.specs.declared.rule.Rule.{Rule}
 use Rattle.chor_base.specs.declared.rule.Denied.{Denied}
 use Rattle.chor_lexer.specs.declared.token.Token.{Token}
 use Rattle.chor_lexer.proofs.Each.{each_append}
-use Rattle.token_grammar.specs.Symbols.{Allowed, anywhere, nowhere, only_at, but_at, also_at, Part, Further, Ends, more_words, Fits, Completes, IsPart, SameFirst, Only, Reads, Reason, wrong, excess, Stops, Halts, ThenBy, Then, Apart, Leads}
-use Rattle.token_grammar.proofs.Wholes.{whole_after, same_first_of, same_first_after, same_first}
+use Rattle.source_grammar.specs.Symbols.{Allowed, anywhere, nowhere, only_at, but_at, also_at, Part, Further, Ends, more_words, Fits, Completes, IsPart, SameFirst, Only, Reads, Reason, wrong, excess, Stops, Halts, ThenBy, Then, Apart, Leads}
+use Rattle.source_grammar.proofs.Wholes.{whole_after, same_first_of, same_first_after, same_first}
 
 -- ---- completions
 

@@ -7,10 +7,10 @@ use Rattle.chor_base.specs.declared.rule.Rule.TheVariants.{P1}
 use Rattle.chor_base.specs.declared.rule.Denied.{Denied}
 use Rattle.chor_base.specs.declared.rule.Denied.TheVariants.{Memory}
 use Rattle.chor_lexer.specs.declared.token.Token.{Token}
-use Rattle.token_grammar.specs.Symbols.{Allowed, only_at, also_at, Part, Further, Nothing, Ends, more_words, AreWhole, Fits, Completes, IsPart, Reads, Reason, wrong, excess, Stops, Halts, ThenBy, Apart, AtMost, without, with, IsStable, Among, AreDistinct, Head, Begins, AllowsFirst, Within, Opens, Alike, RefusesFirst, HasRoom, IsFull, Leads}
-use Rattle.token_grammar.proofs.Wholes.{first_of_cons, same_first, same_first_of, head_back, head_known, head_among, ends_among}
-use Rattle.token_grammar.proofs.Sequels.{complete_first}
-use Rattle.token_grammar.proofs.Choices.{wrong_start, completes_alike}
+use Rattle.source_grammar.specs.Symbols.{Allowed, only_at, also_at, Part, Further, Nothing, Ends, more_words, AreWhole, Fits, Completes, IsPart, Reads, Reason, wrong, excess, Stops, Halts, ThenBy, Apart, AtMost, without, with, IsStable, Among, AreDistinct, Head, Begins, AllowsFirst, Within, Opens, Alike, RefusesFirst, HasRoom, IsFull, Leads}
+use Rattle.source_grammar.proofs.Wholes.{first_of_cons, same_first, same_first_of, head_back, head_known, head_among, ends_among}
+use Rattle.source_grammar.proofs.Sequels.{complete_first}
+use Rattle.source_grammar.proofs.Choices.{wrong_start, completes_alike}
 
 -- ---- beginnings
 

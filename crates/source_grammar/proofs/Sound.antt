@@ -4,11 +4,11 @@ use Rattle.chor_base.specs.declared.rule.Place.{Place}
 use Rattle.chor_base.specs.declared.rule.Rule.{Rule}
 use Rattle.chor_lexer.specs.declared.token.Token.{Token}
 use Rattle.chor_lexer.specs.Tokens.{IsKnown, is_ended}
-use Rattle.token_grammar.specs.Symbols.{Allowed, Part, Further, Ends, Fits, Completes, only_at, IsPart, Apart, Begins, AreDistinct, Room, Within, Alike}
-use Rattle.token_grammar.specs.Values.{After, Either, by_first, by_second, StandsAt, At}
-use Rattle.token_grammar.proofs.Choices.{both_heads}
-use Rattle.token_grammar.proofs.Starts.{allows_front, allows_wider}
-use Rattle.token_grammar.proofs.Values.{fits_at, same_place, begun}
+use Rattle.source_grammar.specs.Symbols.{Allowed, Part, Further, Ends, Fits, Completes, only_at, IsPart, Apart, Begins, AreDistinct, Room, Within, Alike}
+use Rattle.source_grammar.specs.Values.{After, Either, by_first, by_second, StandsAt, At}
+use Rattle.source_grammar.proofs.Choices.{both_heads}
+use Rattle.source_grammar.proofs.Starts.{allows_front, allows_wider}
+use Rattle.source_grammar.proofs.Values.{fits_at, same_place, begun}
 
 pub record Sound {A : Type 0} (R : Part A) (C : Further) (Q : Allowed) (names : List (List ℕ)) (ts : List Token) (x : A) (rest : List Token) : Type 1 where
   pub is : R Q names ts x rest

@@ -5,11 +5,11 @@ use Rattle.chor_base.specs.declared.rule.Rule.{Rule}
 use Rattle.chor_base.specs.declared.rule.Denied.{Denied}
 use Rattle.chor_lexer.specs.declared.token.Token.{Token}
 use Rattle.chor_lexer.specs.Tokens.{is_ended}
-use Rattle.token_grammar.specs.Symbols.{Allowed, Part, Further, Ends, Fits, IsPart, Reads, Halts, Then, Apart, AtMost, without, with, Among, AreDistinct, Head, As, Alike, Repeats, done, again, Times, AreRepeated, Leads}
-use Rattle.token_grammar.proofs.Wholes.{first_of_cons, head_among, ends_no_head, ends_among}
-use Rattle.token_grammar.proofs.Sequels.{leads, leads_on, now}
-use Rattle.token_grammar.proofs.Choices.{same_leads, same_reads, option_leads, without_reads}
-use Rattle.token_grammar.proofs.Starts.{then_begins}
+use Rattle.source_grammar.specs.Symbols.{Allowed, Part, Further, Ends, Fits, IsPart, Reads, Halts, Then, Apart, AtMost, without, with, Among, AreDistinct, Head, As, Alike, Repeats, done, again, Times, AreRepeated, Leads}
+use Rattle.source_grammar.proofs.Wholes.{first_of_cons, head_among, ends_no_head, ends_among}
+use Rattle.source_grammar.proofs.Sequels.{leads, leads_on, now}
+use Rattle.source_grammar.proofs.Choices.{same_leads, same_reads, option_leads, without_reads}
+use Rattle.source_grammar.proofs.Starts.{then_begins}
 
 fits_times : {A : Type 0} {R : ℕ → Part A} {C D F : Further} {Q : Allowed} {names : List (List ℕ)} {n : ℕ} {ts : List Token} {xs : List A} {rest : List Token} → AreRepeated R C D F → Repeats R Q names n ts xs rest → Fits (Times R n) Q names ts xs rest
 fits_times r done = record { front = []; parts = refl; again = λ words more. done }

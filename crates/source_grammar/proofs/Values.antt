@@ -5,12 +5,12 @@ use Rattle.chor_base.specs.declared.rule.Place.{Place}
 use Rattle.chor_base.specs.declared.rule.Rule.{Rule}
 use Rattle.chor_base.specs.declared.rule.Denied.{Denied}
 use Rattle.chor_lexer.specs.declared.token.Token.{Token}
-use Rattle.token_grammar.specs.Symbols.{Allowed, anywhere, only_at, but_at, Part, Further, Fits, Completes, IsPart, SameFirst, Reads, Reason, wrong, excess, Halts, ThenBy, Apart, Choice, left, right, OneOf, the_first, the_second, IsStable, AreDistinct, Head, Begins, Opens, As, Alike, Leads}
-use Rattle.token_grammar.specs.Values.{After, Either, by_first, by_second, StandsAt, At}
-use Rattle.token_grammar.proofs.Wholes.{first_of_cons, same_first, same_first_of, same_first_after}
-use Rattle.token_grammar.proofs.Sequels.{by_part, by_now, by_leads, leads_on}
-use Rattle.token_grammar.proofs.Choices.{same_part, same_halts, same_leads, choice_part, first_leads, second_leads}
-use Rattle.token_grammar.proofs.Starts.{same_opens, then_opens}
+use Rattle.source_grammar.specs.Symbols.{Allowed, anywhere, only_at, but_at, Part, Further, Fits, Completes, IsPart, SameFirst, Reads, Reason, wrong, excess, Halts, ThenBy, Apart, Choice, left, right, OneOf, the_first, the_second, IsStable, AreDistinct, Head, Begins, Opens, As, Alike, Leads}
+use Rattle.source_grammar.specs.Values.{After, Either, by_first, by_second, StandsAt, At}
+use Rattle.source_grammar.proofs.Wholes.{first_of_cons, same_first, same_first_of, same_first_after}
+use Rattle.source_grammar.proofs.Sequels.{by_part, by_now, by_leads, leads_on}
+use Rattle.source_grammar.proofs.Choices.{same_part, same_halts, same_leads, choice_part, first_leads, second_leads}
+use Rattle.source_grammar.proofs.Starts.{same_opens, then_opens}
 
 -- ---- f of what a part says
 

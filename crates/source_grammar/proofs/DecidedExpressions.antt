@@ -12,10 +12,10 @@ use Rattle.chor_lexer.specs.Reading.{IsRead, too_long, no_expr}
 use Rattle.chor_lexer.proofs.Derivations.{whole_runs}
 use Rattle.chor_lexer.proofs.Viable.{ended, all_is}
 use Rattle.chor_lexer.proofs.Longest.{never_front, longest_of}
-use Rattle.token_grammar.specs.Symbols.{AreWhole}
-use Rattle.token_grammar.specs.Expressions.{Operator, ExprPart}
-use Rattle.token_grammar.proofs.Expressions.{expr_part, expr_reads, refusal_halts}
-use Rattle.token_grammar.proofs.Decided.{Outcome, reads, halts, IsDecided}
+use Rattle.source_grammar.specs.Symbols.{AreWhole}
+use Rattle.source_grammar.specs.Expressions.{Operator, ExprPart}
+use Rattle.source_grammar.proofs.Expressions.{expr_part, expr_reads, refusal_halts}
+use Rattle.source_grammar.proofs.DecidedTokens.{Outcome, reads, halts, IsDecided}
 
 abbrev Told : List (List ℕ) → List Token → Type 0
 Told names w = ((x : Term) × IsExpr names w x) ⊎ ((x : Term) → IsExpr names w x → ⊥)

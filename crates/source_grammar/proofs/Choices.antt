@@ -6,8 +6,8 @@ use Rattle.chor_base.specs.declared.rule.Rule.TheVariants.{P1}
 use Rattle.chor_base.specs.declared.rule.Denied.{Denied}
 use Rattle.chor_lexer.specs.declared.token.Token.{Token}
 use Rattle.chor_lexer.specs.Tokens.{is_ended}
-use Rattle.token_grammar.specs.Symbols.{Allowed, anywhere, but_at, Part, Further, Ends, AreWhole, Fits, Completes, IsPart, SameFirst, Only, Reads, Reason, wrong, excess, Stops, Halts, Choice, left, right, OneOf, the_first, the_second, AtMost, without, with, IsStable, Among, AreDistinct, Head, Begins, Alike, Leads}
-use Rattle.token_grammar.proofs.Wholes.{whole_first, first_of_cons, same_first, same_first_of, same_first_after, same_first_back, head_there, head_back, head_stays, head_known, head_among, ends_no_head, ends_among}
+use Rattle.source_grammar.specs.Symbols.{Allowed, anywhere, but_at, Part, Further, Ends, AreWhole, Fits, Completes, IsPart, SameFirst, Only, Reads, Reason, wrong, excess, Stops, Halts, Choice, left, right, OneOf, the_first, the_second, AtMost, without, with, IsStable, Among, AreDistinct, Head, Begins, Alike, Leads}
+use Rattle.source_grammar.proofs.Wholes.{whole_first, first_of_cons, same_first, same_first_of, same_first_after, same_first_back, head_there, head_back, head_stays, head_known, head_among, ends_no_head, ends_among}
 
 -- ---- two ways to say one part
 

@@ -5,9 +5,9 @@ use Rattle.chor_base.specs.declared.rule.Rule.TheVariants.{P1}
 use Rattle.chor_base.specs.declared.rule.Denied.{Denied}
 use Rattle.chor_lexer.specs.declared.token.Token.{Token}
 use Rattle.chor_lexer.specs.Tokens.{is_last, is_ended}
-use Rattle.token_grammar.specs.Symbols.{Allowed, nowhere, only_at, Further, Nothing, more_words, Fits, Completes, IsPart, Reads, Halts, IsStable, Begins, Opens, One, IsClass, Says, RefusesFirst}
-use Rattle.token_grammar.proofs.Wholes.{reads_by_end}
-use Rattle.token_grammar.proofs.Starts.{wrong_halts}
+use Rattle.source_grammar.specs.Symbols.{Allowed, nowhere, only_at, Further, Nothing, more_words, Fits, Completes, IsPart, Reads, Halts, IsStable, Begins, Opens, One, IsClass, Says, RefusesFirst}
+use Rattle.source_grammar.proofs.Wholes.{reads_by_end}
+use Rattle.source_grammar.proofs.Starts.{wrong_halts}
 
 pub says_stable : {A : Type 0} {P : A → Further} → IsClass P → IsStable (Says P)
 says_stable c = record {

@@ -6,15 +6,15 @@ use Rattle.chor_base.specs.declared.rule.Rule.TheVariants.{P1}
 use Rattle.chor_base.specs.declared.rule.Refusal.{Refusal}
 use Rattle.chor_base.specs.declared.rule.Denied.TheVariants.{Refused}
 use Rattle.chor_lexer.specs.declared.token.Token.{Token}
-use Rattle.token_grammar.specs.Symbols.{Allowed, nowhere, Part, Further, Nothing, AreWhole, IsPart, Reads, Halts, ThenBy, Then, Apart, OneOf, AtMost, IsStable, Among, AreDistinct, Head, Begins, Within, Opens, As, Alike, One, IsClass, Says, Times, AreRepeated, Leads, RefusesFirst}
-use Rattle.token_grammar.specs.Values.{After, Either, At}
-use Rattle.token_grammar.proofs.Wholes.{whole_after, whole_first, first_of_cons}
-use Rattle.token_grammar.proofs.Sequels.{then_part, by_part, by_leads, by_now}
-use Rattle.token_grammar.proofs.Choices.{same_part, same_leads, more_further, halts_further, reads_further, choice_part, first_leads, second_leads, option_part, option_leads, without_reads}
-use Rattle.token_grammar.proofs.Starts.{within_part, within_leads, full_halts}
-use Rattle.token_grammar.proofs.Singles.{one_part, one_reads, one_halts}
-use Rattle.token_grammar.proofs.Values.{as_part, as_leads, after_part, after_leads, after_now, either_part, either_first, either_second, at_part, at_leads}
-use Rattle.token_grammar.proofs.Repetitions.{times_part, times_done, times_step, times_now}
+use Rattle.source_grammar.specs.Symbols.{Allowed, nowhere, Part, Further, Nothing, AreWhole, IsPart, Reads, Halts, ThenBy, Then, Apart, OneOf, AtMost, IsStable, Among, AreDistinct, Head, Begins, Within, Opens, As, Alike, One, IsClass, Says, Times, AreRepeated, Leads, RefusesFirst}
+use Rattle.source_grammar.specs.Values.{After, Either, At}
+use Rattle.source_grammar.proofs.Wholes.{whole_after, whole_first, first_of_cons}
+use Rattle.source_grammar.proofs.Sequels.{then_part, by_part, by_leads, by_now}
+use Rattle.source_grammar.proofs.Choices.{same_part, same_leads, more_further, halts_further, reads_further, choice_part, first_leads, second_leads, option_part, option_leads, without_reads}
+use Rattle.source_grammar.proofs.Starts.{within_part, within_leads, full_halts}
+use Rattle.source_grammar.proofs.Singles.{one_part, one_reads, one_halts}
+use Rattle.source_grammar.proofs.Values.{as_part, as_leads, after_part, after_leads, after_now, either_part, either_first, either_second, at_part, at_leads}
+use Rattle.source_grammar.proofs.Repetitions.{times_part, times_done, times_step, times_now}
 
 -- what comes of tokens
 pub data Outcome {A : Type 0} (R : Part A) (C : Further) (names : List (List ℕ)) (ts : List Token) : Type 0 where

@@ -7,7 +7,7 @@ use Rattle.chor_lexer.specs.declared.token.Token.{Token}
 use Rattle.chor_lexer.specs.Keywords.{HasMark, HasWord}
 use Rattle.chor_lexer.specs.Canonical.{binary_mark}
 use Rattle.chor_lexer.specs.Grammar.{ExprIs}
-use Rattle.token_grammar.specs.Symbols.{Allowed, Further}
+use Rattle.source_grammar.specs.Symbols.{Allowed, Further}
 
 -- an operator of two operands
 abbrev pub Operator : Further

@@ -2,7 +2,7 @@
 use Rattle.std.specs.Prelude.{◌≡◌, ℕ, List, ◌∷◌}
 use Rattle.chor_base.specs.declared.rule.Place.{Place}
 use Rattle.chor_lexer.specs.declared.token.Token.{Token}
-use Rattle.token_grammar.specs.Symbols.{Allowed, Part}
+use Rattle.source_grammar.specs.Symbols.{Allowed, Part}
 
 -- one part and then another, which is told what the first says
 pub record After {A B : Type 0} (R : Part A) (S : A → Part B) (Q : Allowed) (names : List (List ℕ)) (ts : List Token) (y : B) (rest : List Token) : Type 0 where

@@ -24,9 +24,9 @@ use Rattle.chor_lexer.specs.Tokens.{IsKnown, is_ended, is_last}
 use Rattle.chor_lexer.specs.Grammar.{OrIs, UnIs, ExprIs, IsExpr, IsExprFront, IsLongestFront, a_disjunction, or_done, a_conjunction, and_done, a_comparison, cmp_done, a_sum, sum_done, a_product, prod_done, a_unary, a_number, a_text, a_truth, a_name, in_parens}
 use Rattle.chor_lexer.proofs.Derivations.{expr_cut, one_expression}
 use Rattle.chor_lexer.proofs.Longest.{whole_front, longest_before, never_front, derived_is_longest}
-use Rattle.token_grammar.specs.Symbols.{Only, Reads, Allowed, nowhere, anywhere, only_at, but_at, also_at, Ends, more_words, AreWhole, Fits, Completes, IsPart, wrong, excess, Stops, Halts, Head, Begins}
-use Rattle.token_grammar.specs.Expressions.{Operator, ExprPart, IsNoWord}
-use Rattle.token_grammar.proofs.Derived.{get_left, get_back, word_more, name_more, expr_more_words, Alone, number, text, truth, name, Like, expr_like}
+use Rattle.source_grammar.specs.Symbols.{Only, Reads, Allowed, nowhere, anywhere, only_at, but_at, also_at, Ends, more_words, AreWhole, Fits, Completes, IsPart, wrong, excess, Stops, Halts, Head, Begins}
+use Rattle.source_grammar.specs.Expressions.{Operator, ExprPart, IsNoWord}
+use Rattle.source_grammar.proofs.Derived.{get_left, get_back, word_more, name_more, expr_more_words, Alone, number, text, truth, name, Like, expr_like}
 
 -- ---- lists of tokens
 

@@ -4,7 +4,7 @@ use Rattle.std.specs.List.{AllByRecursion}
 use Rattle.chor_lexer.specs.declared.token.Token.{Token}
 use Rattle.chor_lexer.specs.Tokens.{IsKnown, is_ended}
 use Rattle.chor_lexer.proofs.Each.{each_back}
-use Rattle.token_grammar.specs.Symbols.{Allowed, Part, Further, Ends, AreWhole, IsPart, SameFirst, Only, Reads, IsStable, Among, Head}
+use Rattle.source_grammar.specs.Symbols.{Allowed, Part, Further, Ends, AreWhole, IsPart, SameFirst, Only, Reads, IsStable, Among, Head}
 
 -- ---- whole tokens
 
