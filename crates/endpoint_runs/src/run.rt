@@ -32,7 +32,8 @@ pub struct Ran {
 
 /// The run of endpoint programs by the pick rule with this seed, from their first state until every
 /// process has ended, there are as many events as asked for, or no process can step. The programs may
-/// ask these host functions.
+/// ask these host functions. Where numbers of processes could reach 2^32, which is in no programs within
+/// the limits of a file, it answers want of memory.
 #[tactic(auto, using(crate::proofs::Runs::run_is))]
 pub fn run_endpoints(
     alloc: Global,
