@@ -13,8 +13,11 @@ use Rattle.chor_tree.specs.declared.walks.Following.{Following}
 use Rattle.chor_tree.specs.declared.walks.Following.TheVariants.{Nothing, One, Either as Two}
 use Rattle.chor_tree.specs.Children.{children_of, IsClosed}
 use Rattle.chor_tree.specs.Following.{followers}
-use Rattle.chor_tree.specs.Source.{Block, Then, Either, Calls, Ends, nowhere, block_in, block_of, node_block, blocks_of, tails_of}
-use Rattle.chor_tree.specs.Same.{Same, all_same, same_named, same_term, same_statement, same_block}
+use Rattle.chor_tree.specs.Source.{procedure_of, Block, Then, Either, Calls, Ends, nowhere, block_in, block_of, node_block, blocks_of, tails_of}
+use Rattle.chor_tree.specs.declared.file.Proc.{Proc}
+use Rattle.chor_tree.specs.declared.file.File.{File}
+use Rattle.chor_tree.specs.Both.{words_of, texts_of, procedure_same}
+use Rattle.chor_tree.specs.Same.{Same, all_same, same_procedure, same_named, same_term, same_statement, same_block}
 use Rattle.chor_tree.specs.Forms.{head_of}
 
 -- all of these children come before i
@@ -188,3 +191,17 @@ module _ (n : Same NameId) (t : Same ℕ) where
       only : (a : Bool) → (true && (true && (a && true))) ≡ a
       only true = refl
       only false = refl
+
+-- ---- procedures are the same where they are as parts of the sources
+
+pub procedures_same : (a b : File) (ps qs : List Proc)
+    → all_same (procedure_same a b) ps qs ≡ all_same (same_procedure (words_of a b) (texts_of a b)) (map (procedure_of a.tree.nodes) ps) (map (procedure_of b.tree.nodes) qs)
+procedures_same a b [] [] = refl
+procedures_same a b [] (q ∷ qs) = refl
+procedures_same a b (p ∷ ps) [] = refl
+procedures_same a b (p ∷ ps) (q ∷ qs) = λ i. procedure_same a b p q && procedures_same a b ps qs i
+
+-- ---- lists are the same where their first items are, and those that follow
+
+pub rest_same : {A : Type 0} (p : Same A) (x y : A) (xs ys zs ws : List A) → zs ≡ x ∷ xs → ws ≡ y ∷ ys → p x y ≡ true → all_same p xs ys ≡ all_same p zs ws
+rest_same p x y xs ys zs ws e h same = sym ((λ i. all_same p (e i) (h i)) ∙ (λ i. same i && all_same p xs ys))

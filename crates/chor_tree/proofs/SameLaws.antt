@@ -119,7 +119,9 @@ all_joined each (x ∷ xs) (y ∷ ys) (z ∷ zs) h k =
     let a = two h in
     let b = two k in
     all_two (each x y z a.0 b.0) (all_joined each xs ys zs a.1 b.1)
-all_joined each _ _ _ h k = absurd cc
+all_joined each [] [] _ h k = absurd (false≢true k)
+all_joined each (x ∷ xs) (y ∷ ys) _ h k = absurd (false≢true k)
+all_joined each _ _ _ h k = absurd (false≢true h)
 
 -- a test that tells equality, and holds of each thing and itself, is an equivalence
 module _ {A : Type 0} {p : Same A} (own : Reflexive p) (tells : (x y : A) → p x y ≡ true → x ≡ y) where
@@ -409,7 +411,9 @@ module _ {n m l : Same NameId} {t u w : Same ℕ} (name_joined : Joined n m l) (
       let a = three h in
       let b = three j in
       all_three (named_joined p p' p'' a.0 b.0) (named_joined s s' s'' a.1 b.1) (named_joined r r' r'' a.2 b.2)
-  payload_joined _ _ _ h j = absurd cc
+  payload_joined (payload.Plain s) (payload.Plain s') _ h j = absurd (false≢true j)
+  payload_joined (payload.Endpoint p s r) (payload.Endpoint p' s' r') _ h j = absurd (false≢true j)
+  payload_joined _ _ _ h j = absurd (false≢true h)
 
   arm_joined : Joined (same_arm n) (same_arm m) (same_arm l)
   arm_joined x y z h j =
@@ -427,7 +431,10 @@ module _ {n m l : Same NameId} {t u w : Same ℕ} (name_joined : Joined n m l) (
       let a = three h in
       let b = three j in
       all_three (named_joined p p' p'' a.0 b.0) (named_joined q q' q'' a.1 b.1) (all_joined arm_joined ms ms' ms'' a.2 b.2)
-  step_joined _ _ _ h j = absurd cc
+  step_joined step.End step.End _ h j = absurd (false≢true j)
+  step_joined (step.Value p q v s) (step.Value p' q' v' s') _ h j = absurd (false≢true j)
+  step_joined (step.Choice p q ms) (step.Choice p' q' ms') _ h j = absurd (false≢true j)
+  step_joined _ _ _ h j = absurd (false≢true h)
 
   state_joined : Joined (same_state n) (same_state m) (same_state l)
   state_joined x y z h j =
@@ -487,7 +494,11 @@ module _ {n m l : Same NameId} {t u w : Same ℕ} (name_joined : Joined n m l) (
       let a = two h in
       let b = two j in
       all_two (equal_joined number_own eqb-true s s' s'' a.0 b.0) (name_joined r r' r'' a.1 b.1)
-  value_joined _ _ _ h j = absurd cc
+  value_joined (Int z) (Int z') _ h j = absurd (false≢true j)
+  value_joined (Truth b) (Truth b') _ h j = absurd (false≢true j)
+  value_joined (Text x) (Text x') _ h j = absurd (false≢true j)
+  value_joined (Endpoint s r) (Endpoint s' r') _ h j = absurd (false≢true j)
+  value_joined _ _ _ h j = absurd (false≢true h)
 
   term_joined : Joined (same_term n t) (same_term m u) (same_term l w)
   term_joined (Constant v) (Constant v') (Constant v'') h j = value_joined v v' v'' h j
@@ -500,7 +511,11 @@ module _ {n m l : Same NameId} {t u w : Same ℕ} (name_joined : Joined n m l) (
       let a = three h in
       let b = three j in
       all_three (equal_joined binary_own binary_tells o o' o'' a.0 b.0) (term_joined e e' e'' a.1 b.1) (term_joined d d' d'' a.2 b.2)
-  term_joined _ _ _ h j = absurd cc
+  term_joined (Constant v) (Constant v') _ h j = absurd (false≢true j)
+  term_joined (Variable x) (Variable x') _ h j = absurd (false≢true j)
+  term_joined (Unary o e) (Unary o' e') _ h j = absurd (false≢true j)
+  term_joined (Binary o e d) (Binary o' e' d') _ h j = absurd (false≢true j)
+  term_joined _ _ _ h j = absurd (false≢true h)
 
   statement_joined : Joined (same_statement n t) (same_statement m u) (same_statement l w)
   statement_joined (Starts c k ps qs) (Starts c' k' ps' qs') (Starts c'' k'' ps'' qs'') h j =
@@ -531,7 +546,14 @@ module _ {n m l : Same NameId} {t u w : Same ℕ} (name_joined : Joined n m l) (
       let a = two h in
       let b = two j in
       all_two (named_joined p p' p'' a.0 b.0) (term_joined e e' e'' a.1 b.1)
-  statement_joined _ _ _ h j = absurd cc
+  statement_joined (Starts c k ps qs) (Starts c' k' ps' qs') _ h j = absurd (false≢true j)
+  statement_joined (Sends p e q x k) (Sends p' e' q' x' k') _ h j = absurd (false≢true j)
+  statement_joined (Selects p q k x) (Selects p' q' k' x') _ h j = absurd (false≢true j)
+  statement_joined (Gives p q k r) (Gives p' q' k' r') _ h j = absurd (false≢true j)
+  statement_joined (Sets p x e) (Sets p' x' e') _ h j = absurd (false≢true j)
+  statement_joined (Asks p x g d e) (Asks p' x' g' d' e') _ h j = absurd (false≢true j)
+  statement_joined (Shows p e) (Shows p' e') _ h j = absurd (false≢true j)
+  statement_joined _ _ _ h j = absurd (false≢true h)
 
   block_joined : Joined (same_block n t) (same_block m u) (same_block l w)
   block_joined (Then p s c) (Then p' s' c') (Then p'' s'' c'') h j =
@@ -547,7 +569,11 @@ module _ {n m l : Same NameId} {t u w : Same ℕ} (name_joined : Joined n m l) (
       let b = three j in
       all_three (named_joined g g' g'' a.0 b.0) (all_joined named_joined ps ps' ps'' a.1 b.1) (all_joined named_joined ks ks' ks'' a.2 b.2)
   block_joined (Ends p) (Ends p') (Ends p'') h j = refl
-  block_joined _ _ _ h j = absurd cc
+  block_joined (Then p s c) (Then p' s' c') _ h j = absurd (false≢true j)
+  block_joined (Either p x e c d) (Either p' x' e' c' d') _ h j = absurd (false≢true j)
+  block_joined (Calls p g ps ks) (Calls p' g' ps' ks') _ h j = absurd (false≢true j)
+  block_joined (Ends p) (Ends p') _ h j = absurd (false≢true j)
+  block_joined _ _ _ h j = absurd (false≢true h)
 
   procedure_joined : Joined (same_procedure n t) (same_procedure m u) (same_procedure l w)
   procedure_joined x y z h j =

@@ -2,9 +2,9 @@
 use Rattle.std.specs.Prelude.{Bool, true, false, []}
 use Rattle.chor_tree.specs.declared.tree.Form.{Form}
 use Rattle.chor_tree.specs.declared.tree.Form.TheVariants.{Start, Value, Label, Give, Set, Host, Show, If, Call, End}
-use Rattle.chor_tree.specs.declared.comparison.both.Both.{Both}
+use Rattle.chor_tree.specs.declared.file.File.{File}
 use Rattle.chor_tree.specs.Source.{Block, block_of, nowhere}
-use Rattle.chor_tree.specs.Same.{same_block}
+use Rattle.chor_tree.specs.Same.{Same, same_block}
 use Rattle.chor_tree.specs.Both.{words_of, texts_of}
 
 -- the block in which nothing follows it
@@ -12,8 +12,8 @@ abbrev pub head_of : Form → Block
 head_of f = block_of [] nowhere f
 
 -- it is the same for both, whatever follows
-abbrev pub same_heads : Both → Form → Form → Bool
-same_heads b f g = same_block (words_of b) (texts_of b) (head_of f) (head_of g)
+abbrev pub same_heads : File → File → Same Form
+same_heads a b f g = same_block (words_of a b) (texts_of a b) (head_of f) (head_of g)
 
 abbrev pub is_start : Form → Bool
 is_start (Start c k active serve next) = true

@@ -1,8 +1,8 @@
-//! Two files whose parts are compared.
+//! Parts of two files that are compared.
 
-ghost use Rattle.std.specs.Prelude.{◌≡◌, ℕ, IfSome, IfNone, Some, None, slice_get};
-ghost use Rattle.chor_base.specs.declared.names.NameId.{NameId};
+ghost use Rattle.std.specs.Prelude.{◌≡◌, ◌&&◌, IfSome, IfNone, Some, None, slice_get};
 ghost use Rattle.chor_base.specs.Writing.{name_in};
+ghost use Rattle.chor_tree.specs.declared.file.File.{File};
 ghost use Rattle.chor_tree.specs.Same.{Same, all_same, same_named, same_part};
 ghost use Rattle.chor_tree.specs.Both.{words_of, texts_of};
 
@@ -10,33 +10,65 @@ use crate::file::{File, Named};
 use crate::tree::Part;
 use chor_base::{List, NameId, Names, Texts};
 
-// The files, each with its own tables of names and texts.
-#[derive(Drop)]
-pub struct Both<'a> {
-    pub left: &'a File,
-    pub right: &'a File,
+// What can be compared but for places and the numbers of words. All parts of a thing are compared,
+// even where the first ones differ: each way out of a function has a proof of its own.
+pub trait Say {
+    ghost same: { File → File → Same Self };
+
+    fn says(&self, other: &Self, left: &File, right: &File) -> bool
+        ensures { result ≡ same left.now right.now self.now other.now };
 }
 
-impl Both<'_> {
-    // Whether a name of the left file and one of the right file are the same word.
-    pub fn are_same_words(&self, left: NameId, right: NameId) -> bool
-        ensures { result ≡ words_of self.now left right }
-    {
-        word_of(&self.left.names, left) == word_of(&self.right.names, right)
-    }
+impl<T: Say> Say for List<T> {
+    ghost same = { λ f g. all_same (T.same f g) };
 
-    // Whether a text of the left file and one of the right file have the same bytes.
-    pub fn are_same_texts(&self, left: u32, right: u32) -> bool
-        ensures { result ≡ texts_of self.now left right }
-    {
-        match (
-            text_of(&self.left.texts, left),
-            text_of(&self.right.texts, right),
-        ) {
-            (Some(a), Some(b)) => a == b,
-            (None, None) => true,
-            _ => false,
+    fn says(&self, other: &Self, left: &File, right: &File) -> bool {
+        let mut items = self.as_slice();
+        let mut others = other.as_slice();
+        while let Some((x, more)) = items.split_first() {
+            let Some((y, rest)) = others.split_first() else {
+                return false;
+            };
+            if !x.says(y, left, right) {
+                return false;
+            }
+            items = more;
+            others = rest;
         }
+        others.is_empty()
+    }
+}
+
+impl<A: Say, B: Say> Say for (A, B) {
+    ghost same = { λ f g v w. A.same f g v.0 w.0 && B.same f g v.1 w.1 };
+
+    fn says(&self, other: &Self, left: &File, right: &File) -> bool {
+        self.0.says(&other.0, left, right) & self.1.says(&other.1, left, right)
+    }
+}
+
+// Names are the same where their words are.
+impl Say for NameId {
+    ghost same = { λ f g. words_of f g };
+
+    fn says(&self, other: &Self, left: &File, right: &File) -> bool {
+        word_of(&left.names, *self) == word_of(&right.names, *other)
+    }
+}
+
+impl Say for Named {
+    ghost same = { λ f g. same_named (words_of f g) };
+
+    fn says(&self, other: &Self, left: &File, right: &File) -> bool {
+        self.name.says(&other.name, left, right)
+    }
+}
+
+impl Say for Part {
+    ghost same = { λ f g. same_part (words_of f g) };
+
+    fn says(&self, other: &Self, left: &File, right: &File) -> bool {
+        self.process.says(&other.process, left, right) & self.role.says(&other.role, left, right)
     }
 }
 
@@ -63,46 +95,13 @@ fn text_of(texts: &Texts, text: u32) -> Option<&[u8]>
     }
 }
 
-// What can be compared but for places and the numbers of words.
-pub trait Say {
-    ghost same: { Same NameId → Same ℕ → Same Self };
-
-    fn says(&self, other: &Self, both: &Both) -> bool
-        ensures { result ≡ same (words_of both.now) (texts_of both.now) self.now other.now };
-}
-
-impl<T: Say> Say for List<T> {
-    ghost same = { λ n t. all_same (T.same n t) };
-
-    fn says(&self, other: &Self, both: &Both) -> bool {
-        let mut left = self.as_slice();
-        let mut right = other.as_slice();
-        while let Some((x, more)) = left.split_first() {
-            let Some((y, others)) = right.split_first() else {
-                return false;
-            };
-            if !x.says(y, both) {
-                return false;
-            }
-            left = more;
-            right = others;
-        }
-        right.is_empty()
-    }
-}
-
-impl Say for Named {
-    ghost same = { λ n t. same_named n };
-
-    fn says(&self, other: &Self, both: &Both) -> bool {
-        both.are_same_words(self.name, other.name)
-    }
-}
-
-impl Say for Part {
-    ghost same = { λ n t. same_part n };
-
-    fn says(&self, other: &Self, both: &Both) -> bool {
-        self.process.says(&other.process, both) && self.role.says(&other.role, both)
+// Whether two texts have the same bytes.
+pub fn same_texts(a: u32, b: u32, left: &File, right: &File) -> bool
+    ensures { result ≡ texts_of left.now right.now a b }
+{
+    match (text_of(&left.texts, a), text_of(&right.texts, b)) {
+        (Some(a), Some(b)) => a == b,
+        (None, None) => true,
+        _ => false,
     }
 }

@@ -1,28 +1,31 @@
 //! Protocols, services and parameters.
 
 ghost use Rattle.std.specs.Prelude.{◌≡◌};
-ghost use Rattle.chor_tree.specs.Same.{same_sort, same_payload, same_arm, same_step, same_state, same_protocol, same_service, same_variable, same_process_param, same_holder, same_session_param};
+ghost use Rattle.chor_tree.specs.Both.{words_of};
+ghost use Rattle.chor_tree.specs.Same.{same_sort, same_payload, same_arm, same_step, same_state, same_protocol, same_service, same_process_param, same_session_param};
 
-use crate::comparison::both::{Both, Say};
-use crate::file::{Named, ProcParam, Service, SessionParam};
+use crate::comparison::both::Say;
+use crate::file::{File, ProcParam, Service, SessionParam};
 use crate::protocol::{Payload, ProtoArm, ProtoStep, Protocol, State};
 use chor_base::Sort;
 
-fn same_sorts(left: Sort, right: Sort) -> bool
-    ensures { result ≡ same_sort left right }
-{
-    match (left, right) {
-        (Sort::Int, Sort::Int) | (Sort::Bool, Sort::Bool) | (Sort::Text, Sort::Text) => true,
-        _ => false,
+impl Say for Sort {
+    ghost same = { λ f g. same_sort };
+
+    fn says(&self, other: &Self, left: &File, right: &File) -> bool {
+        match (self, other) {
+            (Sort::Int, Sort::Int) | (Sort::Bool, Sort::Bool) | (Sort::Text, Sort::Text) => true,
+            _ => false,
+        }
     }
 }
 
 impl Say for Payload {
-    ghost same = { λ n t. same_payload n };
+    ghost same = { λ f g. same_payload (words_of f g) };
 
-    fn says(&self, other: &Self, both: &Both) -> bool {
+    fn says(&self, other: &Self, left: &File, right: &File) -> bool {
         match (self, other) {
-            (Payload::Plain(left), Payload::Plain(right)) => same_sorts(*left, *right),
+            (Payload::Plain(a), Payload::Plain(b)) => a.says(b, left, right),
             (
                 Payload::Endpoint {
                     protocol: p,
@@ -34,24 +37,24 @@ impl Say for Payload {
                     state: t,
                     role: u,
                 },
-            ) => p.says(q, both) && s.says(t, both) && r.says(u, both),
+            ) => p.says(q, left, right) & s.says(t, left, right) & r.says(u, left, right),
             _ => false,
         }
     }
 }
 
 impl Say for ProtoArm {
-    ghost same = { λ n t. same_arm n };
+    ghost same = { λ f g. same_arm (words_of f g) };
 
-    fn says(&self, other: &Self, both: &Both) -> bool {
-        self.label.says(&other.label, both) && self.next.says(&other.next, both)
+    fn says(&self, other: &Self, left: &File, right: &File) -> bool {
+        self.label.says(&other.label, left, right) & self.next.says(&other.next, left, right)
     }
 }
 
 impl Say for ProtoStep {
-    ghost same = { λ n t. same_step n };
+    ghost same = { λ f g. same_step (words_of f g) };
 
-    fn says(&self, other: &Self, both: &Both) -> bool {
+    fn says(&self, other: &Self, left: &File, right: &File) -> bool {
         match (self, other) {
             (ProtoStep::End, ProtoStep::End) => true,
             (
@@ -67,7 +70,10 @@ impl Say for ProtoStep {
                     payload: q,
                     next: n,
                 },
-            ) => a.says(c, both) && b.says(d, both) && p.says(q, both) && m.says(n, both),
+            ) => a.says(c, left, right)
+                & b.says(d, left, right)
+                & p.says(q, left, right)
+                & m.says(n, left, right),
             (
                 ProtoStep::Choice {
                     from: a,
@@ -79,74 +85,56 @@ impl Say for ProtoStep {
                     to: d,
                     arms: others,
                 },
-            ) => a.says(c, both) && b.says(d, both) && arms.says(others, both),
+            ) => a.says(c, left, right) & b.says(d, left, right) & arms.says(others, left, right),
             _ => false,
         }
     }
 }
 
 impl Say for State {
-    ghost same = { λ n t. same_state n };
+    ghost same = { λ f g. same_state (words_of f g) };
 
-    fn says(&self, other: &Self, both: &Both) -> bool {
-        self.name.says(&other.name, both) && self.step.says(&other.step, both)
+    fn says(&self, other: &Self, left: &File, right: &File) -> bool {
+        self.name.says(&other.name, left, right) & self.step.says(&other.step, left, right)
     }
 }
 
 impl Say for Protocol {
-    ghost same = { λ n t. same_protocol n };
+    ghost same = { λ f g. same_protocol (words_of f g) };
 
-    fn says(&self, other: &Self, both: &Both) -> bool {
-        self.name.says(&other.name, both)
-            && self.roles.says(&other.roles, both)
-            && self.states.says(&other.states, both)
+    fn says(&self, other: &Self, left: &File, right: &File) -> bool {
+        self.name.says(&other.name, left, right)
+            & self.roles.says(&other.roles, left, right)
+            & self.states.says(&other.states, left, right)
     }
 }
 
 impl Say for Service {
-    ghost same = { λ n t. same_service n };
+    ghost same = { λ f g. same_service (words_of f g) };
 
-    fn says(&self, other: &Self, both: &Both) -> bool {
-        self.name.says(&other.name, both)
-            && self.protocol.says(&other.protocol, both)
-            && self.active.says(&other.active, both)
-            && self.serve.says(&other.serve, both)
-    }
-}
-
-// A variable and its sort.
-impl Say for (Named, Sort) {
-    ghost same = { λ n t. same_variable n };
-
-    fn says(&self, other: &Self, both: &Both) -> bool {
-        self.0.says(&other.0, both) && same_sorts(self.1, other.1)
+    fn says(&self, other: &Self, left: &File, right: &File) -> bool {
+        self.name.says(&other.name, left, right)
+            & self.protocol.says(&other.protocol, left, right)
+            & self.active.says(&other.active, left, right)
+            & self.serve.says(&other.serve, left, right)
     }
 }
 
 impl Say for ProcParam {
-    ghost same = { λ n t. same_process_param n };
+    ghost same = { λ f g. same_process_param (words_of f g) };
 
-    fn says(&self, other: &Self, both: &Both) -> bool {
-        self.name.says(&other.name, both) && self.vars.says(&other.vars, both)
-    }
-}
-
-// A role and its holder.
-impl Say for (Named, Named) {
-    ghost same = { λ n t. same_holder n };
-
-    fn says(&self, other: &Self, both: &Both) -> bool {
-        self.0.says(&other.0, both) && self.1.says(&other.1, both)
+    fn says(&self, other: &Self, left: &File, right: &File) -> bool {
+        self.name.says(&other.name, left, right) & self.vars.says(&other.vars, left, right)
     }
 }
 
 impl Say for SessionParam {
-    ghost same = { λ n t. same_session_param n };
+    ghost same = { λ f g. same_session_param (words_of f g) };
 
-    fn says(&self, other: &Self, both: &Both) -> bool {
-        self.name.says(&other.name, both)
-            && self.protocol.says(&other.protocol, both)
-            && self.state.says(&other.state, both)
-            && self.holders.says(&other.holders, both)
+    fn says(&self, other: &Self, left: &File, right: &File) -> bool {
+        self.name.says(&other.name, left, right)
+            & self.protocol.says(&other.protocol, left, right)
+            & self.state.says(&other.state, left, right)
+            & self.holders.says(&other.holders, left, right)
     }
 }

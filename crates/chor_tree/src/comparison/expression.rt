@@ -5,18 +5,19 @@ ghost use Rattle.chor_base.specs.Expr.{term_of};
 ghost use Rattle.chor_tree.specs.Same.{same_value, same_unary, same_binary, same_term, number_of_binary};
 ghost use Rattle.chor_tree.specs.Both.{words_of, texts_of};
 
-use crate::comparison::both::{Both, Say};
+use crate::comparison::both::{Say, same_texts};
+use crate::file::File;
 use chor_base::{BinOp, Expr, UnOp, Value};
 
 impl Say for Value {
-    ghost same = { λ n t. same_value n t };
+    ghost same = { λ f g. same_value (words_of f g) (texts_of f g) };
 
-    fn says(&self, other: &Self, both: &Both) -> bool {
+    fn says(&self, other: &Self, left: &File, right: &File) -> bool {
         match (self, other) {
-            (Value::Int(left), Value::Int(right)) => *left == *right,
-            (Value::Bool(left), Value::Bool(right)) => *left == *right,
-            (Value::Text(left), Value::Text(right)) => both.are_same_texts(*left, *right),
-            (Value::Part(s, a), Value::Part(u, b)) => *s == *u && both.are_same_words(*a, *b),
+            (Value::Int(y), Value::Int(z)) => *y == *z,
+            (Value::Bool(p), Value::Bool(q)) => *p == *q,
+            (Value::Text(x), Value::Text(y)) => same_texts(*x, *y, left, right),
+            (Value::Part(s, a), Value::Part(u, b)) => (*s == *u) & a.says(b, left, right),
             _ => false,
         }
     }
@@ -49,19 +50,17 @@ fn number_of_binary(op: BinOp) -> u8
 }
 
 impl Say for Expr {
-    ghost same = { λ n t e f. same_term n t (term_of e) (term_of f) };
+    ghost same = { λ f g d e. same_term (words_of f g) (texts_of f g) (term_of d) (term_of e) };
 
-    fn says(&self, other: &Self, both: &Both) -> bool {
+    fn says(&self, other: &Self, left: &File, right: &File) -> bool {
         match (self, other) {
-            (Expr::Lit(left), Expr::Lit(right)) => left.says(right, both),
-            (Expr::Var(left), Expr::Var(right)) => both.are_same_words(*left, *right),
-            (Expr::Un(left, a), Expr::Un(right, b)) => {
-                same_unary(*left, *right) && a.says(b, both)
-            }
-            (Expr::Bin(left, a, b), Expr::Bin(right, c, d)) => {
-                number_of_binary(*left) == number_of_binary(*right)
-                    && a.says(c, both)
-                    && b.says(d, both)
+            (Expr::Lit(v), Expr::Lit(w)) => v.says(w, left, right),
+            (Expr::Var(x), Expr::Var(y)) => x.says(y, left, right),
+            (Expr::Un(o, a), Expr::Un(p, b)) => same_unary(*o, *p) & a.says(b, left, right),
+            (Expr::Bin(o, a, b), Expr::Bin(p, c, d)) => {
+                (number_of_binary(*o) == number_of_binary(*p))
+                    & a.says(c, left, right)
+                    & b.says(d, left, right)
             }
             _ => false,
         }

@@ -3,23 +3,24 @@
 ghost use Rattle.std.specs.Prelude.{◌≡◌, ◌&&◌};
 ghost use Rattle.chor_tree.specs.Forms.{same_heads, is_start, is_value, is_label, is_give, is_set, is_host, is_show, is_if, is_call};
 
-use crate::comparison::both::{Both, Say};
+use crate::comparison::both::Say;
+use crate::file::File;
 use crate::tree::Form;
 
 // Whether two nodes are the same statement, or the same tail.
-pub fn same_heads(both: &Both, form: &Form, other: &Form) -> bool
-    ensures { result ≡ same_heads both.now form.now other.now }
+pub fn same_heads(left: &File, right: &File, form: &Form, other: &Form) -> bool
+    ensures { result ≡ same_heads left.now right.now form.now other.now }
 {
     match form {
-        Form::Start { .. } => same_starts(both, form, other),
-        Form::Value { .. } => same_values(both, form, other),
-        Form::Label { .. } => same_labels(both, form, other),
-        Form::Give { .. } => same_gives(both, form, other),
-        Form::Set { .. } => same_sets(both, form, other),
-        Form::Host { .. } => same_hosts(both, form, other),
-        Form::Show { .. } => same_shows(both, form, other),
-        Form::If { .. } => same_ifs(both, form, other),
-        Form::Call { .. } => same_calls(both, form, other),
+        Form::Start { .. } => same_starts(left, right, form, other),
+        Form::Value { .. } => same_values(left, right, form, other),
+        Form::Label { .. } => same_labels(left, right, form, other),
+        Form::Give { .. } => same_gives(left, right, form, other),
+        Form::Set { .. } => same_sets(left, right, form, other),
+        Form::Host { .. } => same_hosts(left, right, form, other),
+        Form::Show { .. } => same_shows(left, right, form, other),
+        Form::If { .. } => same_ifs(left, right, form, other),
+        Form::Call { .. } => same_calls(left, right, form, other),
         Form::End => match other {
             Form::End => true,
             _ => false,
@@ -28,8 +29,8 @@ pub fn same_heads(both: &Both, form: &Form, other: &Form) -> bool
 }
 
 // `start a(k): p[A], .. new r[C], ..`
-fn same_starts(both: &Both, form: &Form, other: &Form) -> bool
-    ensures { result ≡ (is_start form.now && same_heads both.now form.now other.now) }
+fn same_starts(left: &File, right: &File, form: &Form, other: &Form) -> bool
+    ensures { result ≡ (is_start form.now && same_heads left.now right.now form.now other.now) }
 {
     let Form::Start {
         channel,
@@ -51,15 +52,15 @@ fn same_starts(both: &Both, form: &Form, other: &Form) -> bool
     else {
         return false;
     };
-    channel.says(other_channel, both)
-        && session.says(other_session, both)
-        && active.says(other_active, both)
-        && serve.says(other_serve, both)
+    channel.says(other_channel, left, right)
+        & session.says(other_session, left, right)
+        & active.says(other_active, left, right)
+        & serve.says(other_serve, left, right)
 }
 
 // `p[A].e -> q[B].x : k`
-fn same_values(both: &Both, form: &Form, other: &Form) -> bool
-    ensures { result ≡ (is_value form.now && same_heads both.now form.now other.now) }
+fn same_values(left: &File, right: &File, form: &Form, other: &Form) -> bool
+    ensures { result ≡ (is_value form.now && same_heads left.now right.now form.now other.now) }
 {
     let Form::Value {
         from,
@@ -83,16 +84,16 @@ fn same_values(both: &Both, form: &Form, other: &Form) -> bool
     else {
         return false;
     };
-    from.says(other_from, both)
-        && expr.says(other_expr, both)
-        && to.says(other_to, both)
-        && both.are_same_words(*var, *other_var)
-        && session.says(other_session, both)
+    from.says(other_from, left, right)
+        & expr.says(other_expr, left, right)
+        & to.says(other_to, left, right)
+        & var.says(other_var, left, right)
+        & session.says(other_session, left, right)
 }
 
 // `p[A] -> q[B] : k.l`
-fn same_labels(both: &Both, form: &Form, other: &Form) -> bool
-    ensures { result ≡ (is_label form.now && same_heads both.now form.now other.now) }
+fn same_labels(left: &File, right: &File, form: &Form, other: &Form) -> bool
+    ensures { result ≡ (is_label form.now && same_heads left.now right.now form.now other.now) }
 {
     let Form::Label {
         from,
@@ -114,15 +115,15 @@ fn same_labels(both: &Both, form: &Form, other: &Form) -> bool
     else {
         return false;
     };
-    from.says(other_from, both)
-        && to.says(other_to, both)
-        && session.says(other_session, both)
-        && both.are_same_words(*label, *other_label)
+    from.says(other_from, left, right)
+        & to.says(other_to, left, right)
+        & session.says(other_session, left, right)
+        & label.says(other_label, left, right)
 }
 
 // `p[A] -> q[B] : k(h[R])`
-fn same_gives(both: &Both, form: &Form, other: &Form) -> bool
-    ensures { result ≡ (is_give form.now && same_heads both.now form.now other.now) }
+fn same_gives(left: &File, right: &File, form: &Form, other: &Form) -> bool
+    ensures { result ≡ (is_give form.now && same_heads left.now right.now form.now other.now) }
 {
     let Form::Give {
         from,
@@ -144,15 +145,15 @@ fn same_gives(both: &Both, form: &Form, other: &Form) -> bool
     else {
         return false;
     };
-    from.says(other_from, both)
-        && to.says(other_to, both)
-        && session.says(other_session, both)
-        && given.says(other_given, both)
+    from.says(other_from, left, right)
+        & to.says(other_to, left, right)
+        & session.says(other_session, left, right)
+        & given.says(other_given, left, right)
 }
 
 // `p.x := e`
-fn same_sets(both: &Both, form: &Form, other: &Form) -> bool
-    ensures { result ≡ (is_set form.now && same_heads both.now form.now other.now) }
+fn same_sets(left: &File, right: &File, form: &Form, other: &Form) -> bool
+    ensures { result ≡ (is_set form.now && same_heads left.now right.now form.now other.now) }
 {
     let Form::Set {
         process,
@@ -172,21 +173,21 @@ fn same_sets(both: &Both, form: &Form, other: &Form) -> bool
     else {
         return false;
     };
-    process.says(other_process, both)
-        && both.are_same_words(*var, *other_var)
-        && expr.says(other_expr, both)
+    process.says(other_process, left, right)
+        & var.says(other_var, left, right)
+        & expr.says(other_expr, left, right)
 }
 
 // `p.x := host f(e, e)`
-fn same_hosts(both: &Both, form: &Form, other: &Form) -> bool
-    ensures { result ≡ (is_host form.now && same_heads both.now form.now other.now) }
+fn same_hosts(left: &File, right: &File, form: &Form, other: &Form) -> bool
+    ensures { result ≡ (is_host form.now && same_heads left.now right.now form.now other.now) }
 {
     let Form::Host {
         process,
         var,
         name,
-        left,
-        right,
+        left: first,
+        right: second,
         ..
     } = form
     else {
@@ -196,23 +197,23 @@ fn same_hosts(both: &Both, form: &Form, other: &Form) -> bool
         process: other_process,
         var: other_var,
         name: other_name,
-        left: other_left,
-        right: other_right,
+        left: other_first,
+        right: other_second,
         ..
     } = other
     else {
         return false;
     };
-    process.says(other_process, both)
-        && both.are_same_words(*var, *other_var)
-        && name.says(other_name, both)
-        && left.says(other_left, both)
-        && right.says(other_right, both)
+    process.says(other_process, left, right)
+        & var.says(other_var, left, right)
+        & name.says(other_name, left, right)
+        & first.says(other_first, left, right)
+        & second.says(other_second, left, right)
 }
 
 // `p show e`
-fn same_shows(both: &Both, form: &Form, other: &Form) -> bool
-    ensures { result ≡ (is_show form.now && same_heads both.now form.now other.now) }
+fn same_shows(left: &File, right: &File, form: &Form, other: &Form) -> bool
+    ensures { result ≡ (is_show form.now && same_heads left.now right.now form.now other.now) }
 {
     let Form::Show { process, expr, .. } = form else {
         return false;
@@ -225,12 +226,12 @@ fn same_shows(both: &Both, form: &Form, other: &Form) -> bool
     else {
         return false;
     };
-    process.says(other_process, both) && expr.says(other_expr, both)
+    process.says(other_process, left, right) & expr.says(other_expr, left, right)
 }
 
 // `if p.e`
-fn same_ifs(both: &Both, form: &Form, other: &Form) -> bool
-    ensures { result ≡ (is_if form.now && same_heads both.now form.now other.now) }
+fn same_ifs(left: &File, right: &File, form: &Form, other: &Form) -> bool
+    ensures { result ≡ (is_if form.now && same_heads left.now right.now form.now other.now) }
 {
     let Form::If { process, expr, .. } = form else {
         return false;
@@ -243,12 +244,12 @@ fn same_ifs(both: &Both, form: &Form, other: &Form) -> bool
     else {
         return false;
     };
-    process.says(other_process, both) && expr.says(other_expr, both)
+    process.says(other_process, left, right) & expr.says(other_expr, left, right)
 }
 
 // `call F(p, ..; k, ..)`
-fn same_calls(both: &Both, form: &Form, other: &Form) -> bool
-    ensures { result ≡ (is_call form.now && same_heads both.now form.now other.now) }
+fn same_calls(left: &File, right: &File, form: &Form, other: &Form) -> bool
+    ensures { result ≡ (is_call form.now && same_heads left.now right.now form.now other.now) }
 {
     let Form::Call {
         name,
@@ -266,7 +267,7 @@ fn same_calls(both: &Both, form: &Form, other: &Form) -> bool
     else {
         return false;
     };
-    name.says(other_name, both)
-        && processes.says(other_processes, both)
-        && sessions.says(other_sessions, both)
+    name.says(other_name, left, right)
+        & processes.says(other_processes, left, right)
+        & sessions.says(other_sessions, left, right)
 }

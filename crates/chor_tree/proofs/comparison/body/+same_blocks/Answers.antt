@@ -2,7 +2,7 @@ use Rattle.std.proofs.Common.{◌≡◌, ◌<◌, List, ◌∷◌, [], true, fal
 use Rattle.std.specs.Prelude.{All, ◌&&◌}
 use Rattle.std.proofs.lemmas.List.Elements.{All-head, All-tail}
 use Rattle.chor_base.specs.declared.rule.Place.{Place}
-use Rattle.chor_tree.specs.declared.comparison.both.Both.{Both}
+use Rattle.chor_tree.specs.declared.file.File.{File}
 use Rattle.chor_tree.specs.declared.tree.Form.{Form}
 use Rattle.chor_tree.specs.declared.tree.Node.{Node}
 use Rattle.chor_tree.specs.declared.tree.NodeId.{NodeId}
@@ -18,34 +18,36 @@ use Rattle.chor_tree.proofs.comparison.body.+same_blocks.Goals as goal
 abbrev StandsAt : List Node → NodeId → Form → Type 0
 StandsAt nodes i f = (p : Place) × (block_in (blocks_of nodes) i ≡ block_of (blocks_of nodes) p f)
 
-module _ (b : Both) (i j : NodeId) (f g : Form) (at : StandsAt b.left.now.tree.nodes i f) (other : StandsAt b.right.now.tree.nodes j g) where
-  apart_here : same_heads b f g ≡ false → false ≡ blocks_same b i j
-  apart_here = heads_differ (words_of b) (texts_of b) _ _ at.0 other.0 f g _ _ at.1 other.1
+module _ (a b : File) (i j : NodeId) (f g : Form) (at : StandsAt a.tree.nodes i f) (other : StandsAt b.tree.nodes j g) where
+  apart_here : same_heads a b f g ≡ false → false ≡ blocks_same a b i j
+  apart_here = heads_differ (words_of a b) (texts_of a b) _ _ at.0 other.0 f g _ _ at.1 other.1
 
-  rest_here : (ds es : List NodeId) → same_heads b f g ≡ true → children_of f ≡ ds → children_of g ≡ es
-      → follow_same (words_of b) (texts_of b) (blocks_of b.left.now.tree.nodes) (blocks_of b.right.now.tree.nodes) ds es ≡ blocks_same b i j
-  rest_here ds es = all_follow (words_of b) (texts_of b) _ _ at.0 other.0 f g _ _ ds es at.1 other.1
+  rest_here : (ds es : List NodeId) → same_heads a b f g ≡ true → children_of f ≡ ds → children_of g ≡ es
+      → follow_same (words_of a b) (texts_of a b) (blocks_of a.tree.nodes) (blocks_of b.tree.nodes) ds es ≡ blocks_same a b i j
+  rest_here ds es = all_follow (words_of a b) (texts_of a b) _ _ at.0 other.0 f g _ _ ds es at.1 other.1
 
 pub body-preserved-in-One-this : goal.body-preserved-in-One-this
 body-preserved-in-One-this t c =
-    let both = c.args.both.now in
+    let a = c.args.left.now in
+    let b = c.args.right.now in
     let form = c.form_at-form.result.now in
     let other_form = c.form_at-other_form.result.now in
     let here : children_of form ≡ c.in-One-One.next ∷ [] = sym c.in-One-One.ensures in
     let there : children_of other_form ≡ c.in-One-One.other_next ∷ [] = sym c.in-One-One.ensures' in
-    let below = All-head (λ (d : NodeId). d.0 < c.body.left.0) c.in-One-One.next [] (subst (All (λ (d : NodeId). d.0 < c.body.left.0)) here c.form_at-form.ensures.below) in
-    let other_below = All-head (λ (d : NodeId). d.0 < c.body.right.0) c.in-One-One.other_next [] (subst (All (λ (d : NodeId). d.0 < c.body.right.0)) there c.form_at-other_form.ensures.below) in
-    let same : same_heads both form other_form ≡ true = sym c.same_heads.ensures ∙ c.if-not-same_heads.false in
+    let below = All-head (λ (d : NodeId). d.0 < c.body.node.0) c.in-One-One.next [] (subst (All (λ (d : NodeId). d.0 < c.body.node.0)) here c.form_at-form.ensures.below) in
+    let other_below = All-head (λ (d : NodeId). d.0 < c.body.other_node.0) c.in-One-One.other_next [] (subst (All (λ (d : NodeId). d.0 < c.body.other_node.0)) there c.form_at-other_form.ensures.below) in
+    let same : same_heads a b form other_form ≡ true = sym c.same_heads.ensures ∙ c.if-not-same_heads.false in
     let block = c.form_at-form.ensures.block in
     let other_block = c.form_at-other_form.ensures.block in
-    let follows = one_follows (words_of both) (texts_of both) (blocks_of both.left.now.tree.nodes) (blocks_of both.right.now.tree.nodes) block.0 other_block.0 form other_form
-    (block_in (blocks_of both.left.now.tree.nodes) c.body.left) (block_in (blocks_of both.right.now.tree.nodes) c.body.right)
+    let follows = one_follows (words_of a b) (texts_of a b) (blocks_of a.tree.nodes) (blocks_of b.tree.nodes) block.0 other_block.0 form other_form
+    (block_in (blocks_of a.tree.nodes) c.body.node) (block_in (blocks_of b.tree.nodes) c.body.other_node)
     c.in-One-One.next c.in-One-One.other_next block.1 other_block.1 same here there in
     (omega (arith, below, c.body.invariant.0), omega (arith, other_below, c.body.invariant.1), omega (arith, below, c.body.invariant.2), follows ∙ c.body.invariant.3)
 
 pub body-preserved : goal.body-preserved
 body-preserved t c =
-    let both = c.args.both.now in
+    let a = c.args.left.now in
+    let b = c.args.right.now in
     let form = c.form_at-form.result.now in
     let other_form = c.form_at-other_form.result.now in
     let first = c.in-Either-Either.first in
@@ -54,26 +56,26 @@ body-preserved t c =
     let other_second = c.in-Either-Either.other_second in
     let here : children_of form ≡ first ∷ second ∷ [] = sym c.in-Either-Either.ensures in
     let there : children_of other_form ≡ other_first ∷ other_second ∷ [] = sym c.in-Either-Either.ensures' in
-    let before = subst (All (λ (d : NodeId). d.0 < c.body.left.0)) here c.form_at-form.ensures.below in
-    let other_before = subst (All (λ (d : NodeId). d.0 < c.body.right.0)) there c.form_at-other_form.ensures.below in
-    let below = All-head (λ (d : NodeId). d.0 < c.body.left.0) second [] (All-tail (λ (d : NodeId). d.0 < c.body.left.0) first (second ∷ []) before) in
-    let other_below = All-head (λ (d : NodeId). d.0 < c.body.right.0) other_second [] (All-tail (λ (d : NodeId). d.0 < c.body.right.0) other_first (other_second ∷ []) other_before) in
-    let same : same_heads both form other_form ≡ true = sym c.same_heads.ensures ∙ c.if-not-same_heads.false in
+    let before = subst (All (λ (d : NodeId). d.0 < c.body.node.0)) here c.form_at-form.ensures.below in
+    let other_before = subst (All (λ (d : NodeId). d.0 < c.body.other_node.0)) there c.form_at-other_form.ensures.below in
+    let below = All-head (λ (d : NodeId). d.0 < c.body.node.0) second [] (All-tail (λ (d : NodeId). d.0 < c.body.node.0) first (second ∷ []) before) in
+    let other_below = All-head (λ (d : NodeId). d.0 < c.body.other_node.0) other_second [] (All-tail (λ (d : NodeId). d.0 < c.body.other_node.0) other_first (other_second ∷ []) other_before) in
+    let same : same_heads a b form other_form ≡ true = sym c.same_heads.ensures ∙ c.if-not-same_heads.false in
     let block = c.form_at-form.ensures.block in
     let other_block = c.form_at-other_form.ensures.block in
-    let follows = two_follow (words_of both) (texts_of both) (blocks_of both.left.now.tree.nodes) (blocks_of both.right.now.tree.nodes) block.0 other_block.0 form other_form
-    (block_in (blocks_of both.left.now.tree.nodes) c.body.left) (block_in (blocks_of both.right.now.tree.nodes) c.body.right)
+    let follows = two_follow (words_of a b) (texts_of a b) (blocks_of a.tree.nodes) (blocks_of b.tree.nodes) block.0 other_block.0 form other_form
+    (block_in (blocks_of a.tree.nodes) c.body.node) (block_in (blocks_of b.tree.nodes) c.body.other_node)
     first second other_first other_second block.1 other_block.1 same here there (sym c.same_blocks.ensures ∙ c.if-not-same_blocks.false) in
     (omega (arith, below, c.body.invariant.0), omega (arith, other_below, c.body.invariant.1), omega (arith, below, c.body.invariant.2), follows ∙ c.body.invariant.3)
 
 pub returns-then-not-same_heads : goal.returns-then-not-same_heads
 returns-then-not-same_heads t c =
-    apart_here c.args.both.now c.body.left c.body.right _ _ c.form_at-form.ensures.block c.form_at-other_form.ensures.block
+    apart_here c.args.left.now c.args.right.now c.body.node c.body.other_node _ _ c.form_at-form.ensures.block c.form_at-other_form.ensures.block
     (sym c.same_heads.ensures ∙ c.if-not-same_heads.true) ∙ c.body.invariant.3
 
 pub returns-in-Nothing-Nothing : goal.returns-in-Nothing-Nothing
 returns-in-Nothing-Nothing t c =
-    rest_here c.args.both.now c.body.left c.body.right _ _ c.form_at-form.ensures.block c.form_at-other_form.ensures.block
+    rest_here c.args.left.now c.args.right.now c.body.node c.body.other_node _ _ c.form_at-form.ensures.block c.form_at-other_form.ensures.block
     [] [] (sym c.same_heads.ensures ∙ c.if-not-same_heads.false)
     (sym c.what_follows.ensures ∙ ap followers c.in-Nothing-Nothing.is-0) (sym c.what_follows-in-body.ensures ∙ ap followers c.in-Nothing-Nothing.is-1)
     ∙ c.body.invariant.3
@@ -82,34 +84,37 @@ pub returns-then-not-same_blocks : goal.returns-then-not-same_blocks
 returns-then-not-same_blocks t c =
     let w = c.in-Either-Either in
     let differ = sym c.same_blocks.ensures ∙ c.if-not-same_blocks.true in
-    sym (ap (λ a. a && (blocks_same c.args.both.now w.second w.other_second && true)) differ)
-    ∙ rest_here c.args.both.now c.body.left c.body.right _ _ c.form_at-form.ensures.block c.form_at-other_form.ensures.block
+    sym (ap (λ x. x && (blocks_same c.args.left.now c.args.right.now w.second w.other_second && true)) differ)
+    ∙ rest_here c.args.left.now c.args.right.now c.body.node c.body.other_node _ _ c.form_at-form.ensures.block c.form_at-other_form.ensures.block
     (w.first ∷ w.second ∷ []) (w.other_first ∷ w.other_second ∷ []) (sym c.same_heads.ensures ∙ c.if-not-same_heads.false)
     (sym w.ensures) (sym w.ensures') ∙ c.body.invariant.3
 
 pub returns-in_default : goal.returns-in_default
 returns-in_default t c =
-    let both = c.args.both.now in
-    none_alone (words_of both) (texts_of both) (blocks_of both.left.now.tree.nodes) (blocks_of both.right.now.tree.nodes)
+    let a = c.args.left.now in
+    let b = c.args.right.now in
+    none_alone (words_of a b) (texts_of a b) (blocks_of a.tree.nodes) (blocks_of b.tree.nodes)
     c.what_follows-in-body.result c.in_default.not-Nothing-1
-    ∙ rest_here c.args.both.now c.body.left c.body.right _ _ c.form_at-form.ensures.block c.form_at-other_form.ensures.block
+    ∙ rest_here c.args.left.now c.args.right.now c.body.node c.body.other_node _ _ c.form_at-form.ensures.block c.form_at-other_form.ensures.block
     [] (followers c.what_follows-in-body.result) (sym c.same_heads.ensures ∙ c.if-not-same_heads.false)
     (sym c.what_follows.ensures ∙ ap followers c.in_default.is-0) (sym c.what_follows-in-body.ensures) ∙ c.body.invariant.3
 
 pub returns-in_default-2 : goal.returns-in_default-2
 returns-in_default-2 t c =
-    let both = c.args.both.now in
-    one_alone (words_of both) (texts_of both) (blocks_of both.left.now.tree.nodes) (blocks_of both.right.now.tree.nodes) c.in_default.field-0-0
+    let a = c.args.left.now in
+    let b = c.args.right.now in
+    one_alone (words_of a b) (texts_of a b) (blocks_of a.tree.nodes) (blocks_of b.tree.nodes) c.in_default.field-0-0
     c.what_follows-in-body.result c.in_default.not-One-1
-    ∙ rest_here c.args.both.now c.body.left c.body.right _ _ c.form_at-form.ensures.block c.form_at-other_form.ensures.block
+    ∙ rest_here c.args.left.now c.args.right.now c.body.node c.body.other_node _ _ c.form_at-form.ensures.block c.form_at-other_form.ensures.block
     (c.in_default.field-0-0 ∷ []) (followers c.what_follows-in-body.result) (sym c.same_heads.ensures ∙ c.if-not-same_heads.false)
     (sym c.in_default.ensures) (sym c.what_follows-in-body.ensures) ∙ c.body.invariant.3
 
 pub returns-in_default-3 : goal.returns-in_default-3
 returns-in_default-3 t c =
-    let both = c.args.both.now in
-    two_alone (words_of both) (texts_of both) (blocks_of both.left.now.tree.nodes) (blocks_of both.right.now.tree.nodes) c.in_default.field-0-0 c.in_default.field-1-0
+    let a = c.args.left.now in
+    let b = c.args.right.now in
+    two_alone (words_of a b) (texts_of a b) (blocks_of a.tree.nodes) (blocks_of b.tree.nodes) c.in_default.field-0-0 c.in_default.field-1-0
     c.what_follows-in-body.result c.in_default.not-Either-1
-    ∙ rest_here c.args.both.now c.body.left c.body.right _ _ c.form_at-form.ensures.block c.form_at-other_form.ensures.block
+    ∙ rest_here c.args.left.now c.args.right.now c.body.node c.body.other_node _ _ c.form_at-form.ensures.block c.form_at-other_form.ensures.block
     (c.in_default.field-0-0 ∷ c.in_default.field-1-0 ∷ []) (followers c.what_follows-in-body.result) (sym c.same_heads.ensures ∙ c.if-not-same_heads.false)
     (sym c.in_default.ensures) (sym c.what_follows-in-body.ensures) ∙ c.body.invariant.3

@@ -9,9 +9,9 @@ decreases-same_blocks l = l.id.0
 
 abbrev pub invariant-body : goal.invariant-body
 invariant-body l =
-    (l.left.0 < length l.both.left.now.tree.nodes) × (l.right.0 < length l.both.right.now.tree.nodes) × (l.left.0 < l.fn.id.0 + 1)
-    × (same_block (words_of l.both) (texts_of l.both) (block_in (blocks_of l.both.left.now.tree.nodes) l.left) (block_in (blocks_of l.both.right.now.tree.nodes) l.right)
-    ≡ same_block (words_of l.both) (texts_of l.both) (block_in (blocks_of l.both.left.now.tree.nodes) l.fn.id) (block_in (blocks_of l.both.right.now.tree.nodes) l.fn.other))
+    (l.node.0 < length l.left.tree.nodes) × (l.other_node.0 < length l.right.tree.nodes) × (l.node.0 < l.fn.id.0 + 1)
+    × (same_block (words_of l.left l.right) (texts_of l.left l.right) (block_in (blocks_of l.left.tree.nodes) l.node) (block_in (blocks_of l.right.tree.nodes) l.other_node)
+    ≡ same_block (words_of l.left l.right) (texts_of l.left l.right) (block_in (blocks_of l.left.tree.nodes) l.fn.id) (block_in (blocks_of l.right.tree.nodes) l.fn.other))
 
 abbrev pub decreases-body : goal.decreases-body
-decreases-body l = l.left.0
+decreases-body l = l.node.0
