@@ -1,4 +1,4 @@
-use Rattle.std.proofs.Common.{◌≡◌, ◌<◌, List, ◌∷◌, [], true, false, sym, ap, ◌∙◌, subst, arith}
+use Rattle.std.proofs.Common.{◌≡◌, ◌<◌, ℕ, List, ◌∷◌, [], true, false, sym, ap, ◌∙◌, subst, arith}
 use Rattle.std.specs.Prelude.{All, ◌&&◌}
 use Rattle.std.proofs.lemmas.List.Elements.{All-head, All-tail}
 use Rattle.chor_base.specs.declared.rule.Place.{Place}
@@ -13,6 +13,14 @@ use Rattle.chor_tree.specs.Forms.{same_heads}
 use Rattle.chor_tree.specs.Both.{words_of, texts_of, blocks_same}
 use Rattle.chor_tree.proofs.Blocks.{one_follows, two_follow, heads_differ, all_follow, follow_same, none_alone, one_alone, two_alone}
 use Rattle.chor_tree.proofs.comparison.body.+same_blocks.Goals as goal
+
+-- those that follow a node come before it
+first_below : (n : ℕ) (c : NodeId) (ds cs : List NodeId) → c ∷ ds ≡ cs → All (λ (d : NodeId). d.0 < n) cs → c.0 < n
+first_below n c ds cs e a = All-head (λ (d : NodeId). d.0 < n) c ds (subst (All (λ (d : NodeId). d.0 < n)) (sym e) a)
+
+second_below : (n : ℕ) (b c : NodeId) (cs : List NodeId) → b ∷ c ∷ [] ≡ cs → All (λ (d : NodeId). d.0 < n) cs → c.0 < n
+second_below n b c cs e a =
+    All-head (λ (d : NodeId). d.0 < n) c [] (All-tail (λ (d : NodeId). d.0 < n) b (c ∷ []) (subst (All (λ (d : NodeId). d.0 < n)) (sym e) a))
 
 -- the block of a form is the one at this node
 abbrev StandsAt : List Node → NodeId → Form → Type 0
@@ -34,8 +42,8 @@ body-preserved-in-One-this t c =
     let other_form = c.form_at-other_form.result.now in
     let here : children_of form ≡ c.in-One-One.next ∷ [] = sym c.in-One-One.ensures in
     let there : children_of other_form ≡ c.in-One-One.other_next ∷ [] = sym c.in-One-One.ensures' in
-    let below = All-head (λ (d : NodeId). d.0 < c.body.node.0) c.in-One-One.next [] (subst (All (λ (d : NodeId). d.0 < c.body.node.0)) here c.form_at-form.ensures.below) in
-    let other_below = All-head (λ (d : NodeId). d.0 < c.body.other_node.0) c.in-One-One.other_next [] (subst (All (λ (d : NodeId). d.0 < c.body.other_node.0)) there c.form_at-other_form.ensures.below) in
+    let below = first_below c.body.node.0 c.in-One-One.next [] _ c.in-One-One.ensures c.form_at-form.ensures.below in
+    let other_below = first_below c.body.other_node.0 c.in-One-One.other_next [] _ c.in-One-One.ensures' c.form_at-other_form.ensures.below in
     let same : same_heads a b form other_form ≡ true = sym c.same_heads.ensures ∙ c.if-not-same_heads.false in
     let block = c.form_at-form.ensures.block in
     let other_block = c.form_at-other_form.ensures.block in
@@ -56,10 +64,8 @@ body-preserved t c =
     let other_second = c.in-Either-Either.other_second in
     let here : children_of form ≡ first ∷ second ∷ [] = sym c.in-Either-Either.ensures in
     let there : children_of other_form ≡ other_first ∷ other_second ∷ [] = sym c.in-Either-Either.ensures' in
-    let before = subst (All (λ (d : NodeId). d.0 < c.body.node.0)) here c.form_at-form.ensures.below in
-    let other_before = subst (All (λ (d : NodeId). d.0 < c.body.other_node.0)) there c.form_at-other_form.ensures.below in
-    let below = All-head (λ (d : NodeId). d.0 < c.body.node.0) second [] (All-tail (λ (d : NodeId). d.0 < c.body.node.0) first (second ∷ []) before) in
-    let other_below = All-head (λ (d : NodeId). d.0 < c.body.other_node.0) other_second [] (All-tail (λ (d : NodeId). d.0 < c.body.other_node.0) other_first (other_second ∷ []) other_before) in
+    let below = second_below c.body.node.0 first second _ c.in-Either-Either.ensures c.form_at-form.ensures.below in
+    let other_below = second_below c.body.other_node.0 other_first other_second _ c.in-Either-Either.ensures' c.form_at-other_form.ensures.below in
     let same : same_heads a b form other_form ≡ true = sym c.same_heads.ensures ∙ c.if-not-same_heads.false in
     let block = c.form_at-form.ensures.block in
     let other_block = c.form_at-other_form.ensures.block in
@@ -118,3 +124,16 @@ returns-in_default-3 t c =
     ∙ rest_here c.args.left.now c.args.right.now c.body.node c.body.other_node _ _ c.form_at-form.ensures.block c.form_at-other_form.ensures.block
     (c.in_default.field-0-0 ∷ c.in_default.field-1-0 ∷ []) (followers c.what_follows-in-body.result) (sym c.same_heads.ensures ∙ c.if-not-same_heads.false)
     (sym c.in_default.ensures) (sym c.what_follows-in-body.ensures) ∙ c.body.invariant.3
+
+pub body-smaller-in-One-this : goal.body-smaller-in-One-this
+body-smaller-in-One-this t c = first_below c.body.node.0 c.in-One-One.next [] _ c.in-One-One.ensures c.form_at-form.ensures.below
+
+pub body-smaller : goal.body-smaller
+body-smaller t c = second_below c.body.node.0 c.in-Either-Either.first c.in-Either-Either.second _ c.in-Either-Either.ensures c.form_at-form.ensures.below
+
+pub same_blocks-requires : goal.same_blocks-requires
+same_blocks-requires t c =
+    let w = c.in-Either-Either in
+    let before = first_below c.body.node.0 w.first (w.second ∷ []) _ w.ensures c.form_at-form.ensures.below in
+    let other_before = first_below c.body.other_node.0 w.other_first (w.other_second ∷ []) _ w.ensures' c.form_at-other_form.ensures.below in
+    (omega (arith, before, c.body.invariant.2, c.decreases), (omega (arith, before, c.body.invariant.0), omega (arith, other_before, c.body.invariant.1)))
