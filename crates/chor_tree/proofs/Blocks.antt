@@ -1,10 +1,11 @@
 -- The block at a node is made of the blocks at those that follow it.
-use Rattle.std.proofs.Common.{◌≡◌, ℕ, ◌<◌, ◌≤◌, Bool, true, false, List, [], ◌∷◌, length, map, refl, sym, ◌∙◌, Some}
+use Rattle.std.proofs.Common.{◌≡◌, ℕ, ◌<◌, ◌≤◌, Bool, true, false, List, [], ◌∷◌, length, map, refl, sym, ap, ◌∙◌, Some, arith}
 use Rattle.std.specs.Prelude.{slice_get, slice_index_or, All, ◌&&◌}
 use Rattle.std.proofs.lemmas.List.Elements.{All-head, All-tail}
 use Rattle.node_table.proofs.Tables.{tree_at_node, tree_past}
 use Rattle.chor_base.specs.declared.names.NameId.{NameId}
 use Rattle.chor_base.specs.declared.rule.Place.{Place}
+use Rattle.chor_base.specs.Expr.{term_of}
 use Rattle.chor_tree.specs.declared.tree.Form.{Form}
 use Rattle.chor_tree.specs.declared.tree.Form.TheVariants.{Start, Value, Label, Give, Set, Host, Show, If, Call, End}
 use Rattle.chor_tree.specs.declared.tree.Node.{Node}
@@ -13,7 +14,7 @@ use Rattle.chor_tree.specs.declared.walks.Following.{Following}
 use Rattle.chor_tree.specs.declared.walks.Following.TheVariants.{Nothing, One, Either as Two}
 use Rattle.chor_tree.specs.Children.{children_of, IsClosed}
 use Rattle.chor_tree.specs.Following.{followers}
-use Rattle.chor_tree.specs.Source.{procedure_of, Block, Then, Either, Calls, Ends, nowhere, block_in, block_of, node_block, blocks_of, tails_of}
+use Rattle.chor_tree.specs.Source.{procedure_of, Starts, Sends, Selects, Gives, Sets, Asks, Shows, Block, Then, Either, Calls, Ends, nowhere, block_in, block_of, node_block, blocks_of, tails_of}
 use Rattle.chor_tree.specs.declared.file.Proc.{Proc}
 use Rattle.chor_tree.specs.declared.file.File.{File}
 use Rattle.chor_tree.specs.Both.{words_of, texts_of, procedure_same}
@@ -30,14 +31,15 @@ module _ (bs us : List Block) (i : ℕ) (h : (j : ℕ) → j < i → slice_index
 
   -- a form's block depends on the blocks of those before it alone
   form_same : (p : Place) (f : Form) → Before i (children_of f) → block_of us p f ≡ block_of bs p f
-  form_same p (Start c k active serve next) a = let e = at_head next [] a in cc
-  form_same p (Value from e to x k next) a = let g = at_head next [] a in cc
-  form_same p (Label from to k l next) a = let e = at_head next [] a in cc
-  form_same p (Give from to k given next) a = let e = at_head next [] a in cc
-  form_same p (Set q x e next) a = let g = at_head next [] a in cc
-  form_same p (Host q x f l r next) a = let e = at_head next [] a in cc
-  form_same p (Show q e next) a = let g = at_head next [] a in cc
-  form_same p (If q e first second) a = let f = at_head first (second ∷ []) a in let g = at_head second [] (All-tail (λ d. d.0 < i) first (second ∷ []) a) in cc
+  form_same p (Start c k active serve next) a = ap (Then p (Starts c k active serve)) (at_head next [] a)
+  form_same p (Value from e to x k next) a = ap (Then p (Sends from (term_of e) to x k)) (at_head next [] a)
+  form_same p (Label from to k l next) a = ap (Then p (Selects from to k l)) (at_head next [] a)
+  form_same p (Give from to k given next) a = ap (Then p (Gives from to k given)) (at_head next [] a)
+  form_same p (Set q x e next) a = ap (Then p (Sets q x (term_of e))) (at_head next [] a)
+  form_same p (Host q x f l r next) a = ap (Then p (Asks q x f (term_of l) (term_of r))) (at_head next [] a)
+  form_same p (Show q e next) a = ap (Then p (Shows q (term_of e))) (at_head next [] a)
+  form_same p (If q e first second) a =
+      λ j. Either p q (term_of e) (at_head first (second ∷ []) a j) (at_head second [] (All-tail (λ d. d.0 < i) first (second ∷ []) a) j)
   form_same p (Call f ps ss) a = refl
   form_same p End a = refl
 
@@ -205,3 +207,12 @@ procedures_same a b (p ∷ ps) (q ∷ qs) = λ i. procedure_same a b p q && proc
 
 pub rest_same : {A : Type 0} (p : Same A) (x y : A) (xs ys zs ws : List A) → zs ≡ x ∷ xs → ws ≡ y ∷ ys → p x y ≡ true → all_same p xs ys ≡ all_same p zs ws
 rest_same p x y xs ys zs ws e h same = sym ((λ i. all_same p (e i) (h i)) ∙ (λ i. same i && all_same p xs ys))
+
+-- they aren't where the first items aren't, or where one list ends first
+
+pub first_apart : {A : Type 0} (p : Same A) (x y : A) (xs ys zs ws : List A) → zs ≡ x ∷ xs → ws ≡ y ∷ ys → p x y ≡ false → false ≡ all_same p zs ws
+first_apart p x y xs ys zs ws e h differ = sym ((λ i. all_same p (e i) (h i)) ∙ (λ i. differ i && all_same p xs ys))
+
+pub ends_first : {A : Type 0} (p : Same A) (x : A) (xs zs ws : List A) → zs ≡ x ∷ xs → length ws ≡ 0 → false ≡ all_same p zs ws
+ends_first p x xs zs [] e h = sym (λ i. all_same p (e i) [])
+ends_first p x xs zs (w ∷ ws) e h = absurd (omega (arith, h))
