@@ -1,6 +1,6 @@
 //! Parts of two files that are compared.
 
-ghost use Rattle.std.specs.Prelude.{◌≡◌, ◌&&◌, IfSome, IfNone, Some, None, slice_get};
+ghost use Rattle.std.specs.Prelude.{◌≡◌, ◌&&◌};
 ghost use Rattle.chor_base.specs.Writing.{name_in};
 ghost use Rattle.chor_tree.specs.declared.file.File.{File};
 ghost use Rattle.chor_tree.specs.Same.{Same, all_same, same_named, same_part};
@@ -8,7 +8,7 @@ ghost use Rattle.chor_tree.specs.Both.{words_of, texts_of};
 
 use crate::file::{File, Named};
 use crate::tree::Part;
-use chor_base::{List, NameId, Names, Texts};
+use chor_base::{List, NameId, Names};
 
 // What can be compared but for places and the numbers of words. All parts of a thing are compared,
 // even where the first ones differ: each way out of a function has a proof of its own.
@@ -83,25 +83,15 @@ fn word_of(names: &Names, name: NameId) -> &[u8]
     }
 }
 
-// The bytes of a text, if it is in the table.
-fn text_of(texts: &Texts, text: u32) -> Option<&[u8]>
-    ensures some { IfSome result (λ bytes. slice_get texts.now text ≡ Some bytes.now) }
-    ensures none { IfNone result (slice_get texts.now text ≡ None) }
-{
-    if (text as usize) < texts.len() {
-        Some(texts.at(text))
-    } else {
-        None
-    }
-}
-
-// Whether two texts have the same bytes.
+// Whether two texts have the same bytes, or neither is in its table.
 pub fn same_texts(a: u32, b: u32, left: &File, right: &File) -> bool
     ensures { result ≡ texts_of left.now right.now a b }
 {
-    match (text_of(&left.texts, a), text_of(&right.texts, b)) {
-        (Some(a), Some(b)) => a == b,
-        (None, None) => true,
-        _ => false,
+    if (a as usize) >= left.texts.len() {
+        return (b as usize) >= right.texts.len();
     }
+    if (b as usize) >= right.texts.len() {
+        return false;
+    }
+    left.texts.at(a) == right.texts.at(b)
 }
