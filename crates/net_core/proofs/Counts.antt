@@ -1,5 +1,5 @@
 -- Numbers of processes, and first loads.
-use Rattle.std.proofs.Common.{◌≡◌, ℕ, zero, suc, List, [], ◌∷◌, refl, sym, ap, ◌∙◌, Some, None, drop}
+use Rattle.std.proofs.Common.{◌≡◌, ◌≤◌, ◌<◌, arith, ℕ, zero, suc, List, [], ◌∷◌, refl, sym, ap, ◌∙◌, Some, None, drop}
 use Rattle.std.specs.Prelude.{slice_get, map}
 use Rattle.chor_base.specs.declared.value.Load.{Load}
 use Rattle.endpoint_machine.specs.Views.{MachineView}
@@ -19,3 +19,6 @@ no_first (l ∷ ls) h = absurd cc
 pub first_rest : (ls : List Load) (l : Load) → slice_get ls 0 ≡ Some l → ls ≡ l ∷ drop 1 ls
 first_rest [] l h = absurd cc
 first_rest (x ∷ ls) l h = let same : x ≡ l = cc in ap (λ (y : Load). y ∷ ls) same
+
+pub not_below : {p k : ℕ} → k ≤ p → p < k → ⊥
+not_below le lt = omega arith

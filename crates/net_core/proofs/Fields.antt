@@ -63,6 +63,33 @@ served_most (x ∷ ks) c k h = go (x.name.0 == c.0) refl (served_most ks c k)
         omega arith
     go false e more = let i = more (sym (ap (λ (b : Bool). cond b (Some x) (channel_of ks c)) e) ∙ h) in omega arith
 
+-- what has become of a network that was the same but for room
+
+pub grown_after : (v w new : NetworkView) → IsSame v w → HasGrown w new → HasGrown v new
+grown_after v w new same g = record {
+  sid = subst (λ (n : NetworkState). new.state.sid ≤ n.sid + 1) same.state g.sid;
+  kept = subst (λ (n : NetworkState). length n.machines ≤ length new.state.machines) same.state g.kept;
+  machines = subst (λ (e : Endpoints). length new.state.machines ≤ length v.state.machines + most_served e.channels) same.endpoints
+      (subst (λ (n : NetworkState). length new.state.machines ≤ length n.machines + most_served w.endpoints.channels) same.state g.machines);
+}
+
+pub stepped_after : (hosts : Endpoints → Hosts) (v w new : NetworkView) (p : ℕ) → IsSame v w → HasStepped (hosts w.endpoints) w p new → HasStepped (hosts v.endpoints) v p new
+stepped_after hosts v w new p same s =
+    let b = s.becomes in
+    record {
+      event = s.event;
+      state = s.state;
+      becomes = record {
+        endpoints = b.endpoints ∙ same.endpoints;
+        capacity = b.capacity ∙ same.capacity;
+        state = b.state;
+        history = b.history ∙ ap (λ (es : List Entry). es ++ record { worker = 0; event = s.event } ∷ []) same.history;
+      };
+      chooses = subst (λ (e : Endpoints). Chooses e (hosts e) v.capacity v.state p s.event s.state) same.endpoints
+          (subst (λ (k : Option ℕ). Chooses w.endpoints (hosts w.endpoints) k v.state p s.event s.state) same.capacity
+          (subst (λ (n : NetworkState). Chooses w.endpoints (hosts w.endpoints) w.capacity n p s.event s.state) same.state s.chooses));
+    }
+
 -- a start draws one session number, and a process number for each service role of its channel
 pub grown_begun : (old : NetworkView) (k : Channel) (parts : List (NameId × ℕ)) (new : NetworkView) → channel_of old.endpoints.channels k.name ≡ Some k → HasBegun old k parts new → HasGrown old new
 grown_begun old k parts new found h =

@@ -1,8 +1,8 @@
 -- Where a process can step, the pick rule may take one.
 use Rattle.std.proofs.Common.{◌≡◌, ℕ, zero, suc, ◌<◌, ◌==◌, ◌&&◌, ◌||◌, Bool, true, false, cond, List, [], ◌∷◌, length, refl, sym, ap, ◌∙◌, Option, Some, None, arith, is_some}
 use Rattle.std.specs.Prelude.{slice_get}
-use Rattle.std.proofs.lemmas.Bool.{and_parts, eq-eqb}
-use Rattle.std.proofs.lemmas.Option.{slice_get_within}
+use Rattle.std.proofs.lemmas.Bool.{and_parts, eq-eqb, true≢false}
+use Rattle.std.proofs.lemmas.Option.{slice_get_within, same_Some, none-some}
 use Rattle.chor_base.specs.declared.names.NameId.{NameId}
 use Rattle.chor_base.specs.declared.event.Why.{Why}
 use Rattle.chor_base.specs.declared.event.Why.TheVariants.{Absent}
@@ -26,39 +26,39 @@ record JoinPlace (o : Option Place) (c r : NameId) : Type 0 where
   sessions : Sessions
   is : o ≡ Some (record { node = Join c r session next; sessions = sessions })
 
+join_node : (ss : Sessions) (c r : NameId) (node : CodeNode) → joins_there (Some (record { node = node; sessions = ss })) c r ≡ true → JoinPlace (Some (record { node = node; sessions = ss })) c r
+join_node ss c r (Join d o k next) h =
+    let parts = and_parts (d.0 == c.0) (o.0 == r.0) h in
+    let one = name_same d c parts.0 in
+    let two = name_same o r parts.1 in
+    record {
+      session = k;
+      next = next;
+      sessions = ss;
+      is =
+          ap (λ (x : NameId). Some (let q : Place = record { node = Join x o k next; sessions = ss } in q)) one
+          ∙ ap (λ (x : NameId). Some (let q : Place = record { node = Join c x k next; sessions = ss } in q)) two;
+    }
+join_node ss c r (Send k b x next) h = absurd (true≢false (sym h))
+join_node ss c r (Recv k b x next) h = absurd (true≢false (sym h))
+join_node ss c r (Pick k b l next) h = absurd (true≢false (sym h))
+join_node ss c r (Branch k b arms) h = absurd (true≢false (sym h))
+join_node ss c r (Throw k b l next) h = absurd (true≢false (sym h))
+join_node ss c r (Catch k b l next) h = absurd (true≢false (sym h))
+join_node ss c r (Set x v next) h = absurd (true≢false (sym h))
+join_node ss c r (Show v next) h = absurd (true≢false (sym h))
+join_node ss c r (Host x f v w next) h = absurd (true≢false (sym h))
+join_node ss c r (If v t u) h = absurd (true≢false (sym h))
+join_node ss c r (Call f o ns) h = absurd (true≢false (sym h))
+join_node ss c r End h = absurd (true≢false (sym h))
+
 join_place : (o : Option Place) (c r : NameId) → joins_there o c r ≡ true → JoinPlace o c r
-join_place None c r h = absurd cc
-join_place (Some p) c r h = at_node p.node h
-  where
-    at_node : (node : CodeNode) → joins_there (Some (record { node = node; sessions = p.sessions })) c r ≡ true → JoinPlace (Some (record { node = node; sessions = p.sessions })) c r
-    at_node (Join d o k next) h =
-        let parts = and_parts (d.0 == c.0) (o.0 == r.0) h in
-        let one = name_same d c parts.0 in
-        let two = name_same o r parts.1 in
-        record {
-          session = k;
-          next = next;
-          sessions = p.sessions;
-          is =
-              ap (λ (x : NameId). Some (let q : Place = record { node = Join x o k next; sessions = p.sessions } in q)) one
-              ∙ ap (λ (x : NameId). Some (let q : Place = record { node = Join c x k next; sessions = p.sessions } in q)) two;
-        }
-    at_node (Send k b x next) h = absurd cc
-    at_node (Recv k b x next) h = absurd cc
-    at_node (Pick k b l next) h = absurd cc
-    at_node (Branch k b arms) h = absurd cc
-    at_node (Throw k b l next) h = absurd cc
-    at_node (Catch k b l next) h = absurd cc
-    at_node (Set x v next) h = absurd cc
-    at_node (Show v next) h = absurd cc
-    at_node (Host x f v w next) h = absurd cc
-    at_node (If v t u) h = absurd cc
-    at_node (Call f o ss) h = absurd cc
-    at_node End h = absurd cc
+join_place None c r h = absurd (true≢false (sym h))
+join_place (Some p) c r h = join_node p.sessions c r p.node h
 
 -- some process joins
 pub joined_at : (e : Endpoints) (ms : List Machine) (c r : NameId) → is_joined e ms c r ≡ true → (i : ℕ) × (m : Machine) × (slice_get ms i ≡ Some m) × (joins_there (place_of e m) c r ≡ true)
-joined_at e [] c r h = absurd cc
+joined_at e [] c r h = absurd (true≢false (sym h))
 joined_at e (m ∷ ms) c r h = go (joins_there (place_of e m) c r) refl (joined_at e ms c r) h
   where
     go : (b : Bool) → joins_there (place_of e m) c r ≡ b → (is_joined e ms c r ≡ true → (i : ℕ) × (n : Machine) × (slice_get ms i ≡ Some n) × (joins_there (place_of e n) c r ≡ true)) → (b || is_joined e ms c r) ≡ true → (i : ℕ) × (n : Machine) × (slice_get (m ∷ ms) i ≡ Some n) × (joins_there (place_of e n) c r ≡ true)
@@ -66,10 +66,8 @@ joined_at e (m ∷ ms) c r h = go (joins_there (place_of e m) c r) refl (joined_
     go false t more k = let f = more k in (suc f.0, f.1, f.2, f.3)
 
 pub joined_by : (e : Endpoints) (ms : List Machine) (c r : NameId) (i : ℕ) (m : Machine) → slice_get ms i ≡ Some m → joins_there (place_of e m) c r ≡ true → is_joined e ms c r ≡ true
-joined_by e [] c r i m h j = absurd cc
-joined_by e (x ∷ ms) c r zero m h j =
-    let same : x ≡ m = cc in
-    ap (λ (b : Bool). b || is_joined e ms c r) (ap (λ (n : Machine). joins_there (place_of e n) c r) same ∙ j)
+joined_by e [] c r i m h j = absurd (none-some m h)
+joined_by e (x ∷ ms) c r zero m h j = ap (λ (b : Bool). b || is_joined e ms c r) (ap (λ (n : Machine). joins_there (place_of e n) c r) (same_Some x m h) ∙ j)
 joined_by e (x ∷ ms) c r (suc i) m h j = go (joins_there (place_of e x) c r) (joined_by e ms c r i m h j)
   where
     go : (b : Bool) → is_joined e ms c r ≡ true → (b || is_joined e ms c r) ≡ true
@@ -88,7 +86,7 @@ all_joined e ms c own other (r ∷ rs) j h = go (r.0 == own.0) (is_joined e ms c
     go : (a b : Bool) → (r.0 == own.0) ≡ a → is_joined e ms c r ≡ b → cond (a || b) (absent_among e ms c own rs) (Some (Absent c r)) ≡ None → (absent_among e ms c own rs ≡ None → absent_among e ms c other rs ≡ None) → absent_among e ms c other (r ∷ rs) ≡ None
     go true b s t k more = join_in (r.0 == other.0) (ap (is_joined e ms c) (name_same r own s) ∙ j) ∙ more k
     go false true s t k more = join_in (r.0 == other.0) t ∙ more k
-    go false false s t k more = absurd cc
+    go false false s t k more = absurd (none-some _ (sym k))
 
 role_joined : (e : Endpoints) (ms : List Machine) (c own r : NameId) (rs : List NameId) → is_joined e ms c own ≡ true → absent_among e ms c own (r ∷ rs) ≡ None → is_joined e ms c r ≡ true
 role_joined e ms c own r rs j h = go (r.0 == own.0) (is_joined e ms c r) refl refl h
@@ -96,7 +94,7 @@ role_joined e ms c own r rs j h = go (r.0 == own.0) (is_joined e ms c r) refl re
     go : (a b : Bool) → (r.0 == own.0) ≡ a → is_joined e ms c r ≡ b → cond (a || b) (absent_among e ms c own rs) (Some (Absent c r)) ≡ None → b ≡ true
     go true b s t k = sym t ∙ ap (is_joined e ms c) (name_same r own s) ∙ j
     go false true s t k = refl
-    go false false s t k = absurd cc
+    go false false s t k = absurd (none-some _ (sym k))
 
 -- a process at a join can step where nobody is absent
 join_steps : (e : Endpoints) (cap : Option ℕ) (n : NetworkState) (m : Machine) (c r : NameId) → JoinPlace (place_of e m) c r → absent_on e n.machines c r (channel_of e.channels c) ≡ None → can_step e cap n m ≡ true
@@ -109,9 +107,9 @@ steps_free : (e : Endpoints) (cap : Option ℕ) (n : NetworkState) (m : Machine)
 steps_free e cap n m h = go (has_ended e m) (waits_for e cap n m) h
   where
     go : (b : Bool) (o : Option Why) → cond b false (cond (is_some o) false true) ≡ true → o ≡ None
-    go true o h = absurd cc
+    go true o h = absurd (true≢false (sym h))
     go false None h = refl
-    go false (Some w) h = absurd cc
+    go false (Some w) h = absurd (true≢false (sym h))
 
 -- a process that is listed
 abbrev Listed : Endpoints → Option ℕ → NetworkState → Type 0
@@ -136,7 +134,7 @@ leader e cap n i m c r there p active steps = go active.0.active refl
     here = sym (ap (absent_on e n.machines c r) active.1) ∙ free
 
     go : (roles : List NameId) → active.0.active ≡ roles → Listed e cap n
-    go [] s = let a : is_among r [] ≡ true = sym (ap (is_among r) s) ∙ active.2 in absurd cc
+    go [] s = let a : is_among r [] ≡ true = sym (ap (is_among r) s) ∙ active.2 in absurd (true≢false (sym a))
     go (f ∷ fs) s =
         let all : absent_among e n.machines c r (f ∷ fs) ≡ None = sym (ap (absent_among e n.machines c r) s) ∙ here in
         let first = joined_at e n.machines c f (role_joined e n.machines c r f fs joined all) in
@@ -156,7 +154,7 @@ listed_one : (e : Endpoints) (cap : Option ℕ) (n : NetworkState) (i : ℕ) (m 
 listed_one e cap n i m node s there steps = go node s.at_node.found s.at_node.place
   where
     same : s.machine ≡ m
-    same = let a : Some s.machine ≡ Some m = sym s.there ∙ there in cc
+    same = same_Some s.machine m (sym s.there ∙ there)
 
     itself : listed_at e (place_of e s.machine) ≡ true → Listed e cap n
     itself h = (i, m, there, ap (λ (b : Bool). b && listed_at e (place_of e m)) steps ∙ ap (λ (x : Machine). listed_at e (place_of e x)) (sym same) ∙ h)
@@ -177,17 +175,20 @@ listed_one e cap n i m node s there steps = go node s.at_node.found s.at_node.pl
     go (Call g o ss) f p = itself (ap (listed_at e) p)
     go End f p = itself (ap (listed_at e) p)
 
+not_empty : {x : ℕ} {xs : List ℕ} → x ∷ xs ≡ [] → ⊥
+not_empty h = cc
+
 unlisted : (e : Endpoints) (cap : Option ℕ) (n : NetworkState) (i : ℕ) (ms : List Machine) → listed_from e cap n i ms ≡ [] → (j : ℕ) (m : Machine) → slice_get ms j ≡ Some m → is_listed e cap n m ≡ false
-unlisted e cap n i [] h j m t = absurd cc
+unlisted e cap n i [] h j m t = absurd (none-some m t)
 unlisted e cap n i (x ∷ ms) h zero m t = go (is_listed e cap n x) refl h
   where
     go : (b : Bool) → is_listed e cap n x ≡ b → cond b (i ∷ listed_from e cap n (suc i) ms) (listed_from e cap n (suc i) ms) ≡ [] → is_listed e cap n m ≡ false
-    go true s k = absurd cc
-    go false s k = let same : x ≡ m = cc in ap (is_listed e cap n) (sym same) ∙ s
+    go true s k = absurd (not_empty k)
+    go false s k = ap (is_listed e cap n) (sym (same_Some x m t)) ∙ s
 unlisted e cap n i (x ∷ ms) h (suc j) m t = go (is_listed e cap n x) h (λ k. unlisted e cap n (suc i) ms k j m t)
   where
     go : (b : Bool) → cond b (i ∷ listed_from e cap n (suc i) ms) (listed_from e cap n (suc i) ms) ≡ [] → (listed_from e cap n (suc i) ms ≡ [] → is_listed e cap n m ≡ false) → is_listed e cap n m ≡ false
-    go true k more = absurd cc
+    go true k more = absurd (not_empty k)
     go false k more = more k
 
 none_steps : (e : Endpoints) (cap : Option ℕ) (n : NetworkState) (ms : List Machine) → ((j : ℕ) (m : Machine) → slice_get ms j ≡ Some m → can_step e cap n m ≡ false) → none_can_step e cap n ms ≡ true
@@ -206,9 +207,7 @@ none_listed e cap n stand h = none_steps e cap n n.machines each
         go true s =
             let p = stand j (slice_get_within n.machines j m t) in
             let l = listed_one e cap n j m p.0 p.1 t s in
-            let no = unlisted e cap n 0 n.machines h l.0 l.1 l.2 in
-            let yes = l.3 in
-            cc
+            sym l.3 ∙ unlisted e cap n 0 n.machines h l.0 l.1 l.2
 
 -- and where no process can step, it has nothing to take
 pub listed_none : (e : Endpoints) (cap : Option ℕ) (n : NetworkState) (i : ℕ) (ms : List Machine) → none_can_step e cap n ms ≡ true → listed_from e cap n i ms ≡ []
@@ -216,7 +215,7 @@ listed_none e cap n i [] h = refl
 listed_none e cap n i (m ∷ ms) h = go (can_step e cap n m) refl h (λ k. listed_none e cap n (suc i) ms k)
   where
     go : (b : Bool) → can_step e cap n m ≡ b → cond b false (none_can_step e cap n ms) ≡ true → (none_can_step e cap n ms ≡ true → listed_from e cap n (suc i) ms ≡ []) → cond (can_step e cap n m && listed_at e (place_of e m)) (i ∷ listed_from e cap n (suc i) ms) (listed_from e cap n (suc i) ms) ≡ []
-    go true s k more = absurd cc
+    go true s k more = absurd (true≢false (sym k))
     go false s k more = ap (λ (b : Bool). cond (b && listed_at e (place_of e m)) (i ∷ listed_from e cap n (suc i) ms) (listed_from e cap n (suc i) ms)) s ∙ more k
 
 pub empty_of_length : (xs : List ℕ) → length xs ≡ 0 → xs ≡ []

@@ -1,6 +1,7 @@
 -- Following an event that one process makes.
 use Rattle.std.proofs.Common.{◌≡◌, ℕ, ℤ, pos, Bool, true, false, cond, List, [], ◌∷◌, ◌++◌, refl, sym, ap, ◌∙◌, subst, Option, Some, None, is_some}
 use Rattle.std.specs.Prelude.{slice_get}
+use Rattle.std.proofs.lemmas.Option.{none-some, same_Some}
 use Rattle.std.specs.FinMap as fin
 use Rattle.chor_base.specs.declared.names.NameId.{NameId}
 use Rattle.chor_base.specs.declared.value.Load.{Load}
@@ -42,14 +43,15 @@ one_event {x = x} h i = ap (λ (o : Option Made). event_in o x) (sym h ∙ i)
 
 -- ---- sending
 
+one_lane : (t s : ℕ) (d a c b : NameId) → Some (head.Out t d c) ≡ Some (head.Out s a b) → (t ≡ s) × (d ≡ a) × (c ≡ b)
+one_lane t s d a c b h = (cc, cc, cc)
+
 puts_as : (cap : Option ℕ) (n : NetworkState) (p s : ℕ) (a b c : NameId) (o : Option (ℕ × NameId)) (u : Option Load) (l : Load) → has_room cap (queue_of n (s, a, b)) ≡ true → sends_on o c ≡ Some (head.Out s a b) → u ≡ Some l → (k : NetworkState) × (puts cap n p c o u ≡ Some (Makes (event.Send p s a b l) k))
-puts_as cap n p s a b c None u l room h i = absurd cc
-puts_as cap n p s a b c (Some (t, d)) None l room h i = absurd cc
+puts_as cap n p s a b c None u l room h i = absurd (none-some _ h)
+puts_as cap n p s a b c (Some (t, d)) None l room h i = absurd (none-some l i)
 puts_as cap n p s a b c (Some (t, d)) (Some r) l room h i =
-    let es : t ≡ s = cc in
-    let ea : d ≡ a = cc in
-    let eb : c ≡ b = cc in
-    let el : r ≡ l = cc in
+    let (es, ea, eb) = one_lane t s d a c b h in
+    let el = same_Some r l i in
     let here : has_room cap (queue_of n (t, d, c)) ≡ true = ap (λ (z : ℕ). has_room cap (queue_of n (z, d, c))) es ∙ ap (λ (z : NameId). has_room cap (queue_of n (s, z, c))) ea ∙ ap (λ (z : NameId). has_room cap (queue_of n (s, a, z))) eb ∙ room in
     (with_queue n (t, d, c) (queue_of n (t, d, c) ++ r ∷ []), ap (λ (y : Bool). put_if y n p (t, d, c) r) here ∙ ap (λ (x : Event). Some (Makes x (with_queue n (t, d, c) (queue_of n (t, d, c) ++ r ∷ [])))) (ap (λ (z : ℕ). event.Send p z d c r) es ∙ ap (λ (z : NameId). event.Send p s z c r) ea ∙ ap (λ (z : NameId). event.Send p s a z r) eb ∙ ap (λ (z : Load). event.Send p s a b z) el))
 
@@ -57,16 +59,16 @@ node_sends : (cap : Option ℕ) (n : NetworkState) (p s : ℕ) (a b : NameId) (v
 node_sends cap n p s a b v vars m (Send j c e next) l room h i = puts_as cap (moved n p next vars m) p s a b c (fin.get m j.0) (Some (Carries (value_of (term_of e) vars))) l room h i
 node_sends cap n p s a b v vars m (Pick j c r next) l room h i = puts_as cap (moved n p next vars m) p s a b c (fin.get m j.0) (Some (Picks r)) l room h i
 node_sends cap n p s a b v vars m (Throw j c g next) l room h i = puts_as cap (moved n p next vars (fin.remove m g.0)) p s a b c (fin.get m j.0) (part_load (fin.get m g.0)) l room h i
-node_sends cap n p s a b v vars m (Recv j c x next) l room h i = absurd cc
-node_sends cap n p s a b v vars m (Branch j c arms) l room h i = absurd cc
-node_sends cap n p s a b v vars m (Catch j c x next) l room h i = absurd cc
-node_sends cap n p s a b v vars m (Join c r j next) l room h i = absurd cc
-node_sends cap n p s a b v vars m (Set x w next) l room h i = absurd cc
-node_sends cap n p s a b v vars m (Show w next) l room h i = absurd cc
-node_sends cap n p s a b v vars m (Host x f c d next) l room h i = absurd cc
-node_sends cap n p s a b v vars m (If w c d) l room h i = absurd cc
-node_sends cap n p s a b v vars m (Call f r ns) l room h i = absurd cc
-node_sends cap n p s a b v vars m End l room h i = absurd cc
+node_sends cap n p s a b v vars m (Recv j c x next) l room h i = absurd (none-some l i)
+node_sends cap n p s a b v vars m (Branch j c arms) l room h i = absurd (none-some l i)
+node_sends cap n p s a b v vars m (Catch j c x next) l room h i = absurd (none-some l i)
+node_sends cap n p s a b v vars m (Join c r j next) l room h i = absurd (none-some l i)
+node_sends cap n p s a b v vars m (Set x w next) l room h i = absurd (none-some l i)
+node_sends cap n p s a b v vars m (Show w next) l room h i = absurd (none-some l i)
+node_sends cap n p s a b v vars m (Host x f c d next) l room h i = absurd (none-some l i)
+node_sends cap n p s a b v vars m (If w c d) l room h i = absurd (none-some l i)
+node_sends cap n p s a b v vars m (Call f r ns) l room h i = absurd (none-some l i)
+node_sends cap n p s a b v vars m End l room h i = absurd (none-some l i)
 
 made_sending : (e : Endpoints) (cap : Option ℕ) (n : NetworkState) (p s : ℕ) (a b : NameId) (v : ℤ) (m : Machine) (l : Load) → has_room cap (queue_of n (s, a, b)) ≡ true → slice_get n.machines p ≡ Some m → head_of e m ≡ Some (head.Out s a b) → load_of e m ≡ Some l → (k : NetworkState) × (makes e cap n p v ≡ Some (Makes (event.Send p s a b l) k))
 made_sending e cap n p s a b v m l room there h i = let r = at_place (place_of e m) h i in (r.0, ap (machine_makes e cap n p v) there ∙ r.1)

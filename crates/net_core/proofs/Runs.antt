@@ -1,11 +1,11 @@
 -- Turns and runs by the pick rule.
 use Rattle.std.proofs.Common.{◌≡◌, inl, inr, ℕ, zero, suc, ◌+◌, ◌-◌, ◌*◌, ◌%◌, ◌^◌, ◌<◌, ◌≤◌, ◌&&◌, Bool, true, false, cond, List, [], ◌∷◌, ◌++◌, length, refl, sym, ap, ◌∙◌, subst, Option, Some, None, arith, is_some, append_assoc}
 use Rattle.std.specs.Prelude.{slice_get, ◌≢◌}
-use Rattle.std.proofs.lemmas.Option.{slice_get_within, some_pair_parts}
+use Rattle.std.proofs.lemmas.Option.{slice_get_within, some_pair_parts, same_Some, none-some}
 use Rattle.std.proofs.lemmas.List.{append-nil, length-append, length-map, map-append}
 use Rattle.std.proofs.Math.Nat.{suc-mul}
 use native.Mathlib.Nat.{mul-le-mul}
-use Rattle.std.proofs.lemmas.Bool.{and_parts}
+use Rattle.std.proofs.lemmas.Bool.{and_parts, true≢false}
 use Rattle.chor_base.specs.declared.event.Event.{Event}
 use Rattle.chor_base.specs.declared.event.Entry.{Entry}
 use Rattle.chor_base.specs.declared.event.Why.{Why}
@@ -18,13 +18,46 @@ use Rattle.endpoint_code.specs.Scheduled as close
 use Rattle.endpoint_code.specs.Network.{place_of}
 use Rattle.net_core.specs.declared.answer.Picked.{Picked}
 use Rattle.net_core.specs.declared.answer.Picked.TheVariants.{Ended, Limit, Stuck, Memory}
-use Rattle.net_core.specs.Heads.{steps_at, steps_of, why_at, why_of, ended_at, ended_of}
+use Rattle.endpoint_machine.specs.declared.head.Head.{Head}
+use Rattle.net_core.specs.Heads.{Shows, is_end, steps_at, steps_of, why_at, why_of, ended_at, ended_of}
 use Rattle.net_core.specs.Views.{NetworkView}
 use Rattle.net_core.specs.Steps.{HasStepped, AreFew, FitsMore, HasGrown, most_served}
 use Rattle.net_core.specs.Picks.{Underway, GoesOn, stays, goes, entries_of, HasRun, HasGone, Runs, HasTurned, HasClosed, Turns, IsStuck}
 use Rattle.net_core.proofs.Leaders.{some_there}
 use Rattle.net_core.proofs.Scopes.{length-standing_all}
 use Rattle.net_core.proofs.Numbers.{grown_by_none, grown_by_more, grown_by_same, grown_by_both}
+
+-- ---- numbers
+
+later_place : (p i j : ℕ) → p ≡ suc i + j → p ≡ i + suc j
+later_place p i j h = omega arith
+
+own_place : (i p : ℕ) → i ≡ p → p ≡ i + zero
+own_place i p h = omega arith
+
+at_first : (p j : ℕ) → p ≡ 0 + j → j ≡ p
+at_first p j h = omega arith
+
+at_end : (j k : ℕ) → j ≡ k + 0 → j ≡ k
+at_end j k h = omega arith
+
+at_next : (j k n : ℕ) → j ≡ k + suc n → j ≡ suc k + n
+at_next j k n h = omega arith
+
+one_left : (a b s : ℕ) → b ≡ a + 1 → a ≤ s → a ≢ s → s - a ≡ suc (s - b)
+one_left a b s longer before other = omega arith
+
+still_before : (a b s : ℕ) → b ≡ a + 1 → a ≤ s → a ≢ s → b ≤ s
+still_before a b s longer before other = omega arith
+
+added_below : (a b c n : ℕ) → a + b < n → c ≤ b → a + c < n
+added_below a b c n lt le = omega arith
+
+next_below : (a b k n : ℕ) → a + suc k < n → b ≤ a + 1 → b + k < n
+next_below a b k n lt le = omega arith
+
+grown_below : (a b k m n : ℕ) → a + suc k * m < n → b ≤ a + m → b + k * m < n
+grown_below a b k m n lt le = omega (arith, suc-mul k m)
 
 -- ---- the first process that hasn't ended
 
@@ -34,7 +67,7 @@ some_waiting e cap n i (m ∷ ms) a h = go (has_ended e m) a h (some_waiting e c
   where
     go : (b : Bool) → (b && all_ended e ms) ≡ false → cond b (first_waiting_from e cap n (suc i) ms) (Some (i, waits_for e cap n m)) ≡ None → (all_ended e ms ≡ false → first_waiting_from e cap n (suc i) ms ≡ None → ⊥) → ⊥
     go true s k more = more s k
-    go false s k more = cc
+    go false s k more = none-some _ (sym k)
 
 -- a machine at a place
 record Item (ms : List Machine) (i : ℕ) : Type 0 where
@@ -49,35 +82,33 @@ record FirstWaiting (e : Endpoints) (cap : Option ℕ) (n : NetworkState) (i : �
   why : w ≡ waits_for e cap n item.machine
 
 first_found : (e : Endpoints) (cap : Option ℕ) (n : NetworkState) (i : ℕ) (ms : List Machine) (p : ℕ) (w : Option Why) → first_waiting_from e cap n i ms ≡ Some (p, w) → FirstWaiting e cap n i ms p w
-first_found e cap n i [] p w h = absurd cc
+first_found e cap n i [] p w h = absurd (none-some _ h)
 first_found e cap n i (m ∷ ms) p w h = go (has_ended e m) refl h (first_found e cap n (suc i) ms p w)
   where
     go : (b : Bool) → has_ended e m ≡ b → cond b (first_waiting_from e cap n (suc i) ms) (Some (i, waits_for e cap n m)) ≡ Some (p, w) → (first_waiting_from e cap n (suc i) ms ≡ Some (p, w) → FirstWaiting e cap n (suc i) ms p w) → FirstWaiting e cap n i (m ∷ ms) p w
-    go true s k more = let f = more k in let number : p ≡ suc i + f.place = f.number in
-        record { place = suc f.place; number = omega arith; item = record { machine = f.item.machine; there = f.item.there }; unended = f.unended; why = f.why }
+    go true s k more = let f = more k in
+        record { place = suc f.place; number = later_place p i f.place f.number; item = record { machine = f.item.machine; there = f.item.there }; unended = f.unended; why = f.why }
     go false s k more =
         let parts = some_pair_parts i p (waits_for e cap n m) w k in
-        let number : i ≡ p = parts.0 in
-        record { place = zero; number = omega arith; item = record { machine = m; there = refl }; unended = s; why = sym parts.1 }
+        record { place = zero; number = own_place i p parts.0; item = record { machine = m; there = refl }; unended = s; why = sym parts.1 }
 
 none_at : (e : Endpoints) (cap : Option ℕ) (n : NetworkState) (ms : List Machine) (j : ℕ) (m : Machine) → none_can_step e cap n ms ≡ true → slice_get ms j ≡ Some m → can_step e cap n m ≡ false
-none_at e cap n [] j m h t = absurd cc
+none_at e cap n [] j m h t = absurd (none-some m t)
 none_at e cap n (x ∷ ms) j m h t = go (can_step e cap n x) refl h j t (λ k i u. none_at e cap n ms i m k u)
   where
     go : (b : Bool) → can_step e cap n x ≡ b → cond b false (none_can_step e cap n ms) ≡ true → (i : ℕ) → slice_get (x ∷ ms) i ≡ Some m → (none_can_step e cap n ms ≡ true → (i : ℕ) → slice_get ms i ≡ Some m → can_step e cap n m ≡ false) → can_step e cap n m ≡ false
-    go true s k i u more = absurd cc
-    go false s k zero u more = let same : x ≡ m = cc in ap (can_step e cap n) (sym same) ∙ s
+    go true s k i u more = absurd (true≢false (sym k))
+    go false s k zero u more = ap (can_step e cap n) (sym (same_Some x m u)) ∙ s
     go false s k (suc i) u more = more k i u
 
 waits_some : (e : Endpoints) (cap : Option ℕ) (n : NetworkState) (m : Machine) → has_ended e m ≡ false → can_step e cap n m ≡ false → waits_for e cap n m ≡ None → ⊥
-waits_some e cap n m u s h = let a : can_step e cap n m ≡ true = ap (λ (b : Bool). cond b false (cond (is_some (waits_for e cap n m)) false true)) u ∙ ap (λ (w : Option Why). cond (is_some w) false true) h in cc
+waits_some e cap n m u s h = let a : can_step e cap n m ≡ true = ap (λ (b : Bool). cond b false (cond (is_some (waits_for e cap n m)) false true)) u ∙ ap (λ (w : Option Why). cond (is_some w) false true) h in true≢false (sym a ∙ s)
 
 pub first_within : (e : Endpoints) (cap : Option ℕ) (n : NetworkState) (p : ℕ) (w : Option Why) → first_waiting e cap n ≡ Some (p, w) → p < length n.machines
 first_within e cap n p w h =
     let f = first_found e cap n 0 n.machines p w h in
     let within = slice_get_within n.machines f.place f.item.machine f.item.there in
-    let number : p ≡ 0 + f.place = f.number in
-    omega arith
+    subst (λ (k : ℕ). k < length n.machines) (at_first p f.place f.number) within
 
 pub first_waits : (e : Endpoints) (cap : Option ℕ) (n : NetworkState) (p : ℕ) (w : Option Why) → first_waiting e cap n ≡ Some (p, w) → none_can_step e cap n n.machines ≡ true → w ≡ None → ⊥
 first_waits e cap n p w h none absent =
@@ -87,7 +118,7 @@ first_waits e cap n p w h none absent =
 -- ---- the picked process
 
 picked_item : (xs : List ℕ) (k p : ℕ) → picked_of xs k ≡ Some p → (i : ℕ) × (slice_get xs i ≡ Some p)
-picked_item [] k p h = absurd cc
+picked_item [] k p h = absurd (none-some p h)
 picked_item (x ∷ xs) k p h = (k % length (x ∷ xs), h)
 
 record ListedItem (e : Endpoints) (cap : Option ℕ) (n : NetworkState) (i : ℕ) (ms : List Machine) (p : ℕ) : Type 0 where
@@ -97,14 +128,14 @@ record ListedItem (e : Endpoints) (cap : Option ℕ) (n : NetworkState) (i : ℕ
   listed : is_listed e cap n item.machine ≡ true
 
 listed_item : (e : Endpoints) (cap : Option ℕ) (n : NetworkState) (i : ℕ) (ms : List Machine) (j p : ℕ) → slice_get (listed_from e cap n i ms) j ≡ Some p → ListedItem e cap n i ms p
-listed_item e cap n i [] j p h = absurd cc
+listed_item e cap n i [] j p h = absurd (none-some p h)
 listed_item e cap n i (m ∷ ms) j p h = go (is_listed e cap n m) refl j h (λ k u. listed_item e cap n (suc i) ms k p u)
   where
     later : ListedItem e cap n (suc i) ms p → ListedItem e cap n i (m ∷ ms) p
-    later f = let number : p ≡ suc i + f.place = f.number in record { place = suc f.place; number = omega arith; item = record { machine = f.item.machine; there = f.item.there }; listed = f.listed }
+    later f = record { place = suc f.place; number = later_place p i f.place f.number; item = record { machine = f.item.machine; there = f.item.there }; listed = f.listed }
 
     go : (b : Bool) → is_listed e cap n m ≡ b → (j : ℕ) → slice_get (cond b (i ∷ listed_from e cap n (suc i) ms) (listed_from e cap n (suc i) ms)) j ≡ Some p → ((k : ℕ) → slice_get (listed_from e cap n (suc i) ms) k ≡ Some p → ListedItem e cap n (suc i) ms p) → ListedItem e cap n i (m ∷ ms) p
-    go true s zero u more = let same : i ≡ p = cc in record { place = zero; number = omega arith; item = record { machine = m; there = refl }; listed = s }
+    go true s zero u more = record { place = zero; number = own_place i p (same_Some i p u); item = record { machine = m; there = refl }; listed = s }
     go true s (suc j) u more = later (more j u)
     go false s j u more = later (more j u)
 
@@ -112,7 +143,7 @@ pub picked_steps : (e : Endpoints) (cap : Option ℕ) (n : NetworkState) (seed e
 picked_steps e cap n seed events p h =
     let i = picked_item (listed e cap n) (seed + events) p h in
     let f = listed_item e cap n 0 n.machines i.0 p i.1 in
-    let same : f.place ≡ p = let number : p ≡ 0 + f.place = f.number in omega arith in
+    let same : f.place ≡ p = at_first p f.place f.number in
     let steps : can_step e cap n f.item.machine ≡ true = (and_parts (can_step e cap n f.item.machine) (listed_at e (place_of e f.item.machine)) f.listed).0 in (
       subst (λ (k : ℕ). k < length n.machines) same (slice_get_within n.machines f.place f.item.machine f.item.there),
       subst (λ (k : ℕ). steps_at e cap n k ≡ true) same (ap (steps_of e cap n) f.item.there ∙ steps),
@@ -131,24 +162,37 @@ pub steps_no_wait : (e : Endpoints) (cap : Option ℕ) (n : NetworkState) (p : �
 steps_no_wait e cap n p w s h = go (slice_get n.machines p) s h
   where
     step : (m : Machine) (a : Bool) (o : Option Why) → cond a false (cond (is_some o) false true) ≡ true → o ≡ Some w → ⊥
-    step m true o s h = cc
-    step m false None s h = cc
-    step m false (Some x) s h = cc
+    step m true o s h = true≢false (sym s)
+    step m false None s h = none-some w h
+    step m false (Some x) s h = true≢false (sym s)
 
     go : (o : Option Machine) → steps_of e cap n o ≡ true → why_of e cap n o ≡ Some w → ⊥
-    go None s h = cc
+    go None s h = true≢false (sym s)
     go (Some m) s h = step m (has_ended e m) (waits_for e cap n m) s h
 
 pub steps_no_end : (e : Endpoints) (cap : Option ℕ) (n : NetworkState) (p : ℕ) → steps_at e cap n p ≡ true → ended_at e n p ≡ true → ⊥
 steps_no_end e cap n p s h = go (slice_get n.machines p) s h
   where
     step : (a : Bool) (o : Option Why) → cond a false (cond (is_some o) false true) ≡ true → a ≡ true → ⊥
-    step true o s h = cc
-    step false o s h = cc
+    step true o s h = true≢false (sym s)
+    step false o s h = true≢false (sym h)
 
     go : (o : Option Machine) → steps_of e cap n o ≡ true → ended_of e o ≡ true → ⊥
-    go None s h = cc
+    go None s h = true≢false (sym s)
     go (Some m) s h = step (has_ended e m) (waits_for e cap n m) s h
+
+-- one that has neither ended nor waits can step
+pub steps_open : (e : Endpoints) (cap : Option ℕ) (n : NetworkState) (p : ℕ) {h : Head} → Shows e n p h → is_end h ≡ false → why_at e cap n p ≡ None → steps_at e cap n p ≡ true
+steps_open e cap n p {h} t ended free =
+    ap (steps_of e cap n) there
+    ∙ ap (λ (b : Bool). cond b false (cond (is_some (waits_for e cap n t.stands.machine)) false true)) open_still
+    ∙ ap (λ (w : Option Why). cond (is_some w) false true) (sym (ap (why_of e cap n) there) ∙ free)
+  where
+    there : slice_get n.machines p ≡ Some t.stands.machine
+    there = t.stands.there
+
+    open_still : has_ended e t.stands.machine ≡ false
+    open_still = sym (ap (ended_of e) t.stands.there) ∙ t.ended ∙ ended
 
 -- ---- a closed run
 
@@ -160,15 +204,15 @@ stuck_closes hosts seed steps v Memory s k none = absurd s
 
 goes_more : {e : Endpoints} {hosts : Hosts} {cap : Option ℕ} {seed steps : ℕ} {n m : NetworkState} {k : ℕ} {xs : List Event} → GoesOn e hosts cap seed steps n k xs m → (last : NetworkState) (j p : ℕ) (x : Event) → j ≡ k + length xs → all_ended e m.machines ≡ false → j ≢ steps → picked e cap seed j m ≡ Some p → Chooses e hosts cap m p x last → GoesOn e hosts cap seed steps n k (xs ++ x ∷ []) last
 goes_more {e} {cap = cap} {seed} {steps} {n} {m} {k} stays last j p x h a b c d =
-    let same : j ≡ k = omega arith in
+    let same : j ≡ k = at_end j k h in
     goes a (subst (λ (i : ℕ). i ≢ steps) same b) (subst (λ (i : ℕ). picked e cap seed i m ≡ Some p) same c) d stays
-goes_more {k = k} (goes {events} {x = y} {xs} s t u w rest) last j p x h a b c d = goes s t u w (goes_more rest last j p x (omega arith) a b c d)
+goes_more {k = k} (goes {events} {x = y} {xs} s t u w rest) last j p x h a b c d = goes s t u w (goes_more rest last j p x (at_next j k (length xs) h) a b c d)
 
 pub closed_by : {e : Endpoints} {hosts : Hosts} {cap : Option ℕ} {seed steps : ℕ} {n m : NetworkState} {k : ℕ} {xs : List Event} → GoesOn e hosts cap seed steps n k xs m → (j : ℕ) (c : Close) → j ≡ k + length xs → Closes e cap steps m j c → IsScheduled e hosts cap seed steps n k xs m c
 closed_by {e} {cap = cap} {steps = steps} {m = m} {k = k} stays j c h closes =
-    let same : j ≡ k = omega arith in
+    let same : j ≡ k = at_end j k h in
     closed (subst (λ (i : ℕ). Closes e cap steps m i c) same closes)
-closed_by (goes s t u w rest) j c h closes = close.goes s t u w (closed_by rest j c (omega arith) closes)
+closed_by {k = k} (goes {xs = xs} s t u w rest) j c h closes = close.goes s t u w (closed_by rest j c (at_next j k (length xs) h) closes)
 
 -- ---- one turn
 
@@ -216,33 +260,38 @@ fits_fewer v k n fewer f =
     let most : ℕ = most_served v.endpoints.channels in
     let self : most ≤ most = omega arith in
     let product : k * most ≤ n * most = mul-le-mul fewer self in
-    let sid : v.state.sid + n < 2 ^ 32 = f.sid in
-    let machines : length v.state.machines + n * most < 2 ^ 32 = f.machines in
-    record { sid = omega arith; machines = omega arith }
+    record { sid = added_below v.state.sid n k (2 ^ 32) f.sid fewer; machines = added_below (length v.state.machines) (n * most) (k * most) (2 ^ 32) f.machines product }
 
 pub fits_after : (old new : NetworkView) (k : ℕ) → new.endpoints ≡ old.endpoints → HasGrown old new → FitsMore old (suc k) → FitsMore new k
 fits_after old new k same g f =
-    let s : old.state.sid + suc k < 2 ^ 32 = f.sid in
-    let t : new.state.sid ≤ old.state.sid + 1 = g.sid in
-    let m : length old.state.machines + suc k * most_served old.endpoints.channels < 2 ^ 32 = f.machines in
-    let n : length new.state.machines ≤ length old.state.machines + most_served old.endpoints.channels = g.machines in
-    let old_fits : length new.state.machines + k * most_served old.endpoints.channels < 2 ^ 32 = omega (arith, suc-mul k (most_served old.endpoints.channels)) in
+    let old_fits = grown_below (length old.state.machines) (length new.state.machines) k (most_served old.endpoints.channels) (2 ^ 32) f.machines g.machines in
     record {
-      sid = omega arith;
+      sid = next_below old.state.sid new.state.sid k (2 ^ 32) f.sid g.sid;
       machines = subst (λ (e : Endpoints). length new.state.machines + k * most_served e.channels < 2 ^ 32) (sym same) old_fits;
     }
 
 pub turn_longer : (hosts : Hosts) (seed steps : ℕ) (old new : NetworkView) → HasTurned hosts seed steps old new → length new.history ≡ length old.history + 1
 turn_longer hosts seed steps old new t = ap length t.step.becomes.history ∙ length-append old.history (record { worker = 0; event = t.step.event } ∷ [])
 
+less_left : (a b s : ℕ) → b ≡ a + 1 → a ≤ s → a ≢ s → s - b < s - a
+less_left a b s longer before other = omega arith
+
+some_left : (a s : ℕ) → a ≤ s → a ≢ s → 1 ≤ s - a
+some_left a s before other = omega arith
+
+-- by a turn fewer events are left, and one more fits before it
+pub turned_less : (hosts : Hosts) (seed steps : ℕ) (old new : NetworkView) → HasTurned hosts seed steps old new → length old.history ≤ steps → steps - length new.history < steps - length old.history
+turned_less hosts seed steps old new t before = less_left (length old.history) (length new.history) steps (turn_longer hosts seed steps old new t) before t.before
+
+pub one_fits : (v : NetworkView) (steps : ℕ) → length v.history ≤ steps → FitsMore v (steps - length v.history) → length v.history ≢ steps → FitsMore v 1
+one_fits v steps before fits other = fits_fewer v 1 (steps - length v.history) (some_left (length v.history) steps before other) fits
+
 pub underway_more : (hosts : Hosts) (seed steps : ℕ) (first old new : NetworkView) → Underway hosts seed steps first old → HasTurned hosts seed steps old new → Underway hosts seed steps first new
 underway_more hosts seed steps first old new u t =
     let g = u.gone in
     let x = t.step.event in
     let longer = turn_longer hosts seed steps old new t in
-    let before : length old.history ≤ steps = u.before in
-    let other : length old.history ≢ steps = t.before in
-    let left : steps - length old.history ≡ suc (steps - length new.history) = omega arith in
+    let left = one_left (length old.history) (length new.history) steps longer u.before t.before in
     let e = g.endpoints in
     record {
       gone = record {
@@ -257,12 +306,12 @@ underway_more hosts seed steps first old new u t =
             subst (λ (n : NetworkState). GoesOn first.endpoints hosts first.capacity seed steps first.state (length first.history) (g.events ++ x ∷ []) n) (sym t.step.becomes.state)
             (goes_more g.run t.step.state (length old.history) t.process x (events_so_far hosts seed steps first old g)
             (subst (λ (p : Endpoints). all_ended p old.state.machines ≡ false) e t.open_still)
-            other
+            t.before
             (with_same (λ p cap. picked p cap seed (length old.history) old.state ≡ Some t.process) e g.capacity t.pick)
             (with_same (λ p cap. Chooses p hosts cap old.state t.process x t.step.state) e g.capacity t.step.chooses));
         grown = grown_by_more first old new g.events x g.grown e t.grown;
       };
-      before = omega arith;
+      before = still_before (length old.history) (length new.history) steps longer u.before t.before;
       fits = fits_after old new (steps - length new.history) t.step.becomes.endpoints t.grown (subst (FitsMore old) left u.fits);
     }
 
@@ -300,15 +349,15 @@ closes_run hosts seed steps first old new Memory u (inr t) = (underway_more host
 
 pub goes_then : {e : Endpoints} {hosts : Hosts} {cap : Option ℕ} {seed steps : ℕ} {n m : NetworkState} {k : ℕ} {xs : List Event} → GoesOn e hosts cap seed steps n k xs m → (last : NetworkState) (j : ℕ) (ys : List Event) → j ≡ k + length xs → GoesOn e hosts cap seed steps m j ys last → GoesOn e hosts cap seed steps n k (xs ++ ys) last
 goes_then {e} {hosts} {cap} {seed} {steps} {n} {k = k} stays last j ys h rest =
-    let same : j ≡ k = omega arith in
+    let same : j ≡ k = at_end j k h in
     subst (λ (i : ℕ). GoesOn e hosts cap seed steps n i ys last) same rest
-goes_then (goes s t u w first) last j ys h rest = goes s t u w (goes_then first last j ys (omega arith) rest)
+goes_then {k = k} (goes {xs = xs} s t u w first) last j ys h rest = goes s t u w (goes_then first last j ys (at_next j k (length xs) h) rest)
 
 pub scheduled_then : {e : Endpoints} {hosts : Hosts} {cap : Option ℕ} {seed steps : ℕ} {n m : NetworkState} {k : ℕ} {xs : List Event} → GoesOn e hosts cap seed steps n k xs m → (last : NetworkState) (j : ℕ) (ys : List Event) (c : Close) → j ≡ k + length xs → IsScheduled e hosts cap seed steps m j ys last c → IsScheduled e hosts cap seed steps n k (xs ++ ys) last c
 scheduled_then {e} {hosts} {cap} {seed} {steps} {n} {k = k} stays last j ys c h rest =
-    let same : j ≡ k = omega arith in
+    let same : j ≡ k = at_end j k h in
     subst (λ (i : ℕ). IsScheduled e hosts cap seed steps n i ys last c) same rest
-scheduled_then (goes s t u w first) last j ys c h rest = close.goes s t u w (scheduled_then first last j ys c (omega arith) rest)
+scheduled_then {k = k} (goes {xs = xs} s t u w first) last j ys c h rest = close.goes s t u w (scheduled_then first last j ys c (at_next j k (length xs) h) rest)
 
 history_then : (a b c : List Entry) (xs ys : List Event) → b ≡ a ++ entries_of xs → c ≡ b ++ entries_of ys → c ≡ a ++ entries_of (xs ++ ys)
 history_then a b c xs ys h k =

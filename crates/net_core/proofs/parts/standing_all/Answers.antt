@@ -8,6 +8,7 @@ use Rattle.session_starts.specs.Machines.{AreCounted}
 use Rattle.net_core.proofs.Turns.{standing_push}
 use Rattle.net_core.proofs.Scopes.{length-standing_all}
 use Rattle.session_starts.proofs.Counts.{counted_push}
+use Rattle.std.proofs.lemmas.Result.{IfOk-from_err}
 use Rattle.net_core.proofs.parts.standing_all.Goals as goal
 
 length_take : {X : Type 0} (i : ℕ) (xs : List X) → i < length xs → length (take i xs) ≡ i
@@ -44,3 +45,21 @@ loop-process-preserved c =
           (counted_push c.loop-process.machines.items c.in_ok-machine.machine c.loop-process.invariant.counted
           (c.in_ok-machine.ensures.number ∙ ap length c.as_slice.ensures.value));
     }
+
+pub returns-in_err-machines-clause-machines : goal.returns-in_err-machines-clause-machines
+returns-in_err-machines-clause-machines c = IfOk-from_err c.from_residual.result _ c.from_residual.ensures.0
+
+pub returns-in_err-machines-clause-counted : goal.returns-in_err-machines-clause-counted
+returns-in_err-machines-clause-counted c = IfOk-from_err c.from_residual.result _ c.from_residual.ensures.0
+
+pub returns-in_err-machine-clause-machines : goal.returns-in_err-machine-clause-machines
+returns-in_err-machine-clause-machines c = IfOk-from_err c.from_residual-in_err-machine.result _ c.from_residual-in_err-machine.ensures.0
+
+pub returns-in_err-machine-clause-counted : goal.returns-in_err-machine-clause-counted
+returns-in_err-machine-clause-counted c = IfOk-from_err c.from_residual-in_err-machine.result _ c.from_residual-in_err-machine.ensures.0
+
+pub returns-in_err-push-clause-machines : goal.returns-in_err-push-clause-machines
+returns-in_err-push-clause-machines c = IfOk-from_err c.from_residual-in_err-push.result _ c.from_residual-in_err-push.ensures.0
+
+pub returns-in_err-push-clause-counted : goal.returns-in_err-push-clause-counted
+returns-in_err-push-clause-counted c = IfOk-from_err c.from_residual-in_err-push.result _ c.from_residual-in_err-push.ensures.0

@@ -2,6 +2,7 @@ use Rattle.std.proofs.Common.{◌≡◌, ◌∙◌, sym, ap, Option, None, Some,
 use Rattle.std.specs.Prelude.{not, slice_set}
 use Rattle.waiting_processes.specs.Waits.{awaited_at, awaited_by}
 use Rattle.net_core.proofs.Anew.{awaits, entered_one, added, adds, adds_below}
+use Rattle.std.proofs.lemmas.Option.{none-some}
 use Rattle.net_core.proofs.candidates.Candidates.enter.Goals as goal
 
 pub returns-in_ok-add-in-Some : goal.returns-in_ok-add-in-Some
@@ -31,6 +32,6 @@ returns-in-None c =
     let is : awaited_at e cap n p ≡ None = awaits e cap n p c.head-head.result c.head-head.ensures ∙ ap (λ (k : Option ℕ). awaited_by k c.head-head.result) (sym c.capacity.ensures) ∙ sym c.in-None.ensures in
     entered_one e cap n old (record { listed = c.settle-joins.new.listed; unended = c.set.new.self; waiting = old.waiting }) p c.settle-joins.result c.requires.there c.requires.places c.settle-joins.ensures.kept c.settle-joins.ensures.settled
     (c.set.ensures ∙ ap (λ (b : Bool). slice_set old.unended p (not b)) (c.has_ended.ensures ∙ sym c.head-head.ensures.ended))
-    (λ w i. let z : None ≡ Some w = sym is ∙ i in absurd cc)
+    (λ w i. absurd (none-some w (sym is ∙ i)))
     (λ w q i. i)
     c.requires.places.within

@@ -3,6 +3,7 @@ use Rattle.std.specs.Prelude.{not}
 use Rattle.waiting_processes.specs.Waits.{awaited_by}
 use Rattle.net_core.specs.Candidates.{HasTouched, AreBelow}
 use Rattle.net_core.proofs.Taken.{touched_own, touched_waiting, waiting_below, touched_more, below_more, takes_touched}
+use Rattle.std.proofs.lemmas.Bool.{true≢false}
 use Rattle.net_core.proofs.candidates.Candidates.take_touched.Goals as goal
 use Rattle.net_core.proofs.candidates.Candidates.take_touched.Goals.{then-is_none+in_ok-push, else-is_none}
 
@@ -26,7 +27,7 @@ loop-pid-init c =
           let some : awaited_by c.args.capacity past.head ≡ None → ⊥ = λ i.
           (let a : is_some (awaited_by c.args.capacity past.head) ≡ true = sym (ap is_some c.awaited_by.ensures) ∙ c.is_none.ensures ∙ ap not w.if-is_none.false in
           let b : is_some (awaited_by c.args.capacity past.head) ≡ false = ap is_some i in
-          cc)
+          true≢false (sym a ∙ b))
           in
           record {
             touched = subst (λ (l : List ℕ). HasTouched c.args.capacity past past.count old l) (sym is) (touched_waiting c.args.capacity past old c.take_touched-pids.new.self taken takes some);

@@ -1,4 +1,4 @@
-use Rattle.std.proofs.Common.{inr, ◌∙◌, sym, refl, subst, ◌≡◌, ◌<◌, ℕ, true}
+use Rattle.std.proofs.Common.{inl, inr, ◌∙◌, sym, refl, subst, ◌≡◌, ◌<◌, ℕ, true}
 use Rattle.std.proofs.lemmas.Option.{none-some}
 use Rattle.chor_host.specs.Functions.{hosts_in}
 use Rattle.chor_host.specs.Tables.{functions_of}
@@ -74,3 +74,30 @@ returns-in-Err-follow-clause-turns g c =
     let v = c.args.network.now in
     inr (turned (hosts_in v.endpoints.names (functions_of c.args.hosts.now)) c.args.seed c.args.steps v c.go.new.self c.in-Some.pid c.events-2.result (sym (c.have_ended.ensures v.endpoints v.capacity v.state c.requires.kept) ∙ c.if-have_ended.false)
     (λ h. c.if-events-steps.false (c.events.ensures.events ∙ h)) (c.in-Some.ensures.picks v.endpoints v.capacity v.state c.requires.kept) c.events-2.ensures.events c.in-Ok.ensures.ok c.in-Ok.ensures.grown)
+
+pub pick-requires-clause-small : goal.pick-requires-clause-small
+pick-requires-clause-small g c = c.requires.seed
+
+pub pick-requires-clause-few : goal.pick-requires-clause-few
+pick-requires-clause-few g c = c.events-2.ensures.few
+
+pub go-requires-clause-shows : goal.go-requires-clause-shows
+go-requires-clause-shows g c = c.head-head.ensures
+
+pub go-requires-clause-hosts : goal.go-requires-clause-hosts
+go-requires-clause-hosts g c = c.requires.hosts
+
+pub go-requires-clause-fits : goal.go-requires-clause-fits
+go-requires-clause-fits g c = c.requires.fits (λ h. c.if-events-steps.false (c.events.ensures.events ∙ h))
+
+pub returns-in-Ok-follow-clause-kept : goal.returns-in-Ok-follow-clause-kept
+returns-in-Ok-follow-clause-kept g c = λ i. c.in-Ok-follow.ensures
+
+pub returns-in-Err-follow-clause-kept : goal.returns-in-Err-follow-clause-kept
+returns-in-Err-follow-clause-kept g c = λ i. absurd (none-some _ (sym i))
+
+pub returns-in-Err-clause-turns : goal.returns-in-Err-clause-turns
+returns-in-Err-clause-turns g c = inl c.in-Err.ensures.same
+
+pub returns-in-Err-clause-kept : goal.returns-in-Err-clause-kept
+returns-in-Err-clause-kept g c = λ i. absurd (none-some _ (sym i))

@@ -1,4 +1,4 @@
-use Rattle.std.proofs.Common.{◌∙◌, ◌+◌, ◌<◌, ◌≤◌, sym, refl, ap, subst, ◌≡◌, Option, Some, List, ℕ, length, true, inl, arith}
+use Rattle.std.proofs.Common.{inr, ◌∙◌, ◌+◌, ◌<◌, ◌≤◌, sym, refl, ap, subst, ◌≡◌, Option, Some, List, ℕ, length, true, inl, arith}
 use Rattle.std.specs.Prelude.{slice_get}
 use Rattle.std.proofs.lemmas.Option.{none-some}
 use Rattle.chor_host.specs.Functions.{hosts_in}
@@ -12,7 +12,7 @@ use Rattle.net_core.specs.Shown.{ShowsAll}
 use Rattle.net_core.specs.Heads.{EachStands, Shows, steps_at}
 use Rattle.net_core.proofs.Shown.{shown_in, stepped_others}
 use Rattle.net_core.proofs.Leaders.{none_listed}
-use Rattle.net_core.proofs.Runs.{picked_steps, none_picked, stuck_closes}
+use Rattle.net_core.proofs.Runs.{picked_steps, none_picked, stuck_closes, turned}
 use Rattle.net_core.proofs.few.FewKept.turn.Goals as goal
 
 -- the process that is picked among those listed is there and can step
@@ -91,3 +91,45 @@ follow-requires-clause-others g c =
     let shows = shown_kept v.endpoints v.state c.in-Some.pid heads _ c.head-head.result c.in-Ok.ensures.stand c.requires.kept c.in-Ok.ensures.kept c.head-head.ensures in
     let all = subst (ShowsAll v.endpoints v.state) (sym {A = List Head} c.in-Ok.ensures.kept) c.requires.kept in
     stepped_others (hosts_in v.endpoints.names (functions_of c.args.hosts.now)) v c.go.new.self c.in-Some.pid c.head-head.result _ shows all c.in-Ok-go.ensures.ok c.in-Ok-go.ensures.alone
+
+pub survey-requires : goal.survey-requires
+survey-requires g c = c.requires.kept
+
+pub pick-requires-clause-small : goal.pick-requires-clause-small
+pick-requires-clause-small g c = c.requires.seed
+
+pub pick-requires-clause-few : goal.pick-requires-clause-few
+pick-requires-clause-few g c = c.events-2.ensures.few
+
+pub stuck-requires-clause-unended : goal.stuck-requires-clause-unended
+stuck-requires-clause-unended g c = sym c.in-Ok.ensures.ended ∙ c.if-ended.false
+
+pub go-requires-clause-hosts : goal.go-requires-clause-hosts
+go-requires-clause-hosts g c = c.requires.hosts
+
+pub go-requires-clause-fits : goal.go-requires-clause-fits
+go-requires-clause-fits g c = c.requires.fits (λ h. c.if-events-steps.false (c.events.ensures.events ∙ h))
+
+pub returns-in-Ok-follow-clause-turns : goal.returns-in-Ok-follow-clause-turns
+returns-in-Ok-follow-clause-turns g c =
+    let v = c.args.network.now in
+    turned (hosts_in v.endpoints.names (functions_of c.args.hosts.now)) c.args.seed c.args.steps v c.go.new.self c.in-Some.pid c.events-2.result (sym c.in-Ok.ensures.ended ∙ c.if-ended.false)
+    (λ h. c.if-events-steps.false (c.events.ensures.events ∙ h)) (c.in-Some.ensures ∙ ap (λ (l : List ℕ). picked_of l (c.args.seed + c.events-2.result)) c.in-Ok.ensures.listed) c.events-2.ensures.events c.in-Ok-go.ensures.ok c.in-Ok-go.ensures.grown
+
+pub returns-in-Ok-follow-clause-kept : goal.returns-in-Ok-follow-clause-kept
+returns-in-Ok-follow-clause-kept g c = λ i. c.in-Ok-follow.ensures
+
+pub returns-in-Err-follow-clause-turns : goal.returns-in-Err-follow-clause-turns
+returns-in-Err-follow-clause-turns g c =
+    let v = c.args.network.now in
+    inr (turned (hosts_in v.endpoints.names (functions_of c.args.hosts.now)) c.args.seed c.args.steps v c.go.new.self c.in-Some.pid c.events-2.result (sym c.in-Ok.ensures.ended ∙ c.if-ended.false)
+    (λ h. c.if-events-steps.false (c.events.ensures.events ∙ h)) (c.in-Some.ensures ∙ ap (λ (l : List ℕ). picked_of l (c.args.seed + c.events-2.result)) c.in-Ok.ensures.listed) c.events-2.ensures.events c.in-Ok-go.ensures.ok c.in-Ok-go.ensures.grown)
+
+pub returns-in-Err-follow-clause-kept : goal.returns-in-Err-follow-clause-kept
+returns-in-Err-follow-clause-kept g c = λ i. absurd (none-some _ (sym i))
+
+pub returns-in-Err-clause-turns : goal.returns-in-Err-clause-turns
+returns-in-Err-clause-turns g c = inl c.in-Err.ensures.same
+
+pub returns-in-Err-clause-kept : goal.returns-in-Err-clause-kept
+returns-in-Err-clause-kept g c = λ i. absurd (none-some _ (sym i))

@@ -4,6 +4,7 @@ use Rattle.chor_base.specs.declared.names.NameId.{NameId}
 use Rattle.endpoint_code.specs.NetworkRuns.{absent_among}
 use Rattle.net_core.specs.Starts.{IsCast, no_role}
 use Rattle.net_core.proofs.Casts.{cast_push, absent_head}
+use Rattle.std.proofs.lemmas.Bool.{true≢false}
 use Rattle.net_core.proofs.network.Network.cast.Goals as goal
 
 pub loop-role-init : goal.loop-role-init
@@ -36,6 +37,4 @@ unreachable-requires c =
     let role = get_or roles i (record { 0 = 0 }) in
     let more = drop_more roles i (record { 0 = 0 }) c.loop-role-test.true in
     let found = (absent_head v.endpoints v.state.machines c.args.channel c.args.own role (drop (i + 1) roles) c.args.pid (sym (ap (absent_among v.endpoints v.state.machines c.args.channel c.args.own) more) ∙ c.loop-role.invariant.left)).0 in
-    let none = c.in_default.ensures in
-    let a = ap is_some none in
-    cc
+    true≢false (sym (ap is_some c.in_default.ensures ∙ found))

@@ -9,6 +9,8 @@ use Rattle.net_core.specs.Views.{NetworkView}
 use Rattle.net_core.proofs.Begins.{channel_named}
 use Rattle.net_core.proofs.Fields.{served_most, grown_begun}
 use Rattle.net_core.proofs.Castings.{step_casting, casting_step, started_step, same_start}
+use Rattle.std.proofs.lemmas.Bool.{true≢false}
+use Rattle.std.proofs.lemmas.Option.{none-some, same_Some}
 use Rattle.net_core.proofs.network.Network.follow_start.Goals as goal
 
 pub returns-in_default : goal.returns-in_default
@@ -17,7 +19,7 @@ returns-in_default c = λ hosts.
     let none : None ≡ channel_of v.endpoints.channels c.args.channel =
     ap option_copied (sym c.in_default.is) ∙ c.channel_named.ensures ∙ ap (λ (ks : List Channel). channel_of ks c.args.channel) c.as_slice.ensures ∙ ap (λ (w : NetworkView). channel_of w.endpoints.channels c.args.channel) c.self.view_is
     in (
-      λ step. let r = step_casting v.endpoints hosts v.capacity v.state c.args.channel c.args.sid c.args.parts.now step in let no : None ≡ Some r.0 = none ∙ r.1 in cc,
+      λ step. let r = step_casting v.endpoints hosts v.capacity v.state c.args.channel c.args.sid c.args.parts.now step in none-some r.0 (none ∙ r.1),
       record { endpoints = refl; capacity = refl; state = refl; history = refl },
     )
 
@@ -49,11 +51,10 @@ returns-then-not-may_start c = λ hosts.
       λ step.
           let r = step_casting v.endpoints hosts v.capacity v.state c.args.channel c.args.sid c.args.parts.now step in
           let both : Some r.0 ≡ Some k = sym r.1 ∙ found in
-          let same : r.0 ≡ k = cc in
+          let same = same_Some r.0 k both in
           let yes : c.may_start.result ≡ true = c.may_start.ensures.1 (subst (λ (x : Channel). IsCasting v.endpoints v.state.machines x c.args.parts.now) same r.3) in
           let no : c.may_start.result ≡ false = c.if-not-may_start.true in
-          let clash : true ≡ false = sym yes ∙ no in
-          cc,
+          true≢false (sym yes ∙ no),
       record { endpoints = refl; capacity = refl; state = refl; history = refl },
     )
 

@@ -17,6 +17,7 @@ use Rattle.net_core.proofs.Runs.{steps_no_end}
 use Rattle.net_core.proofs.Alone.{head_there}
 use Rattle.net_core.proofs.Makers.{may_alone, may_step}
 use Rattle.net_core.proofs.Lone.{may_acting}
+use Rattle.std.proofs.lemmas.Bool.{true≢false}
 use Rattle.net_core.proofs.network.Network.may_make.Goals as goal
 
 pub returns-in-Out : goal.returns-in-Out
@@ -64,10 +65,25 @@ pub returns-in-Join : goal.returns-in-Join
 returns-in-Join g c =
     let v = c.args.self.now in
     let hosts = hosts_in v.endpoints.names (functions_of c.args.hosts.now) in
-    (λ (h : false ≡ true). absurd cc, λ may. sym (may_alone v.endpoints hosts v.capacity v.state c.args.pid c.args.event.now may) ∙ c.in-Join.ensures.joining)
+    (λ (h : false ≡ true). absurd (true≢false (sym h)), λ may. sym (may_alone v.endpoints hosts v.capacity v.state c.args.pid c.args.event.now may) ∙ c.in-Join.ensures.joining)
 
 pub returns-in-Ended : goal.returns-in-Ended
 returns-in-Ended g c =
     let v = c.args.self.now in
     let hosts = hosts_in v.endpoints.names (functions_of c.args.hosts.now) in
-    (λ (h : false ≡ true). absurd cc, λ may. absurd (steps_no_end v.endpoints v.capacity v.state c.args.pid (may_step v.endpoints hosts v.capacity v.state c.args.pid c.args.event.now may) c.in-Ended.ensures.ended))
+    (λ (h : false ≡ true). absurd (true≢false (sym h)), λ may. absurd (steps_no_end v.endpoints v.capacity v.state c.args.pid (may_step v.endpoints hosts v.capacity v.state c.args.pid c.args.event.now may) c.in-Ended.ensures.ended))
+
+pub head-requires : goal.head-requires
+head-requires g c = c.requires.there
+
+pub may_send-requires-clause-there : goal.may_send-requires-clause-there
+may_send-requires-clause-there g c = c.requires.there
+
+pub may_receive-requires-clause-there : goal.may_receive-requires-clause-there
+may_receive-requires-clause-there g c = c.requires.there
+
+pub may_send-requires-clause-sends : goal.may_send-requires-clause-sends
+may_send-requires-clause-sends g c = c.in-Out.ensures
+
+pub may_receive-requires-clause-takes : goal.may_receive-requires-clause-takes
+may_receive-requires-clause-takes g c = c.in-Take.ensures

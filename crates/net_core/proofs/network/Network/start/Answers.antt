@@ -14,6 +14,7 @@ use Rattle.net_core.proofs.Answered.{on_ok}
 use Rattle.net_core.proofs.Fields.{grown_begun}
 use Rattle.net_core.proofs.Casts.{cast_joins, cast_apart}
 use Rattle.net_core.proofs.Begins.{stands_joining, channel_distinct, channel_named, begins, join_stands, join_channel}
+use Rattle.std.proofs.lemmas.Option.{none-some}
 use Rattle.net_core.proofs.network.Network.start.Goals as goal
 
 pub unreachable-requires-in_default-channel_named : goal.unreachable-requires-in_default-channel_named
@@ -23,8 +24,7 @@ unreachable-requires-in_default-channel_named c =
     let none : None ≡ channel_of v.endpoints.channels c.in-Join.channel =
     ap option_copied (sym c.in_default-channel_named.is) ∙ c.channel_named.ensures ∙ ap (λ (ks : List Channel). channel_of ks c.in-Join.channel) c.as_slice.ensures ∙ ap (λ (w : NetworkView). channel_of w.endpoints.channels c.in-Join.channel) c.self.view_is
     in
-    let no : None ≡ Some active.0 = none ∙ active.1 in
-    cc
+    none-some active.0 (none ∙ active.1)
 
 pub begin-requires : goal.begin-requires
 begin-requires c =

@@ -5,7 +5,7 @@ use Rattle.chor_host.specs.Tables.{functions_of}
 use Rattle.endpoint_code.specs.declared.endpoints.Endpoints.{Endpoints}
 use Rattle.endpoint_code.specs.Faults.{AsksKnown, is_listed}
 use Rattle.net_core.specs.Picks.{Turns, HasTurned}
-use Rattle.net_core.proofs.Runs.{begun_run, underway_more, closes_run}
+use Rattle.net_core.proofs.Runs.{begun_run, underway_more, closes_run, turned_less, one_fits}
 use Rattle.net_core.proofs.scheduler.Scheduler.run.Goals as goal
 
 pub loop-self-init : goal.loop-self-init
@@ -27,3 +27,15 @@ loop-self-preserved g c =
 
 pub turn-requires-clause-hosts : goal.turn-requires-clause-hosts
 turn-requires-clause-hosts g c = subst (λ (e : Endpoints). AsksKnown (is_listed (names_of (functions_of c.args.hosts.now)) e) e) (sym c.loop-self.invariant.gone.endpoints) c.requires.hosts
+
+pub turn-requires-clause-seed : goal.turn-requires-clause-seed
+turn-requires-clause-seed g c = c.requires.seed
+
+pub turn-requires-clause-fits : goal.turn-requires-clause-fits
+turn-requires-clause-fits g c = one_fits c.loop-self.self c.args.steps c.loop-self.invariant.before c.loop-self.invariant.fits
+
+pub loop-self-smaller : goal.loop-self-smaller
+loop-self-smaller g c = turned_less (hosts_in c.loop-self.self.endpoints.names (functions_of c.args.hosts.now)) c.args.seed c.args.steps c.loop-self.self c.turn.new.self c.in_default.ensures c.loop-self.invariant.before
+
+pub returns-clause-runs : goal.returns-clause-runs
+returns-clause-runs g c = c.loop-self.invariant
