@@ -3,6 +3,8 @@ use Rattle.std.proofs.Common.{◌≡◌, ℕ, ◌<◌, Bool, true, false, List, 
 use Rattle.std.specs.Prelude.{slice_get, slice_set, map, All, ℤ}
 use Rattle.std.proofs.lemmas.List.{map-set}
 use Rattle.std.proofs.lemmas.List.Elements.{All-set}
+use Rattle.std.proofs.lemmas.Option.{none-some, same_Some}
+use Rattle.std.proofs.lemmas.Bool.{true≢false}
 use Rattle.chor_base.specs.declared.names.NameId.{NameId}
 use Rattle.chor_base.specs.declared.event.Event.{Event}
 use Rattle.chor_base.specs.declared.event.Why.{Why}
@@ -39,15 +41,15 @@ pub steps_freely : (e : Endpoints) (cap : Option ℕ) (n : NetworkState) (m : Ma
 steps_freely e cap n m h = go (has_ended e m) (waits_for e cap n m) h
   where
     go : (b : Bool) (o : Option Why) → cond b false (cond (is_some o) false true) ≡ true → o ≡ None
-    go true o h = absurd cc
+    go true o h = absurd (true≢false (sym h))
     go false None h = refl
-    go false (Some w) h = absurd cc
+    go false (Some w) h = absurd (true≢false (sym h))
 
 not_ended : (e : Endpoints) (cap : Option ℕ) (n : NetworkState) (m : Machine) → can_step e cap n m ≡ true → has_ended e m ≡ false
 not_ended e cap n m h = go (has_ended e m) (waits_for e cap n m) h
   where
     go : (b : Bool) (o : Option Why) → cond b false (cond (is_some o) false true) ≡ true → b ≡ false
-    go true o h = absurd cc
+    go true o h = absurd (true≢false (sym h))
     go false o h = refl
 
 pub joins_not : (e : Endpoints) (n : NetworkState) (p : ℕ) (node : CodeNode) → Stands e n p node → joins_at_all e n p ≡ false → is_join node ≡ false
@@ -61,7 +63,7 @@ head_there e ms q sid p r h t lt is =
 pub waits_first : (e : Endpoints) (cap : Option ℕ) (n : NetworkState) (p s : ℕ) (a b : NameId) (l : Load) (rest : List Load) → Shows e n p (head.Take s a b) → loads_for n.queues (s, a, b) ≡ l ∷ rest → (m : Machine) → slice_get n.machines p ≡ Some m → why_at e cap n p ≡ cond (is_some (taking_of e m l)) None (Some (Wrong s a b))
 waits_first e cap n p s a b l rest t queue m there =
     let st = t.stands in
-    let same : st.machine ≡ m = let i : Some st.machine ≡ Some m = sym st.there ∙ there in cc in
+    let same : st.machine ≡ m = same_Some st.machine m (sym st.there ∙ there) in
     let fits : is_some (taking_of e m l) ≡ is_some (node_takes st.machine.vars st.sessions t.node l) =
     ap (λ (k : Machine). is_some (taking_of e k l)) (sym same) ∙ ap (λ (o : Option Place). is_some (place_takes st.machine.vars o l)) st.at_node.place
     in
@@ -82,20 +84,20 @@ acts_freely e cap ms q sid p r h t lt is steps alone = go h t
     free = ap (why_of e cap (state_of ms q sid)) there ∙ steps_freely e cap (state_of ms q sid) r.machine (sym (ap (steps_of e cap (state_of ms q sid)) there) ∙ steps)
 
     queue : (s : ℕ) (a b : NameId) → Shows e (state_of ms q sid) p (head.Take s a b) → (ls : List Load) → loads_for (loads_in q.lanes) (s, a, b) ≡ ls → fits_first e r.machine (slice_get ls 0) ≡ true
-    queue s a b t [] k = let no = sym free ∙ waits_empty e cap (state_of ms q sid) p s a b t k in absurd cc
+    queue s a b t [] k = absurd (none-some _ (sym free ∙ waits_empty e cap (state_of ms q sid) p s a b t k))
     queue s a b t (l ∷ rest) k = fitting (is_some (taking_of e r.machine l)) refl
       where
         fitting : (f : Bool) → is_some (taking_of e r.machine l) ≡ f → f ≡ true
         fitting true g = refl
-        fitting false g = let no = sym free ∙ waits_first e cap (state_of ms q sid) p s a b l rest t k r.machine there ∙ ap (λ (f : Bool). cond f None (Some (Wrong s a b))) g in absurd cc
+        fitting false g = absurd (none-some _ (sym free ∙ waits_first e cap (state_of ms q sid) p s a b l rest t k r.machine there ∙ ap (λ (f : Bool). cond f None (Some (Wrong s a b))) g))
 
     go : (h : Head) → Shows e (state_of ms q sid) p h → can_act e q r h ≡ true
     go (head.Out s a b) t = refl
     go (head.Take s a b) t =
         queue s a b t (loads_for (loads_in q.lanes) (s, a, b)) refl
     go head.Local t = refl
-    go (head.Join c o) t = let no : false ≡ true = sym alone ∙ t.joining in absurd cc
-    go head.Ended t = let no : false ≡ true = sym (not_ended e cap (state_of ms q sid) r.machine (sym (ap (steps_of e cap (state_of ms q sid)) there) ∙ steps)) ∙ sym (ap (ended_of e) there) ∙ t.ended in absurd cc
+    go (head.Join c o) t = absurd (true≢false (sym (sym alone ∙ t.joining)))
+    go head.Ended t = absurd (true≢false (sym (sym (not_ended e cap (state_of ms q sid) r.machine (sym (ap (steps_of e cap (state_of ms q sid)) there) ∙ steps)) ∙ sym (ap (ended_of e) there) ∙ t.ended)))
 
 pub sound_after : (e : Endpoints) (ms : List MachineView) (p : ℕ) (r t : MachineView) → IsSound e ms → p < length ms → r ≡ get_or ms p r → t.number ≡ r.number → IsBound e t.machine → IsSound e (slice_set ms p t)
 sound_after e ms p r t sound lt h number bound = record {
@@ -106,7 +108,7 @@ sound_after e ms p r t sound lt h number bound = record {
 }
 
 pub alone_chosen : (e : Endpoints) (cap : Option ℕ) (n : NetworkState) (p : ℕ) (v : ℤ) (node : CodeNode) (m : Sessions) → is_join node ≡ false → chosen_at e cap n p v (Some (record { node = node; sessions = m })) ≡ makes e cap n p v
-alone_chosen e cap n p v (Join c r k next) m h = absurd cc
+alone_chosen e cap n p v (Join c r k next) m h = absurd (true≢false h)
 alone_chosen e cap n p v (Send k b x next) m h = refl
 alone_chosen e cap n p v (Recv k a x next) m h = refl
 alone_chosen e cap n p v (Pick k b l next) m h = refl

@@ -1,6 +1,7 @@
 -- What a process makes under a capacity.
-use Rattle.std.proofs.Common.{◌≡◌, ℕ, ℤ, Bool, true, false, cond, refl, Option, Some, None}
+use Rattle.std.proofs.Common.{sym, ◌≡◌, ℕ, ℤ, Bool, true, false, cond, refl, Option, Some, None}
 use Rattle.std.specs.FinMap as fin
+use Rattle.std.proofs.lemmas.Option.{none-some}
 use Rattle.chor_base.specs.declared.names.NameId.{NameId}
 use Rattle.chor_base.specs.declared.value.Load.{Load}
 use Rattle.chor_base.specs.declared.event.Event.{Event}
@@ -22,18 +23,18 @@ put_freely cap n p at vars ss b (Some (s, a)) (Some l) h = go (has_room cap (que
   where
     go : (r : Bool) → cond r None (Some (Full s a b)) ≡ None → put_if r (moved n p at vars ss) p (s, a, b) l ≡ put_if true (moved n p at vars ss) p (s, a, b) l
     go true i = refl
-    go false i = absurd cc
+    go false i = absurd (none-some _ (sym i))
 
 -- one that sends doesn't wait to
 pub put_waits_not : (cap : Option ℕ) (n k : NetworkState) (x : Event) (p : ℕ) (at : CodeId) (vars : Variables) (ss : Sessions) (b : NameId) (o : Option (ℕ × NameId)) (ol : Option Load) → puts cap (moved n p at vars ss) p b o ol ≡ Some (Makes x k)
     → waits_to_send cap n b o ≡ None
 put_waits_not cap n k x p at vars ss b None ol h = refl
-put_waits_not cap n k x p at vars ss b (Some (s, a)) None h = absurd cc
+put_waits_not cap n k x p at vars ss b (Some (s, a)) None h = absurd (none-some _ h)
 put_waits_not cap n k x p at vars ss b (Some (s, a)) (Some l) h = go (has_room cap (queue_of n (s, a, b))) h
   where
     go : (r : Bool) → put_if r (moved n p at vars ss) p (s, a, b) l ≡ Some (Makes x k) → cond r None (Some (Full s a b)) ≡ None
     go true i = refl
-    go false i = absurd cc
+    go false i = absurd (none-some _ i)
 
 -- where a process waits for nothing, it makes at its node what it makes there without a capacity
 pub node_freely : (e : Endpoints) (cap : Option ℕ) (n : NetworkState) (p : ℕ) (v : ℤ) (vars : Variables) (ss : Sessions) (node : CodeNode) → node_waits e cap n vars ss node ≡ None → node_makes cap n p v vars ss node ≡ node_makes None n p v vars ss node

@@ -2,7 +2,7 @@
 use Rattle.std.proofs.Common.{◌≡◌, ℕ, ℤ, ◌<◌, Bool, true, false, cond, List, [], ◌∷◌, length, refl, sym, ap, ◌∙◌, Option, Some, None, is_some}
 use Rattle.std.specs.Prelude.{slice_get}
 use Rattle.std.specs.FinMap as fin
-use Rattle.std.proofs.lemmas.Option.{slice_get_within}
+use Rattle.std.proofs.lemmas.Option.{slice_get_within, none-some}
 use Rattle.chor_base.specs.declared.names.NameId.{NameId}
 use Rattle.chor_base.specs.declared.value.Load.{Load}
 use Rattle.chor_base.specs.declared.event.Event.{Event}
@@ -58,25 +58,28 @@ same_made e hosts cap n p v w one h i = at_machine (slice_get n.machines p) h i
 
 -- ---- who makes an event
 
+event_made : {x y : Event} {k m : NetworkState} → Some (Makes x k) ≡ Some (Makes y m) → x ≡ y
+event_made h = cc
+
 put_maker : (b : Bool) (n : NetworkState) (p : ℕ) (t : Triple) (l : Load) (x : Event) (k : NetworkState) → put_if b n p t l ≡ Some (Makes x k) → maker_of x ≡ Some p
-put_maker true n p t l x k h = let i : event.Send p t.0 t.1 t.2 l ≡ x = cc in ap maker_of (sym i)
-put_maker false n p t l x k h = absurd cc
+put_maker true n p t l x k h = ap maker_of (sym (event_made h))
+put_maker false n p t l x k h = absurd (none-some _ h)
 
 puts_maker : (cap : Option ℕ) (n : NetworkState) (p : ℕ) (b : NameId) (o : Option (ℕ × NameId)) (l : Option Load) (x : Event) (k : NetworkState) → puts cap n p b o l ≡ Some (Makes x k) → maker_of x ≡ Some p
 puts_maker cap n p b (Some (s, a)) (Some l) x k h = put_maker (has_room cap (queue_of n (s, a, b))) n p (s, a, b) l x k h
-puts_maker cap n p b (Some t) None x k h = absurd cc
-puts_maker cap n p b None l x k h = absurd cc
+puts_maker cap n p b (Some t) None x k h = absurd (none-some _ h)
+puts_maker cap n p b None l x k h = absurd (none-some _ h)
 
 takes_maker : (n : NetworkState) (p : ℕ) (a : NameId) (o : Option (ℕ × NameId)) (f : Load → Option Taking) (x : Event) (k : NetworkState) → takes n p a o f ≡ Some (Makes x k) → maker_of x ≡ Some p
-takes_maker n p a None f x k h = absurd cc
+takes_maker n p a None f x k h = absurd (none-some _ h)
 takes_maker n p a (Some (s, b)) f x k h = go (queue_of n (s, a, b)) h
   where
     taken : (l : Load) (rest : List Load) (o : Option Taking) → went n p (s, a, b) l rest o ≡ Some (Makes x k) → maker_of x ≡ Some p
-    taken l rest None i = absurd cc
-    taken l rest (Some (Goes next vars m)) i = let j : event.Recv p s a b l ≡ x = cc in ap maker_of (sym j)
+    taken l rest None i = absurd (none-some _ i)
+    taken l rest (Some (Goes next vars m)) i = ap maker_of (sym (event_made i))
 
     go : (q : List Load) → takes_from n p (s, a, b) f q ≡ Some (Makes x k) → maker_of x ≡ Some p
-    go [] i = absurd cc
+    go [] i = absurd (none-some _ i)
     go (l ∷ rest) i = taken l rest (f l) i
 
 node_maker : (cap : Option ℕ) (n : NetworkState) (p : ℕ) (v : ℤ) (vars : Variables) (m : Sessions) (node : CodeNode) (x : Event) (k : NetworkState) → node_makes cap n p v vars m node ≡ Some (Makes x k) → maker_of x ≡ Some p
@@ -86,26 +89,26 @@ node_maker cap n p v vars m (Throw j b g next) x k h = puts_maker cap _ p b _ _ 
 node_maker cap n p v vars m (Recv j a y next) x k h = takes_maker n p a _ _ x k h
 node_maker cap n p v vars m (Branch j a arms) x k h = takes_maker n p a _ _ x k h
 node_maker cap n p v vars m (Catch j a g next) x k h = takes_maker n p a _ _ x k h
-node_maker cap n p v vars m (Set y e next) x k h = let i : event.Set p y (value_of (term_of e) vars) ≡ x = cc in ap maker_of (sym i)
-node_maker cap n p v vars m (Show e next) x k h = let i : event.Show p (value_of (term_of e) vars) ≡ x = cc in ap maker_of (sym i)
-node_maker cap n p v vars m (Host y f a b next) x k h = let i : event.Host p y f (number_of (value_of (term_of a) vars)) (number_of (value_of (term_of b) vars)) v ≡ x = cc in ap maker_of (sym i)
-node_maker cap n p v vars m (If e c d) x k h = let i : event.Test p (truth_of (value_of (term_of e) vars)) ≡ x = cc in ap maker_of (sym i)
-node_maker cap n p v vars m (Join c r j next) x k h = absurd cc
-node_maker cap n p v vars m (Call f q ss) x k h = absurd cc
-node_maker cap n p v vars m End x k h = absurd cc
+node_maker cap n p v vars m (Set y e next) x k h = ap maker_of (sym (event_made h))
+node_maker cap n p v vars m (Show e next) x k h = ap maker_of (sym (event_made h))
+node_maker cap n p v vars m (Host y f a b next) x k h = ap maker_of (sym (event_made h))
+node_maker cap n p v vars m (If e c d) x k h = ap maker_of (sym (event_made h))
+node_maker cap n p v vars m (Join c r j next) x k h = absurd (none-some _ h)
+node_maker cap n p v vars m (Call f q ss) x k h = absurd (none-some _ h)
+node_maker cap n p v vars m End x k h = absurd (none-some _ h)
 
 -- ---- a process that makes an event can step
 
 no_wait_take : (n : NetworkState) (p : ℕ) (a : NameId) (o : Option (ℕ × NameId)) (f : Load → Option Taking) (x : Event) (k : NetworkState) → takes n p a o f ≡ Some (Makes x k) → waits_to_receive n a o f ≡ None
-no_wait_take n p a None f x k h = absurd cc
+no_wait_take n p a None f x k h = absurd (none-some _ h)
 no_wait_take n p a (Some (s, b)) f x k h = go (queue_of n (s, a, b)) h
   where
     taken : (l : Load) (rest : List Load) (o : Option Taking) → f l ≡ o → went n p (s, a, b) l rest o ≡ Some (Makes x k) → waits_for_first s a b f (l ∷ rest) ≡ None
-    taken l rest None j i = absurd cc
+    taken l rest None j i = absurd (none-some _ i)
     taken l rest (Some t) j i = ap (λ (u : Option Taking). cond (is_some u) None (Some (Wrong s a b))) j
 
     go : (q : List Load) → takes_from n p (s, a, b) f q ≡ Some (Makes x k) → waits_for_first s a b f q ≡ None
-    go [] i = absurd cc
+    go [] i = absurd (none-some _ i)
     go (l ∷ rest) i = taken l rest (f l) refl i
 
 -- a node at which a process makes an event
@@ -125,9 +128,9 @@ moves_at e cap n p v vars m (Set y w next) x k h = record { goes_on = refl; wait
 moves_at e cap n p v vars m (Show w next) x k h = record { goes_on = refl; waits_not = refl; joins_not = refl }
 moves_at e cap n p v vars m (Host y f a b next) x k h = record { goes_on = refl; waits_not = refl; joins_not = refl }
 moves_at e cap n p v vars m (If w c d) x k h = record { goes_on = refl; waits_not = refl; joins_not = refl }
-moves_at e cap n p v vars m (Join c r j next) x k h = absurd cc
-moves_at e cap n p v vars m (Call f q ss) x k h = absurd cc
-moves_at e cap n p v vars m End x k h = absurd cc
+moves_at e cap n p v vars m (Join c r j next) x k h = absurd (none-some _ h)
+moves_at e cap n p v vars m (Call f q ss) x k h = absurd (none-some _ h)
+moves_at e cap n p v vars m End x k h = absurd (none-some _ h)
 
 -- where the process of an event is that it can make, and what it makes there
 pub record Running (e : Endpoints) (hosts : Hosts) (cap : Option ℕ) (n : NetworkState) (p : ℕ) (x : Event) (answer : ℤ) (after : NetworkState) : Type 0 where
@@ -141,11 +144,11 @@ pub running : (e : Endpoints) (hosts : Hosts) (cap : Option ℕ) (n : NetworkSta
 running e hosts cap n p x v k h = at_machine (slice_get n.machines p) refl h
   where
     at_place : (m : Machine) → slice_get n.machines p ≡ Some m → (o : Option Place) → place_of e m ≡ o → place_makes cap n p v m.vars o ≡ Some (Makes x k) → Running e hosts cap n p x v k
-    at_place m t None i j = absurd cc
+    at_place m t None i j = absurd (none-some _ j)
     at_place m t (Some q) i j = record { machine = m; place = q; there = t; stands = i; made = j }
 
     at_machine : (o : Option Machine) → slice_get n.machines p ≡ o → machine_makes e cap n p v o ≡ Some (Makes x k) → Running e hosts cap n p x v k
-    at_machine None t j = absurd cc
+    at_machine None t j = absurd (none-some _ j)
     at_machine (Some m) t j = at_place m t (place_of e m) refl j
 
 pub made_maker : (e : Endpoints) (cap : Option ℕ) (n : NetworkState) (p : ℕ) (x : Event) (v : ℤ) (k : NetworkState) → makes e cap n p v ≡ Some (Makes x k) → maker_of x ≡ Some p

@@ -20,3 +20,24 @@ returns-in-Some-Channel c =
     let is : awaited_at e cap n p ≡ Some (Channel c.in-Some-Channel.channel) = awaits e cap n p c.head-head.result c.head-head.ensures ∙ ap (λ (k : Option ℕ). awaited_by k c.head-head.result) (sym c.capacity.ensures) ∙ sym c.in-Some-Channel.ensures ∙ ap (λ (a : Awaited). Some a) c.in-Some-Channel.field-0-is in
     renewed_channel e cap n c.args.done c.args.waiting.now c.args.listed.now c.judge.new.listed c.judge_all.new.listed p c.in-Some-Channel.channel c.requires.lists c.judge.ensures is
     (subst (λ (l : List ℕ). Judges e cap n c.judge.new.listed l c.judge_all.new.listed) c.get-joiners.ensures c.judge_all.ensures)
+
+pub head-head-requires : goal.head-head-requires
+head-head-requires c = c.requires.there
+
+pub judge-requires-clause-there : goal.judge-requires-clause-there
+judge-requires-clause-there c = c.requires.there
+
+pub judge-requires-clause-places : goal.judge-requires-clause-places
+judge-requires-clause-places c = c.requires.places
+
+pub judge-requires-clause-lists : goal.judge-requires-clause-lists
+judge-requires-clause-lists c = c.requires.lists
+
+pub judge-requires-clause-shows : goal.judge-requires-clause-shows
+judge-requires-clause-shows c = c.head-head.ensures
+
+pub judge_all-requires-clause-places : goal.judge_all-requires-clause-places
+judge_all-requires-clause-places c = c.judge.ensures.count ∙ c.requires.places
+
+pub judge_all-requires-clause-lists : goal.judge_all-requires-clause-lists
+judge_all-requires-clause-lists c = c.requires.lists

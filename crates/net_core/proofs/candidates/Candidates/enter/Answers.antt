@@ -3,6 +3,7 @@ use Rattle.std.specs.Prelude.{not, slice_set}
 use Rattle.waiting_processes.specs.Waits.{awaited_at, awaited_by}
 use Rattle.net_core.proofs.Anew.{awaits, entered_one, added, adds, adds_below}
 use Rattle.std.proofs.lemmas.Option.{none-some}
+use Rattle.std.proofs.lemmas.Result.{IfOk-from_err}
 use Rattle.net_core.proofs.candidates.Candidates.enter.Goals as goal
 
 pub returns-in_ok-add-in-Some : goal.returns-in_ok-add-in-Some
@@ -35,3 +36,6 @@ returns-in-None c =
     (λ w i. absurd (none-some w (sym is ∙ i)))
     (λ w q i. i)
     c.requires.places.within
+
+pub returns-in_err-add-in-Some : goal.returns-in_err-add-in-Some
+returns-in_err-add-in-Some c = IfOk-from_err c.from_residual.result _ c.from_residual.ensures.0

@@ -3,6 +3,7 @@ use Rattle.waiting_processes.specs.Taken.{IsIn}
 use Rattle.net_core.specs.Candidates.{HasGrownTo, Enters, Renews, TakesTouched}
 use Rattle.net_core.proofs.Taken.{given_back}
 use Rattle.net_core.proofs.Becoming.{renewed_on, lists_all}
+use Rattle.std.proofs.lemmas.Result.{IfOk-from_err}
 use Rattle.net_core.proofs.candidates.Candidates.follow.Goals as goal
 
 pub enter_all-requires-clause-there : goal.enter_all-requires-clause-there
@@ -50,3 +51,12 @@ returns c =
     let renews = subst (λ (l : List ℕ). Renews e cap m done entered.listed l renewed.listed) c.as_slice-2.ensures.value c.renew_entered.ensures.renews in
     given_back e cap m renewed.listed renewed.unended renewed.waiting c.give_back.new.self c.give_back.ensures
     (renewed_on e cap m c.args.past old c.grow.new.self c.take_touched.new.self entered ps c.requires grows takes joins enters done c.joined_by-done.ensures renewed c.renew_entered.ensures.unended c.renew_entered.ensures.waiting renews)
+
+pub returns-in_err-grow : goal.returns-in_err-grow
+returns-in_err-grow c = IfOk-from_err c.from_residual.result _ c.from_residual.ensures.0
+
+pub returns-in_err-pids : goal.returns-in_err-pids
+returns-in_err-pids c = IfOk-from_err c.from_residual-in_err-pids.result _ c.from_residual-in_err-pids.ensures.0
+
+pub returns-in_err-joins : goal.returns-in_err-joins
+returns-in_err-joins c = IfOk-from_err c.from_residual-in_err-joins.result _ c.from_residual-in_err-joins.ensures.0

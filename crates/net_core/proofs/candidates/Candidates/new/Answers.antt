@@ -4,6 +4,7 @@ use Rattle.waiting_processes.specs.declared.lists.WaitingLists.{WaitingLists}
 use Rattle.waiting_processes.specs.Lists.{waiting_for}
 use Rattle.waiting_processes.specs.Taken.{IsIn}
 use Rattle.waiting_processes.proofs.Taken.{in_none}
+use Rattle.std.proofs.lemmas.Result.{IfOk-from_err}
 use Rattle.net_core.proofs.candidates.Candidates.new.Goals as goal
 
 pub grow-requires-clause-places : goal.grow-requires-clause-places
@@ -32,3 +33,9 @@ returns c =
           record { unended = ap (λ (bs : List Bool). slice_get bs q) unended ∙ r.unended; kept = λ w a. subst (λ (l : WaitingLists). IsIn (waiting_for l w) q) (sym waiting) (r.kept w a) };
       judged = c.judge_each.ensures.judged;
     }
+
+pub returns-in_err-grow : goal.returns-in_err-grow
+returns-in_err-grow c = IfOk-from_err c.from_residual.result _ c.from_residual.ensures.0
+
+pub returns-in_err-enter_each : goal.returns-in_err-enter_each
+returns-in_err-enter_each c = IfOk-from_err c.from_residual-in_err-enter_each.result _ c.from_residual-in_err-enter_each.ensures.0

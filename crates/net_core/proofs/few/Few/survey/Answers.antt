@@ -6,6 +6,7 @@ use Rattle.endpoint_code.specs.Scheduled.{listed_from}
 use Rattle.net_core.proofs.Turns.{ended_turn, listed_turn, ended_more, listed_more, and_true}
 use Rattle.net_core.specs.Shown.{ShowsAll}
 use Rattle.net_core.proofs.Shown.{shown_at}
+use Rattle.std.proofs.lemmas.Result.{IfOk-from_err}
 use Rattle.net_core.proofs.few.Few.survey.Goals as goal
 
 pub is_listed-requires-clause-shows : goal.is_listed-requires-clause-shows
@@ -48,3 +49,9 @@ returns c =
       kept = c.loop-pid.invariant.kept;
       stand = c.count-pid-end.ensures.stand;
     }
+
+pub returns-in_err-add_if-clause-ended : goal.returns-in_err-add_if-clause-ended
+returns-in_err-add_if-clause-ended c = IfOk-from_err c.from_residual.result _ c.from_residual.ensures.0
+
+pub returns-in_err-add_if-clause-listed : goal.returns-in_err-add_if-clause-listed
+returns-in_err-add_if-clause-listed c = IfOk-from_err c.from_residual.result _ c.from_residual.ensures.0
