@@ -78,9 +78,6 @@ one_longer xs b = length-append xs (b ∷ [])
 still_there : (xs : List Bool) (b c : Bool) (q : ℕ) → slice_get xs q ≡ Some c → slice_get (xs ++ b ∷ []) q ≡ Some c
 still_there xs b c q h = get_before xs (b ∷ []) q (slice_get_within xs q c h) ∙ h
 
-pub grown_none : (c : Candidates) → HasPlaces (length c.listed) c → HasGrownTo (length c.listed) c c
-grown_none c places = record { places = places; listed = λ q b h. h; unended = λ q b h. h; waiting = refl }
-
 -- one place more
 pub grown_more : (count : ℕ) (first old : Candidates) (listed unended : List Bool) → HasGrownTo count first old → listed ≡ old.listed ++ false ∷ [] → unended ≡ old.unended ++ false ∷ []
     → HasGrownTo (count + 1) first (record { listed = listed; unended = unended; waiting = old.waiting })
@@ -246,23 +243,9 @@ module _ (e : Endpoints) (cap : Option ℕ) (n : NetworkState) where
       go r d (inl i) w o q lt v = t.judges.stays q (s.came r d i w o q lt v)
       go r d (inr i) w o q lt v = t.came r d (0, ap (λ (j : ℕ). Some j) i) w o q lt v
 
-  -- none of these joins a channel, and all are judged
-  pub renewed_settled : (over : Option NameId) (bits : List Bool) (ps : List ℕ) → ((q : ℕ) → IsIn ps q → IsSettled e cap n bits q) → Renews e cap n over bits ps bits
-  renewed_settled over bits ps settled = record {
-    judges = record { count = refl; stays = λ q r. r; judged = λ q i. (settled q i).judged };
-    came = λ p c i a o q lt b. absurd ((settled p i).joins_none c a);
-  }
-
   -- a process that doesn't join is judged
   pub settled_one : (bits : List Bool) (p : ℕ) (h : Head) → Shows e n p h → is_joining_head h ≡ false → IsJudged e cap n bits p → IsSettled e cap n bits p
   settled_one bits p h s none judged = record { joins_none = λ c a. no_channel cap h none c (sym (awaits e cap n p h s) ∙ a); judged = judged }
-
-  -- the process joins no channel but the one that is over
-  pub renewed_alone : (over : Option NameId) (old new : List Bool) (p : ℕ) → Judges e cap n old (p ∷ []) new → ((c : NameId) → awaited_at e cap n p ≡ Some (Channel c) → over ≡ Some c) → Renews e cap n over old (p ∷ []) new
-  renewed_alone over old new p l none = record {
-    judges = l;
-    came = λ r c i a o q lt b. absurd (o (none c (subst (λ (j : ℕ). awaited_at e cap n j ≡ Some (Channel c)) (sym (in_one p r i)) a)));
-  }
 
   -- it joins this channel
   pub renewed_channel : (over : Option NameId) (lists : WaitingLists) (old mid new : List Bool) (p : ℕ) (c : NameId) → ListsAll e cap n lists → Judges e cap n old (p ∷ []) mid → awaited_at e cap n p ≡ Some (Channel c)

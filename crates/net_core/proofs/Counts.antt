@@ -1,16 +1,7 @@
 -- Numbers of processes, and first loads.
-use Rattle.std.proofs.Common.{◌≡◌, ◌≤◌, ◌<◌, arith, ℕ, zero, suc, List, [], ◌∷◌, refl, sym, ap, ◌∙◌, Some, None, drop}
-use Rattle.std.specs.Prelude.{slice_get, map}
+use Rattle.std.proofs.Common.{◌≡◌, ◌≤◌, ◌<◌, arith, ℕ, zero, suc, List, [], ◌∷◌, refl, ap, Some, None, drop, take, length}
+use Rattle.std.specs.Prelude.{slice_get}
 use Rattle.chor_base.specs.declared.value.Load.{Load}
-use Rattle.endpoint_machine.specs.Views.{MachineView}
-use Rattle.session_starts.specs.Machines.{AreCounted, number_of}
-
-pub counted_none : (ms : List MachineView) → ms ≡ [] → AreCounted ms
-counted_none ms h = λ p n e. absurd (none p n (sym (ap (λ (l : List MachineView). slice_get (map number_of l) p) h) ∙ e))
-  where
-    none : (p n : ℕ) → slice_get [] p ≡ Some n → ⊥
-    none zero n e = cc
-    none (suc p) n e = cc
 
 pub no_first : (ls : List Load) → slice_get ls 0 ≡ None → ls ≡ []
 no_first [] h = refl
@@ -22,3 +13,9 @@ first_rest (x ∷ ls) l h = let same : x ≡ l = cc in ap (λ (y : Load). y ∷ 
 
 pub not_below : {p k : ℕ} → k ≤ p → p < k → ⊥
 not_below le lt = omega arith
+
+pub whole_list : {X : Type 0} (i : ℕ) (xs : List X) → length xs ≤ i → take i xs ≡ xs
+whole_list zero [] le = refl
+whole_list zero (x ∷ xs) le = absurd (omega arith)
+whole_list (suc i) [] le = refl
+whole_list {X} (suc i) (x ∷ xs) le = ap (λ (l : List X). x ∷ l) (whole_list i xs (omega arith))

@@ -5,7 +5,6 @@ pub mod Scopes
 pub mod Heads
 pub mod Fields
 pub mod Rooms
-pub mod Asked
 pub mod Moves
 pub mod Capped
 pub mod Alone

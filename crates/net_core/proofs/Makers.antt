@@ -6,11 +6,10 @@ use Rattle.std.proofs.lemmas.Option.{slice_get_within, none-some}
 use Rattle.chor_base.specs.declared.names.NameId.{NameId}
 use Rattle.chor_base.specs.declared.value.Load.{Load}
 use Rattle.chor_base.specs.declared.event.Event.{Event}
-use Rattle.chor_base.specs.declared.event.Event.TheVariants as event
 use Rattle.chor_base.specs.declared.event.Why.{Why}
 use Rattle.chor_base.specs.declared.event.Why.TheVariants.{Wrong}
 use Rattle.chor_base.specs.Events.{Triple}
-use Rattle.chor_base.specs.Expr.{term_of, value_of, number_of, truth_of}
+use Rattle.chor_base.specs.Expr.{term_of, value_of, number_of}
 use Rattle.chor_base.specs.Meaning.{Hosts}
 use Rattle.chor_base.specs.NameMap.{Variables}
 use Rattle.chor_host.specs.Exact.{HaveOneAnswer}

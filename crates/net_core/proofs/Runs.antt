@@ -157,19 +157,7 @@ none_picked (x ∷ xs) k h = absurd (some_there (x ∷ xs) (k % length (x ∷ xs
     mod_within : (a b : ℕ) → a % suc b < suc b
     mod_within a b = grind arith
 
--- a process that can step neither waits nor has ended
-pub steps_no_wait : (e : Endpoints) (cap : Option ℕ) (n : NetworkState) (p : ℕ) (w : Why) → steps_at e cap n p ≡ true → why_at e cap n p ≡ Some w → ⊥
-steps_no_wait e cap n p w s h = go (slice_get n.machines p) s h
-  where
-    step : (m : Machine) (a : Bool) (o : Option Why) → cond a false (cond (is_some o) false true) ≡ true → o ≡ Some w → ⊥
-    step m true o s h = true≢false (sym s)
-    step m false None s h = none-some w h
-    step m false (Some x) s h = true≢false (sym s)
-
-    go : (o : Option Machine) → steps_of e cap n o ≡ true → why_of e cap n o ≡ Some w → ⊥
-    go None s h = true≢false (sym s)
-    go (Some m) s h = step m (has_ended e m) (waits_for e cap n m) s h
-
+-- a process that can step has not ended
 pub steps_no_end : (e : Endpoints) (cap : Option ℕ) (n : NetworkState) (p : ℕ) → steps_at e cap n p ≡ true → ended_at e n p ≡ true → ⊥
 steps_no_end e cap n p s h = go (slice_get n.machines p) s h
   where

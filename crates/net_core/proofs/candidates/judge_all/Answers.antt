@@ -3,6 +3,7 @@ use Rattle.std.proofs.lemmas.List.{take_more}
 use Rattle.std.proofs.lemmas.Option.{slice_get-get_or}
 use Rattle.net_core.specs.Candidates.{Judges}
 use Rattle.net_core.proofs.Anew.{judged_more, judged_none}
+use Rattle.net_core.proofs.Counts.{whole_list}
 use Rattle.net_core.proofs.candidates.judge_all.Goals as goal
 
 pub head-requires : goal.head-requires
@@ -27,3 +28,8 @@ judge-requires-clause-places c = c.loop-pid.invariant.count ∙ c.requires.place
 
 pub judge-requires-clause-lists : goal.judge-requires-clause-lists
 judge-requires-clause-lists c = c.requires.lists
+
+pub returns : goal.returns
+returns c =
+    let v = c.args.network.now in
+    subst (λ (l : List ℕ). Judges v.endpoints v.capacity v.state c.args.listed.now l c.loop-pid.listed) (whole_list c.loop-pid.pid-index c.args.pids.now c.loop-pid-test.false) c.loop-pid.invariant

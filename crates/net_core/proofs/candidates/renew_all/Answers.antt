@@ -3,6 +3,7 @@ use Rattle.std.proofs.lemmas.List.{take_more}
 use Rattle.std.proofs.lemmas.Option.{slice_get-get_or}
 use Rattle.net_core.specs.Candidates.{Renews}
 use Rattle.net_core.proofs.Anew.{renewed_more, renewed_none}
+use Rattle.net_core.proofs.Counts.{whole_list}
 use Rattle.net_core.proofs.candidates.renew_all.Goals as goal
 
 pub renew-requires-clause-there : goal.renew-requires-clause-there
@@ -24,3 +25,8 @@ renew-requires-clause-places c = c.loop-pid.invariant.judges.count ∙ c.require
 
 pub renew-requires-clause-lists : goal.renew-requires-clause-lists
 renew-requires-clause-lists c = c.requires.lists
+
+pub returns : goal.returns
+returns c =
+    let v = c.args.network.now in
+    subst (λ (l : List ℕ). Renews v.endpoints v.capacity v.state c.args.done c.args.listed.now l c.loop-pid.listed) (whole_list c.loop-pid.pid-index c.args.pids.now c.loop-pid-test.false) c.loop-pid.invariant

@@ -4,6 +4,7 @@ use Rattle.std.proofs.lemmas.Option.{slice_get-get_or}
 use Rattle.net_core.specs.Candidates.{Enters}
 use Rattle.net_core.proofs.Anew.{entered_more, entered_none}
 use Rattle.std.proofs.lemmas.Result.{IfOk-from_err}
+use Rattle.net_core.proofs.Counts.{whole_list}
 use Rattle.net_core.proofs.candidates.Candidates.enter_all.Goals as goal
 
 pub enter-requires-clause-there : goal.enter-requires-clause-there
@@ -25,3 +26,8 @@ enter-requires-clause-places c = c.loop-pid.invariant.places
 
 pub returns-in_err-also : goal.returns-in_err-also
 returns-in_err-also c = IfOk-from_err c.from_residual.result _ c.from_residual.ensures.0
+
+pub returns : goal.returns
+returns c =
+    let v = c.args.network.now in
+    subst (λ (l : List ℕ). Enters v.endpoints v.capacity v.state c.args.self.now l c.loop-pid.joins c.loop-pid.self) (whole_list c.loop-pid.pid-index c.args.pids.now c.loop-pid-test.false) c.loop-pid.invariant
