@@ -1,4 +1,4 @@
-use Rattle.std.proofs.Common.{◌≡◌, ◌<◌, ◌∙◌, sym, ap, ◌++◌, ◌∷◌, [], List, map, take, length, subst, arith, ℕ, zero, suc, refl}
+use Rattle.std.proofs.Common.{◌^◌, ◌≡◌, ◌<◌, ◌∙◌, sym, ap, ◌++◌, ◌∷◌, [], List, map, take, length, subst, arith, ℕ, zero, suc, refl}
 use Rattle.std.proofs.lemmas.List.{take_more, map_push, length-map}
 use Rattle.endpoint_code.specs.Network.{Machine, standing_all}
 use Rattle.endpoint_code.specs.declared.endpoints.Process.{Process}
@@ -9,6 +9,7 @@ use Rattle.net_core.proofs.Turns.{standing_push}
 use Rattle.net_core.proofs.Scopes.{length-standing_all}
 use Rattle.session_starts.proofs.Counts.{counted_push}
 use Rattle.std.proofs.lemmas.Result.{IfOk-from_err}
+use Rattle.net_core.proofs.Counts.{whole_list}
 use Rattle.net_core.proofs.parts.standing_all.Goals as goal
 
 length_take : {X : Type 0} (i : ℕ) (xs : List X) → i < length xs → length (take i xs) ≡ i
@@ -63,3 +64,22 @@ returns-in_err-push-clause-machines c = IfOk-from_err c.from_residual-in_err-pus
 
 pub returns-in_err-push-clause-counted : goal.returns-in_err-push-clause-counted
 returns-in_err-push-clause-counted c = IfOk-from_err c.from_residual-in_err-push.result _ c.from_residual-in_err-push.ensures.0
+
+pub returns-clause-machines : goal.returns-clause-machines
+returns-clause-machines c =
+    c.loop-process.invariant.standing ∙ ap standing_all (whole_list c.loop-process.process-index c.as_slice-process-items.result.now c.loop-process-test.false ∙ c.as_slice-process-items.ensures)
+
+pub returns-clause-counted : goal.returns-clause-counted
+returns-clause-counted c = c.loop-process.invariant.counted
+
+pub returns-clause-few : goal.returns-clause-few
+returns-clause-few c = subst (λ (k : ℕ). k < 2 ^ 32) c.count.ensures c.count.type_inv
+
+pub returns-in_err-machines-clause-few : goal.returns-in_err-machines-clause-few
+returns-in_err-machines-clause-few c = subst (λ (k : ℕ). k < 2 ^ 32) c.count.ensures c.count.type_inv
+
+pub returns-in_err-machine-clause-few : goal.returns-in_err-machine-clause-few
+returns-in_err-machine-clause-few c = subst (λ (k : ℕ). k < 2 ^ 32) c.count.ensures c.count.type_inv
+
+pub returns-in_err-push-clause-few : goal.returns-in_err-push-clause-few
+returns-in_err-push-clause-few c = subst (λ (k : ℕ). k < 2 ^ 32) c.count.ensures c.count.type_inv
