@@ -1,5 +1,5 @@
 -- A part of a run by the pick rule, and the run that goes on from it.
-use Rattle.std.proofs.Common.{◌≡◌, ◌-◌, ◌+◌, ◌*◌, ◌^◌, ◌<◌, ◌≤◌, ℕ, suc, Bool, true, false, nat_lt, List, [], ◌++◌, length, refl, sym, ap, ◌∙◌, subst, Some, None, Option, arith}
+use Rattle.std.proofs.Common.{◌≡◌, ◌-◌, ◌+◌, ◌<◌, ◌≤◌, ℕ, suc, Bool, true, false, nat_lt, List, [], ◌++◌, length, refl, sym, ap, ◌∙◌, subst, Some, None, Option, arith}
 use Rattle.std.specs.Prelude.{◌≢◌, min}
 use Rattle.std.proofs.lemmas.Bool.{ltb-true, ltb-false}
 use Rattle.chor_base.specs.declared.event.Event.{Event}
@@ -12,7 +12,7 @@ use Rattle.net_core.specs.declared.answer.Picked.{Picked}
 use Rattle.net_core.specs.declared.answer.Picked.TheVariants as picked
 use Rattle.net_core.specs.Picks.{GoesOn, HasGone, HasRun, Runs, entries_of}
 use Rattle.net_core.specs.Picks as picks
-use Rattle.net_core.specs.Steps.{FitsMore, most_served}
+use Rattle.net_core.specs.Steps.{FitsMore}
 use Rattle.net_core.specs.Views.{NetworkView}
 use Rattle.net_core.proofs.Numbers.{fits_left}
 use Rattle.net_core.proofs.Runs.{closed_by, length-entries_of}
@@ -22,6 +22,7 @@ use Rattle.endpoint_runs.specs.declared.run.Closed.{Closed}
 use Rattle.endpoint_runs.specs.declared.run.Closed.TheVariants.{Ended, Limit, Stuck}
 use Rattle.endpoint_runs.specs.InParts.{Leads, closed_after}
 use Rattle.endpoint_runs.specs.Runs.{close_of}
+use Rattle.endpoint_runs.proofs.Runs.{fits_alike}
 
 -- ---- counted from another event on
 
@@ -93,14 +94,6 @@ pub record Begins (old first : NetworkView) : Type 0 where
   pub state : first.state ≡ old.state
   pub history : first.history ≡ []
 
-fits_same : (old first : NetworkView) (k : ℕ) → Begins old first → FitsMore old k → FitsMore first k
-fits_same old first k b f = record {
-  sid = subst (λ (n : NetworkState). n.sid + k < 2 ^ 32) (sym b.state) f.sid;
-  machines =
-      subst (λ (e : Endpoints). length first.state.machines + k * most_served e.channels < 2 ^ 32) (sym b.endpoints)
-      (subst (λ (n : NetworkState). length n.machines + k * most_served old.endpoints.channels < 2 ^ 32) (sym b.state) f.machines);
-}
-
 -- what fits after the events that there are
 pub record Ready (old : Run) (k : ℕ) : Type 0 where
   pub within : k ≤ old.schedule.steps
@@ -131,7 +124,7 @@ part_within hosts seed k part steps old first new r b le few fits run =
     let made : length first.history + length g.events ≤ part = goes_within (omega arith) g.run in
     let count : length new.history ≡ length g.events = ap length (g.history ∙ ap (λ es. es ++ entries_of g.events) b.history) ∙ length-entries_of g.events in
     let more : steps - k ≡ length g.events + (steps - (k + length new.history)) = omega arith in
-    let begun = fits_same old first (steps - k) b fits in
+    let begun = fits_alike old first (steps - k) b.endpoints b.state fits in
     record {
       within = omega arith;
       fits = fits_left first new (length g.events) (steps - (k + length new.history)) g.endpoints g.grown (subst (FitsMore first) more begun);

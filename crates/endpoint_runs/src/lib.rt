@@ -4,6 +4,8 @@
 mod going;
 mod parts;
 mod run;
+mod stepwise;
 
 pub use parts::{Run, Schedule};
-pub use run::{Closed, Ran, run_endpoints};
+pub use run::{Closed, Ran, run_endpoints, run_within};
+pub use stepwise::run_stepwise;

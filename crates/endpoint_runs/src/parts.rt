@@ -5,9 +5,10 @@ ghost use Rattle.endpoint_code.specs.Faults.{IsFaultless};
 ghost use Rattle.endpoint_code.specs.Network.{first_state};
 ghost use Rattle.net_core.specs.Steps.{most_served};
 
+use crate::run::begun;
 use chor_base::{Entry, Memory};
 use endpoint_code::Endpoints;
-use net_core::{Network, are_few};
+use net_core::Network;
 use std::alloc::Global;
 
 /// Which run by the pick rule: the seed of its picks, and how many events it has at most.
@@ -50,10 +51,7 @@ impl<'a> Run<'a> {
         ensures before { IfOk result (λ run. run.before ≡ 0) }
         ensures schedule { IfOk result (λ run. run.schedule ≡ schedule) }
     {
-        if !are_few(endpoints, schedule.steps as usize) {
-            return Err(Memory);
-        }
-        let network = Network::new(alloc, endpoints, None)?;
+        let network = begun(alloc, endpoints, None, schedule.steps)?;
         Ok(Run {
             network,
             schedule,

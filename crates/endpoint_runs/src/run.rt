@@ -1,11 +1,14 @@
 //! The scheduled run of endpoint programs.
 
-ghost use Rattle.std.specs.Prelude.{◌≡◌, ◌<◌, ◌≤◌, ◌^◌, Some, IfOk};
+ghost use Rattle.std.specs.Prelude.{◌≡◌, ◌<◌, ◌≤◌, ◌^◌, [], Some, IfOk, length};
 ghost use Rattle.chor_host.specs.Functions.{names_of, hosts_in};
 ghost use Rattle.chor_host.specs.Tables.{functions_of};
-ghost use Rattle.endpoint_code.specs.Faults.{IsFaultlessWith};
-ghost use Rattle.endpoint_runs.specs.Runs.{IsRun, close_of, close_by};
+ghost use Rattle.endpoint_code.specs.Faults.{IsFaultless, IsFaultlessWith};
+ghost use Rattle.endpoint_code.specs.Network.{first_state};
+ghost use Rattle.net_core.specs.Steps.{FitsMore};
+ghost use Rattle.endpoint_runs.specs.Runs.{IsRun, IsRunOf, HasRanSo, close_of, close_by};
 
+use crate::parts::Schedule;
 use chor_base::{Entry, List, Memory, Why};
 use chor_host::HostTable;
 use endpoint_code::Endpoints;
@@ -34,7 +37,6 @@ pub struct Ran {
 /// process has ended, there are as many events as asked for, or no process can step. The programs may
 /// ask these host functions. Where numbers of processes could reach 2^32, which is in no programs within
 /// the limits of a file, it answers want of memory.
-#[tactic(auto, using(crate::proofs::Runs::run_is))]
 pub fn run_endpoints(
     alloc: Global,
     endpoints: &Endpoints,
@@ -47,11 +49,55 @@ pub fn run_endpoints(
     requires few { steps ≤ 1000000 }
     ensures { IfOk result (λ ran. IsRun endpoints.now (hosts_in endpoints.now.names (functions_of hosts.now)) seed steps ran.history (close_of ran.closed)) }
 {
+    run_within(alloc, endpoints, hosts, None, Schedule { seed, steps })
+}
+
+/// The same where each queue takes at most as many loads as the capacity says, if there is one.
+#[tactic(auto, using(crate::proofs::Runs::run_is))]
+pub fn run_within(
+    alloc: Global,
+    endpoints: &Endpoints,
+    hosts: &HostTable,
+    capacity: Option<u32>,
+    schedule: Schedule,
+) -> Result<Ran, Memory>
+    requires faultless { IsFaultlessWith (names_of (functions_of hosts.now)) endpoints.now }
+    requires seed { schedule.seed < 2 ^ 32 }
+    requires few { schedule.steps ≤ 1000000 }
+    ensures { IfOk result (IsRunOf (functions_of hosts.now) capacity schedule endpoints.now) }
+{
+    let mut network = begun(alloc, endpoints, capacity, schedule.steps)?;
+    let picked = network.run_picked(hosts, schedule.seed, schedule.steps);
+    made(picked, network)
+}
+
+// The network of endpoint programs in their first state, where so many events fit.
+pub(crate) fn begun<'a>(
+    alloc: Global,
+    endpoints: &'a Endpoints,
+    capacity: Option<u32>,
+    steps: u64,
+) -> Result<Network<'a>, Memory>
+    requires faultless { IsFaultless endpoints.now }
+    requires few { steps ≤ 1000000 }
+    ensures endpoints { IfOk result (λ network. network.endpoints ≡ endpoints.now) }
+    ensures capacity { IfOk result (λ network. network.capacity ≡ capacity) }
+    ensures state { IfOk result (λ network. network.state ≡ first_state endpoints.now) }
+    ensures history { IfOk result (λ network. network.history ≡ []) }
+    ensures fits { IfOk result (λ network. FitsMore network steps) }
+{
     if !are_few(endpoints, steps as usize) {
         return Err(Memory);
     }
-    let mut network = Network::new(alloc, endpoints, None)?;
-    let closed = closed_by(network.run_picked(hosts, seed, steps))?;
+    let network = Network::new(alloc, endpoints, capacity)?;
+    Ok(network)
+}
+
+// The run of a network that ended so.
+pub(crate) fn made(picked: Picked, network: Network<'_>) -> Result<Ran, Memory>
+    ensures { IfOk result (HasRanSo picked network.entry.history) }
+{
+    let closed = closed_by(picked)?;
     let history = list_of(network.into_history())?;
     Ok(Ran { history, closed })
 }
