@@ -21,7 +21,7 @@ use Rattle.endpoint_code.specs.declared.endpoints.Endpoints.{Endpoints}
 use Rattle.endpoint_code.specs.Faults.{is_among, AreDistinct, one_more, all_among, asks_known, AsksKnown, IsScoped, joins, sends, receives, picks, offers, gives, gains, sets, shows, asks, tests, calls, ends, AllScoped, no_arm, one_arm}
 use Rattle.endpoint_code.specs.Labels.{has_label, HasDistinctLabels, AreDistinctArms}
 use Rattle.endpoint_code.specs.Network as network
-use Rattle.endpoint_code.specs.Trees.{Action, Asks, CodeTree, Does, Offers, Tests, Calls, Ends, Arms, NoArms, Arm, arms_in, trees_of, code_at}
+use Rattle.endpoint_code.specs.Trees.{CodeTree, Arms, arms_in, trees_of, code_at}
 use Rattle.endpoint_code.proofs.CodeTables.{code_at-node}
 use Rattle.merged_codes.specs.Scoped.{IsScopedAction, IsScopedTree, AreScopedArms, IsScopedCall}
 use Rattle.endpoint_names.specs.Keys.{alone, both, same_key, sign_of_name, sign_of_channel, sign_of_procedure, first_by}

@@ -33,3 +33,4 @@ pub mod Terms
 pub mod There
 pub mod Codes
 pub mod Programs
+pub mod Read

@@ -1,7 +1,7 @@
 -- The number of a word in a table of names.
-use Rattle.std.proofs.Common.{◌^◌, ◌≡◌, ◌<◌, ◌≤◌, ◌⊎◌, ℕ, suc, zero, Bool, true, false, List, [], ◌∷◌, ◌++◌, length, Some, None, refl, sym, ap, ◌∙◌, subst, if◌then◌else◌, inl, inr}
+use Rattle.std.proofs.Common.{◌^◌, ◌≡◌, ◌<◌, ◌≤◌, ◌⊎◌, ℕ, suc, zero, Bool, true, false, List, [], ◌∷◌, length, Some, None, refl, sym, ap, ◌∙◌, if◌then◌else◌, inl, inr}
 use Rattle.std.specs.Prelude.{slice_get, slice_index_or, bytes_eq}
-use Rattle.std.specs.List.{fold, list_any, AllByRecursion}
+use Rattle.std.specs.List.{AllByRecursion}
 use Rattle.std.proofs.lemmas.Slice.Eq.{bytes_eq-Decides}
 use Rattle.std.proofs.lemmas.Option.{slice_get_cases, get_or_from_slice_get}
 use Rattle.std.proofs.lemmas.List.{get_or_past}
@@ -12,7 +12,7 @@ use Rattle.chor_lexer.specs.declared.token.Kind.{Kind}
 use Rattle.chor_lexer.specs.declared.token.Kind.TheVariants as kind
 use Rattle.chor_lexer.specs.declared.token.Token.{Token}
 use Rattle.chor_lexer.specs.Lexeme.{Symbol, word, number, text, mark, last, Lexeme, IsLexeme}
-use Rattle.chor_lexer.specs.Tokens.{Spells, AreSpelled, with_name, AreTokensOf}
+use Rattle.chor_lexer.specs.Tokens.{Spells, AreSpelled, AreTokensOf}
 use Rattle.chor_lexer.proofs.Sources.{IsKnown, known_tokens}
 
 -- ---- the number of a word

@@ -1,21 +1,21 @@
-//! Networks whose queues have a capacity, by `run_picked` and by `pick` and `step`.
+//! Networks whose queues have a capacity: their runs, at once and step by step.
 
+ghost use Rattle.std.specs.Prelude.{◌<◌, ◌^◌};
 ghost use Rattle.chor_host.specs.Functions.{names_of};
+ghost use Rattle.chor_host.specs.Tables.{functions_of};
 ghost use Rattle.endpoint_code.specs.Faults.{IsFaultlessWith};
-ghost use Rattle.running_tests.specs.Known.{known};
 
 use crate::programs::{functions, lines, read};
-use crate::steps::Steps;
-use chor_base::{Entry, Memory, NameId, Why};
+use chor_base::{Memory, NameId, Why};
+use chor_host::HostTable;
 use endpoint_code::Endpoints;
-use endpoint_runs::Closed;
+use endpoint_runs::{Closed, Ran, Schedule, run_stepwise, run_within};
 use std::alloc::Global;
-use std::process::Abort;
 use std::test::Fail;
 use worked::endpoints::TWICE;
 
 // How many events a run has at most.
-const STEPS: u32 = 60;
+const STEPS: u64 = 60;
 
 // The run of two sends with room for one message, whatever the seed is.
 const ONE_BY_ONE: &[u8] = b"1 start a #0 A=p B=q
@@ -43,45 +43,21 @@ process t { join a[A](k); send k B 1; send k B 2; recv k B x; send k B 3; end }
 process u { join a[B](k); recv k A x; send k A 4; recv k A y; recv k A z; end }
 ";
 
-// A run by the pick rule: how it is closed, how many events it has and their lines.
-#[derive(Drop)]
-struct Told {
-    closed: Closed,
-    count: usize,
-    text: Vec<u8>,
-}
-
-fn tell(
+// The runs of these programs with room for one message in each queue: at once, and step by step.
+fn both(
     alloc: Global,
+    hosts: &HostTable,
     endpoints: &Endpoints,
-    closed: Closed,
-    history: &[Entry],
-) -> Result<Told, Memory> {
-    Ok(Told {
-        closed,
-        count: history.len(),
-        text: lines(alloc, endpoints, history)?,
-    })
-}
-
-// The run of these programs with room for one message in each queue.
-fn ran(rt: &impl Abort, alloc: Global, endpoints: &Endpoints, seed: u32) -> Result<Told, Fail>
-    requires { IsFaultlessWith (names_of known) endpoints.now }
+    seed: u64,
+) -> Result<[Ran; 2], Memory>
+    requires faultless { IsFaultlessWith (names_of (functions_of hosts.now)) endpoints.now }
+    requires seed { seed < 2 ^ 32 }
 {
-    let hosts = functions(alloc)?;
-    let steps = Steps::new(rt, alloc, endpoints, Some(1))?;
-    let (closed, history) = steps.finish(rt, &hosts, seed, STEPS);
-    Ok(tell(alloc, endpoints, closed, history.as_slice())?)
-}
-
-// The same, step by step.
-fn stepped(rt: &impl Abort, alloc: Global, endpoints: &Endpoints, seed: u32) -> Result<Told, Fail>
-    requires { IsFaultlessWith (names_of known) endpoints.now }
-{
-    let hosts = functions(alloc)?;
-    let mut steps = Steps::new(rt, alloc, endpoints, Some(1))?;
-    let closed = steps.run(rt, &hosts, seed, STEPS);
-    Ok(tell(alloc, endpoints, closed, steps.history())?)
+    let schedule = Schedule { seed, steps: STEPS };
+    Ok([
+        run_within(alloc, endpoints, hosts, Some(1), schedule)?,
+        run_stepwise(alloc, endpoints, hosts, Some(1), schedule)?,
+    ])
 }
 
 #[test]
@@ -89,11 +65,9 @@ fn a_sender_waits_for_room(rt: HostRuntime) -> Result<(), Fail> {
     let hosts = functions(rt.alloc())?;
     let endpoints = read(&rt, rt.alloc(), &hosts, TWICE)?;
     for seed in 0..3 {
-        for told in [
-            ran(&rt, rt.alloc(), &endpoints, seed)?,
-            stepped(&rt, rt.alloc(), &endpoints, seed)?,
-        ] {
-            assert!(&rt; told.closed == Closed::Ended && told.text.as_slice() == ONE_BY_ONE);
+        for ran in both(rt.alloc(), &hosts, &endpoints, seed)? {
+            let told = lines(rt.alloc(), &endpoints, ran.history.as_slice())?;
+            assert!(&rt; ran.closed == Closed::Ended && told.as_slice() == ONE_BY_ONE);
         }
     }
     Ok(())
@@ -105,12 +79,9 @@ fn a_sender_waits_for_ever(rt: HostRuntime) -> Result<(), Fail> {
     let endpoints = read(&rt, rt.alloc(), &hosts, CROWDED)?;
     let from = endpoints.names.find(b"A").unwrap_or(NameId(0));
     let to = endpoints.names.find(b"B").unwrap_or(NameId(0));
-    for told in [
-        ran(&rt, rt.alloc(), &endpoints, 0)?,
-        stepped(&rt, rt.alloc(), &endpoints, 0)?,
-    ] {
-        assert!(&rt; told.count == 2);
-        assert!(&rt; told.closed == Closed::Stuck(0, Why::Full(0, from, to)));
+    for ran in both(rt.alloc(), &hosts, &endpoints, 0)? {
+        assert!(&rt; ran.history.len() == 2);
+        assert!(&rt; ran.closed == Closed::Stuck(0, Why::Full(0, from, to)));
     }
     Ok(())
 }
@@ -120,11 +91,12 @@ fn senders_wait_among_many(rt: HostRuntime) -> Result<(), Fail> {
     let hosts = functions(rt.alloc())?;
     let endpoints = read(&rt, rt.alloc(), &hosts, PAIRS)?;
     for seed in 0..13 {
-        let told = ran(&rt, rt.alloc(), &endpoints, seed)?;
-        assert!(&rt;
-            told.closed == Closed::Ended && told.count == 27,
-            "with seed {seed}"
-        );
+        for ran in both(rt.alloc(), &hosts, &endpoints, seed)? {
+            assert!(&rt;
+                ran.closed == Closed::Ended && ran.history.len() == 27,
+                "with seed {seed}"
+            );
+        }
     }
     Ok(())
 }

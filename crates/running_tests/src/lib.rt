@@ -11,5 +11,3 @@ mod codes;
 mod offices;
 #[cfg(test)]
 mod programs;
-#[cfg(test)]
-mod steps;

@@ -1,10 +1,8 @@
 //! Offices that are told the events of scheduled runs.
 
-ghost use Rattle.std.specs.Prelude.{◌≡◌};
 ghost use Rattle.chor_host.specs.Functions.{names_of};
 ghost use Rattle.chor_host.specs.Tables.{functions_of};
 ghost use Rattle.endpoint_code.specs.Faults.{IsFaultlessWith};
-ghost use Rattle.running_tests.specs.Known.{known};
 
 use crate::programs::{are_alike, functions, read};
 use chor_base::{Entry, Event, Load, Memory, NameId, Value};
@@ -75,8 +73,7 @@ fn told(
     capacity: Option<u32>,
     entries: &[Entry],
 ) -> Result<Option<Found>, Memory>
-    requires faultless { IsFaultlessWith (names_of known) endpoints.now }
-    requires known { functions_of hosts.now ≡ known }
+    requires { IsFaultlessWith (names_of (functions_of hosts.now)) endpoints.now }
 {
     let events = events_of(alloc, entries)?;
     match office_of(alloc, endpoints, hosts, capacity, events.as_slice())? {

@@ -1,12 +1,12 @@
 //! Endpoint programs that are read from a text, and the lines of their events.
 
-ghost use Rattle.std.specs.Prelude.{◌≡◌, true, IfOk, IfSome};
+ghost use Rattle.std.specs.List.{list_all};
+ghost use Rattle.std.specs.Prelude.{◌≡◌, IfOk};
 ghost use Rattle.chor_host.specs.Functions.{names_of};
 ghost use Rattle.chor_host.specs.Tables.{functions_of};
-ghost use Rattle.endpoint_code.specs.Faults.{IsFaultlessWith, AsksKnown, is_listed};
-ghost use Rattle.running_tests.specs.Known.{known};
+ghost use Rattle.endpoint_code.specs.Faults.{IsFaultlessWith, asks_known, is_listed};
 
-use chor_base::{Denied, Entry, HostOp, List, Meaning, Memory, Word};
+use chor_base::{Entry, HostOp, List, Meaning, Memory, Word};
 use chor_host::{HostFn, HostTable, host_max};
 use endpoint_check::read_programs;
 use endpoint_code::Endpoints;
@@ -20,9 +20,7 @@ use transcript::{Book, print_events};
 const LONGEST: usize = 16_777_216;
 
 /// The host functions that programs may ask: `max` alone.
-pub fn functions(alloc: Global) -> Result<HostTable, Fail>
-    ensures { IfOk result (λ hosts. functions_of hosts ≡ known) }
-{
+pub fn functions(alloc: Global) -> Result<HostTable, Fail> {
     let name = Word::from_slice(alloc, b"max".as_slice())?;
     let mut hosts = HostTable::new(alloc);
     hosts.add(HostFn::new(name, Meaning::Exact(HostOp::Max), host_max))?;
@@ -30,46 +28,28 @@ pub fn functions(alloc: Global) -> Result<HostTable, Fail>
 }
 
 /// The programs that a text is of.
+#[tactic(auto, using(endpoint_laws::proofs::Read::read_is_faultless))]
 pub fn read(
     rt: &impl Abort,
     alloc: Global,
     hosts: &HostTable,
     text: &[u8],
 ) -> Result<Endpoints, Fail>
-    requires { functions_of hosts.now ≡ known }
-    ensures { IfOk result (IsFaultlessWith (names_of known)) }
-{
-    match read_with(alloc, text, hosts)? {
-        Some(endpoints) => Ok(endpoints),
-        None => panic!(rt; "it is too long, or asks other host functions"),
-    }
-}
-
-// The same: nothing where the text is too long, or where the programs ask other host functions than these.
-fn read_with(alloc: Global, text: &[u8], hosts: &HostTable) -> Result<Option<Endpoints>, Denied>
-    ensures { IfOk result (λ found. IfSome found (IsFaultlessWith (names_of (functions_of hosts.now)))) }
+    ensures { IfOk result (IsFaultlessWith (names_of (functions_of hosts.now))) }
 {
     if text.len() > LONGEST {
-        return Ok(None);
+        panic!(rt; "it is too long");
     }
-    endpoint_laws::made_is_faultless();
     let endpoints = read_programs(alloc, text, hosts)?;
-    match asks_these(alloc, &endpoints, hosts) {
-        Ok(true) => Ok(Some(endpoints)),
-        Ok(false) => {
-            drop(endpoints);
-            Ok(None)
-        }
-        Err(Memory) => {
-            drop(endpoints);
-            Err(Denied::Memory)
-        }
+    if !asks_these(alloc, &endpoints, hosts)? {
+        panic!(rt; "it asks other host functions");
     }
+    Ok(endpoints)
 }
 
 // Whether programs ask no other host functions.
 fn asks_these(alloc: Global, endpoints: &Endpoints, hosts: &HostTable) -> Result<bool, Memory>
-    ensures { IfOk result (λ asks. asks ≡ true → AsksKnown (is_listed (names_of (functions_of hosts.now)) endpoints.now) endpoints.now) }
+    ensures { IfOk result (λ asks. asks ≡ list_all (asks_known (is_listed (names_of (functions_of hosts.now)) endpoints.now)) endpoints.now.code.nodes) }
 {
     let known = host_names(alloc, hosts)?;
     Ok(asks_known(endpoints, known.as_slice()))

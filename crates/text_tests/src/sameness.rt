@@ -9,6 +9,7 @@ use std::test::Fail;
 
 // The file that a source is, with tables of its own. Other sources are much shorter than these tests
 // take them.
+#[tactic(auto, using(source_grammar::proofs::KnownTexts::texts_known))]
 fn read(alloc: Global, source: &[u8]) -> Result<File, Denied> {
     let mut names = Names::new(alloc);
     let mut texts = Texts::new(alloc);
