@@ -3,6 +3,7 @@ pub mod Tables
 pub mod WordTables
 pub mod NameMaps
 pub mod Copies
+pub mod TermCopies
 pub mod FirstPlaces
 pub mod Members
 pub mod Rules

@@ -5,7 +5,7 @@ use Rattle.std.proofs.lemmas.List.Elements.{All-nil, All-cons}
 use Rattle.std.proofs.lemmas.Option.{get_or_from_slice_get, slice_get_within}
 use Rattle.std.proofs.lemmas.Slice.Eq.{bytes_eq-Decides}
 use Rattle.chor_base.specs.declared.rule.Place.{Place}
-use Rattle.std.specs.Ptr.{null_ptr}
+use Rattle.chor_base.proofs.TermCopies.{expr_of, same_term}
 use Rattle.chor_base.specs.declared.expr.Expr.{Expr}
 use Rattle.chor_base.specs.declared.expr.Expr.TheVariants.{Lit, Var, Un', Bin'}
 use Rattle.chor_base.specs.declared.value.Value.TheVariants.{Int, Bool as Truth, Text}
@@ -19,25 +19,6 @@ use Rattle.endpoint_reader.specs.Tokens.{named, all_named, written}
 use Rattle.endpoint_reader.specs.Known.{IsThere, AreThere, IsTermThere, IsExprThere}
 use Rattle.endpoint_laws.proofs.Words.{HasNumber, HasText, number_of, first_at, is_at}
 use Rattle.endpoint_laws.proofs.Naming.{IsPhraseKnown, IsOperand, IsWord, IsName, AreNames}
-
--- ---- expressions in memory
-
--- where an operand lies is of no account
-somewhere : Box (Unit {0}) Global
-somewhere = record { ptr = null_ptr; alloc = record { memory = record { seal = tt } }; value = tt }
-
-pub expr_of : Term → Expr
-expr_of (Constant v) = Lit v
-expr_of (Variable x) = Var x
-expr_of (Unary op e) = Un' op somewhere (expr_of e)
-expr_of (Binary op e f) = Bin' op somewhere (expr_of e) somewhere (expr_of f)
-
-same_term : (x : Term) → term_of (expr_of x) ≡ x
-unfolding expr_of
-same_term (Constant v) = refl
-same_term (Variable x) = refl
-same_term (Unary op e) = λ i. Unary op (same_term e i)
-same_term (Binary op e f) = λ i. Binary op (same_term e i) (same_term f i)
 
 module _ (i : Input) where
   abbrev ns : List (List ℕ)

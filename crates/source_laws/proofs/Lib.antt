@@ -1,4 +1,3 @@
-mod Terms
 mod Nodes
 mod Sources
 mod FirstFaults

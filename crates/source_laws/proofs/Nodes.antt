@@ -15,7 +15,7 @@ use Rattle.chor_tree.specs.Source.{Statement, Starts, Sends, Selects, Gives, Set
 use Rattle.source_grammar.specs.Growing.{Adds, begins_of}
 use Rattle.source_grammar.proofs.Growth.{adds_none, adds_on, adds_node}
 use Rattle.source_grammar.proofs.Tables.{block_stays, block_pushed}
-use Rattle.source_laws.proofs.Terms.{expr_of, same_term}
+use Rattle.chor_base.proofs.TermCopies.{expr_of, same_term}
 
 -- a statement before a node
 form_with : Statement → NodeId → Form

@@ -115,6 +115,30 @@ has_state [] [] (a ∷ others) serve h i u = absurd (clash h)
     clash t = cc
 has_state (r ∷ rs) [] active serve h i u = absurd cc
 
+-- each part of the faults that the names of a start may have is none
+pub record HasNoStartFault (f : File) (scope : Scope) (c k : Written) (active serve : List Part) : Type 0 where
+  pub channel : unknown (channels_of f) c ≡ []
+  pub parts : wrong_parts (channel_of f c.name) c active serve ≡ []
+  pub players : flat_map (λ (q : Part). unknown_process scope q.process) active ≡ []
+  pub session : named_as_channel f k ≡ []
+  pub new : fault_at (is_among (scope.processes ++ scope.sessions) k.name) N2 k ≡ []
+  pub served : repeated (k.name ∷ (scope.processes ++ scope.sessions)) (map (λ (q : Part). q.process) serve) ≡ []
+
+module _ (f : File) (hosts : List (List ℕ)) where
+  pub no_start_fault : (scope : Scope) (c k : Written) (active serve : List Part) (next : NodeId) → node_faults f hosts scope (form.Start c k active serve next) ≡ [] → HasNoStartFault f scope c k active serve
+  no_start_fault scope c k active serve next h =
+      let A = unknown (channels_of f) c in
+      let B = wrong_parts (channel_of f c.name) c active serve in
+      let C = flat_map (λ (q : Part). unknown_process scope q.process) active in
+      let D = named_as_channel f k in
+      let E = repeated (scope.processes ++ scope.sessions) (k ∷ map (λ (q : Part). q.process) serve) in
+      let w0 = both_empty (A ++ B ++ C ++ D) E h in
+      let w1 = both_empty (A ++ B ++ C) D w0.0 in
+      let w2 = both_empty (A ++ B) C w1.0 in
+      let w3 = both_empty A B w2.0 in
+      let first = both_empty (fault_at (is_among (scope.processes ++ scope.sessions) k.name) N2 k) (repeated (k.name ∷ (scope.processes ++ scope.sessions)) (map (λ (q : Part). q.process) serve)) w0.1 in
+      record { channel = w3.0; parts = w3.1; players = w2.1; session = w1.1; new = first.0; served = first.1 }
+
 module _ (f : File) where
   module _ (hosts : List (List ℕ)) (names : (x : Fault) → ¬ IsNameFault f hosts x) (no_protocol_fault : faults_of f ≡ []) where
     pub declared : declaration_faults f ≡ []
@@ -135,16 +159,8 @@ module _ (f : File) where
     -- what the names of a start keep
     pub starts_well : (scope : Scope) (e : Environment) → InScope scope e → (c k : Written) (active serve : List Part) (next : NodeId) → form_filled (form.Start c k active serve next) ≡ true → node_faults f hosts scope (form.Start c k active serve next) ≡ [] → IsNamedStart f scope e c.name k.name active serve
     starts_well scope e i c k active serve next filled h =
-        let A = unknown (channels_of f) c in
-        let B = wrong_parts (channel_of f c.name) c active serve in
-        let C = flat_map (λ (q : Part). unknown_process scope q.process) active in
-        let D = named_as_channel f k in
-        let E = repeated (scope.processes ++ scope.sessions) (k ∷ map (λ (q : Part). q.process) serve) in
-        let w0 = both_empty (A ++ B ++ C ++ D) E h in
-        let w1 = both_empty (A ++ B ++ C) D w0.0 in
-        let w2 = both_empty (A ++ B) C w1.0 in
-        let w3 = both_empty A B w2.0 in
-        let s = is_named_there (λ z. z.name) f.services c.name (is_known (channels_of f) c w3.0) in
+        let w = no_start_fault f hosts scope c k active serve next h in
+        let s = is_named_there (λ z. z.name) f.services c.name (is_known (channels_of f) c w.channel) in
         let fine = both_empty (unknown (protocols_of f) s.0.protocol) (wrong_roles (protocol_of f s.0.protocol.name) s.0) (each_empty (channel_faults f) f.services channels_fine s.0 (found_in (λ z. z.name) f.services c.name s.0 s.1)) in
         let p = is_named_there (λ z. z.name) f.protocols s.0.protocol.name (is_known (protocols_of f) s.0.protocol fine.0) in
         let there = found_in (λ z. z.name) f.protocols s.0.protocol.name p.0 p.1 in
@@ -153,8 +169,7 @@ module _ (f : File) where
         let roles = role_list p.0 s.0 (subst (λ o. wrong_roles o s.0 ≡ []) p.1 fine.1) in
         let has_active = all_of (λ (z : Service). has_items z.active) f.services (and_parts _ _ (and_parts _ _ f.kept.filled).0).0 s.0 (found_in (λ z. z.name) f.services c.name s.0 s.1) in
         let states = has_state p.0.roles p.0.states s.0.active s.0.serve roles has_active used in
-        let first = both_empty (fault_at (is_among (scope.processes ++ scope.sessions) k.name) N2 k) (repeated (k.name ∷ (scope.processes ++ scope.sessions)) (map (λ (q : Part). q.process) serve)) w0.1 in
-        let off = (among_either scope.processes scope.sessions k.name (no_fault_at (is_among (scope.processes ++ scope.sessions) k.name) N2 k first.0)).1 in
+        let off = (among_either scope.processes scope.sessions k.name (no_fault_at (is_among (scope.processes ++ scope.sessions) k.name) N2 k w.new)).1 in
         record {
           service = s.0;
           is_channel = s.1;
@@ -164,8 +179,8 @@ module _ (f : File) where
           rest = states.rest;
           states = states.is;
           free = free off (standing_of e.standings k.name) refl;
-          known = all_in_scope scope.processes (λ q. q.process) active w2.1;
-          new = are_new (k.name ∷ (scope.processes ++ scope.sessions)) scope.processes (λ x n. (among_either scope.processes scope.sessions x (false_or _ _ n).1).0) serve first.1;
+          known = all_in_scope scope.processes (λ q. q.process) active w.players;
+          new = are_new (k.name ∷ (scope.processes ++ scope.sessions)) scope.processes (λ x n. (among_either scope.processes scope.sessions x (false_or _ _ n).1).0) serve w.served;
           some = some_items active filled;
         }
       where

@@ -1,5 +1,5 @@
 -- The channels of endpoints are services of the file, with their roles; and which channels a choreography starts.
-use Rattle.std.proofs.Common.{◌≡◌, ℕ, suc, ◌<◌, ◌⊎◌, List, [], ◌∷◌, map, length, refl, sym, ap, ◌∙◌, Some, Bool, true, false, if◌then◌else◌, ◌==◌, arith}
+use Rattle.std.proofs.Common.{◌≡◌, suc, ◌<◌, ◌⊎◌, List, [], ◌∷◌, map, length, refl, sym, ap, ◌∙◌, Some, Bool, true, false, if◌then◌else◌, ◌==◌, arith}
 use Rattle.std.specs.Prelude.{Contains}
 use Rattle.std.specs.List.{filter}
 use Rattle.chor_base.specs.declared.names.NameId.{NameId}

@@ -9,12 +9,12 @@ use Rattle.chor_tree.specs.declared.file.Named.{Named as Written}
 use Rattle.chor_tree.specs.declared.file.Proc.{Proc}
 use Rattle.chor_tree.specs.declared.file.ProcParam.{ProcParam}
 use Rattle.chor_tree.specs.declared.file.SessionParam.{SessionParam}
-use Rattle.chor_tree.specs.Names.{Scope, is_among, procedure_of, procedure_faults, session_faults, unknown, unknown_role, protocol_of, protocols_of, named_as_channel, repeated, scope_of_main, scope_of_procedure}
-use Rattle.chor_tree.specs.Source.{Block, body_of}
+use Rattle.chor_tree.specs.Names.{is_among, procedure_of, procedure_faults, session_faults, unknown, unknown_role, protocol_of, protocols_of, named_as_channel, repeated, scope_of_main, scope_of_procedure}
+use Rattle.chor_tree.specs.Source.{body_of}
 use Rattle.chor_semantics.specs.Choreography.{Named}
 use Rattle.chor_semantics.specs.Sources.{Procedure, procedures_of, tree_in, trees_of}
 use Rattle.well_formed.specs.Holders.{named_param, listed_param, declared_holder, AllHoldersFit, HoldersFit}
-use Rattle.well_formed.proofs.References.{same_name, clash}
+use Rattle.well_formed.proofs.References.{same_name}
 use Rattle.delegation.specs.declared.held.Held.{Held}
 use Rattle.delegation.specs.Owners.{held as entry, holder_of}
 use Rattle.delegation.specs.Checks.{all_differ}
@@ -23,7 +23,6 @@ use Rattle.typed_sources.specs.Stands.{holder_at}
 use Rattle.typed_sources.proofs.Arguments.{named, owners_of, standings_of, holder_elsewhere, no_owner}
 use Rattle.typed_sources.proofs.Begins.{IsProper}
 use Rattle.typed_sources.specs.Laws.{IsAccepted}
-use Rattle.chor_semantics.specs.Blocks.{choreography_of}
 use Rattle.chor_semantics.proofs.Blocks.{choreography_at}
 use Rattle.typed_sources.proofs.Resolved.{both_empty, each_empty, found_in}
 use Rattle.typed_sources.proofs.ProcedureHeads.{is_known}
@@ -32,7 +31,6 @@ use Rattle.typed_sources.proofs.Accepted.{good, main_faultless, procedures_keep,
 use Rattle.typed_sources.specs.Lists.{one_more, place_of, listed_for, place_for, listed_in, listed_by, lists_of}
 use Rattle.typed_sources.proofs.Opened.{not_is}
 use Rattle.typed_sources.proofs.Places.{from_file, place_named, listed_there}
-use Rattle.typed_sources.proofs.Owners.{AreKept}
 use Rattle.typed_sources.proofs.Owned.{holder_in, KeepsOwners, block_owned}
 
 -- ---- the place of a parameter

@@ -1,5 +1,5 @@
 -- The sessions of each run of a typed file conform to their protocols.
-use Rattle.std.proofs.Common.{◌≡◌, ℕ, suc, ◌≤◌, List, [], ◌∷◌, map, length, refl, sym, ap, ◌∙◌, subst, Some, None, Option, Bool, true, false, ◌||◌, ◌==◌, inl, inr, ◌⊎◌, arith, if◌then◌else◌}
+use Rattle.std.proofs.Common.{◌≡◌, ℕ, suc, ◌≤◌, List, [], ◌∷◌, map, length, refl, sym, ap, ◌∙◌, subst, Some, None, Option, Bool, true, false, ◌||◌, inl, inr, ◌⊎◌, arith}
 use Rattle.std.proofs.lemmas.Bool.Decides.{nat_tests}
 use Rattle.std.specs.Prelude.{nat_lt}
 use Rattle.std.specs.FinMap as fin
@@ -12,10 +12,10 @@ use Rattle.chor_tree.specs.declared.file.Named.{Named as Written}
 use Rattle.chor_tree.specs.declared.file.ProcParam.{ProcParam}
 use Rattle.chor_tree.specs.declared.file.SessionParam.{SessionParam}
 use Rattle.chor_tree.specs.Source.{body_of as body_at}
-use Rattle.chor_tree.specs.Names.{scope_of_main, procedure_of, first_named}
+use Rattle.chor_tree.specs.Names.{scope_of_main, procedure_of}
 use Rattle.chor_tree.specs.declared.file.Proc.{Proc}
 use Rattle.chor_semantics.specs.Choreography.{Ref, Named, ref_eq, among, Choreography, Then, Either, Calls, Ends, Starts, Communicates, InTransit, Alone, instance_of}
-use Rattle.chor_semantics.specs.Sources.{Configuration, Procedure, procedure_from, procedures_of, first_configuration, tree_in, trees_of, numbered}
+use Rattle.chor_semantics.specs.Sources.{Configuration, procedures_of, first_configuration, tree_in, trees_of, numbered}
 use Rattle.chor_semantics.specs.Steps.{procedure_named, body_of, bound_all}
 use Rattle.chor_semantics.specs.Runs.{IsRunTo, IsTerminated}
 use Rattle.well_formed.proofs.References.{same_ref}

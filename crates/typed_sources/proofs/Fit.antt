@@ -1,5 +1,5 @@
 -- The choreography of a block without fault is well formed.
-use Rattle.std.proofs.Common.{◌≡◌, ℕ, List, [], ◌∷◌, ◌++◌, map, length, refl, sym, ap, ◌∙◌, subst, Some, None, Option, Bool, true, false, ◌==◌, ◌&&◌, inl, inr}
+use Rattle.std.proofs.Common.{◌≡◌, List, [], ◌∷◌, ◌++◌, map, refl, sym, ap, ◌∙◌, subst, Some, None, Option, Bool, true, false, ◌==◌, ◌&&◌, inl, inr}
 use Rattle.std.specs.Prelude.{not, is_some}
 use Rattle.std.specs.List.{list_all}
 use Rattle.std.proofs.lemmas.Bool.{and_parts}
@@ -17,7 +17,7 @@ use Rattle.chor_tree.specs.declared.protocol.ProtoStep.{ProtoStep}
 use Rattle.chor_tree.specs.declared.tree.Part.{Part}
 use Rattle.chor_tree.specs.Names.{Scope, is_among, names_in, are_same, wrong_parts, channel_of, procedure_of}
 use Rattle.chor_tree.specs.Source.{Statement, Starts, Sends, Selects, Gives, Sets, Asks, Shows, Block, Then, Either, Calls, Ends, nowhere}
-use Rattle.chor_semantics.specs.Choreography.{Named, ref_eq, Content, OfValue, OfLabel, OfPart, Choreography}
+use Rattle.chor_semantics.specs.Choreography.{Named, ref_eq, Content, OfValue, OfLabel, OfPart}
 use Rattle.chor_semantics.specs.Sources.{name_ref, parts_of, served_of, procedure_from, procedures_of}
 use Rattle.endpoint_code.specs.declared.endpoints.Channel.{Channel}
 use Rattle.global_types.specs.Moves.{Exchange as Move, IsIn as IsMove, plain, endpoint, passes, chooses, exchanges_of}

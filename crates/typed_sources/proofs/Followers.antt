@@ -1,5 +1,5 @@
 -- What stands in lists of one and two nodes, and which nodes come before a place.
-use Rattle.std.proofs.Common.{◌≡◌, ◌<◌, List, [], ◌∷◌, ℕ, refl, subst, arith}
+use Rattle.std.proofs.Common.{◌<◌, List, ◌∷◌, ℕ, refl, subst, arith}
 use Rattle.std.specs.Prelude.{Contains, All}
 use Rattle.chor_tree.specs.declared.tree.NodeId.{NodeId}
 

@@ -1,5 +1,5 @@
 -- The choreographies of a guarded file are guarded: a parameter is named before a call passes it.
-use Rattle.std.proofs.Common.{◌≡◌, ℕ, zero, suc, List, [], ◌∷◌, ◌++◌, map, refl, sym, ap, ◌∙◌, subst, Some, Bool, true, false, ◌==◌, ◌||◌, arith}
+use Rattle.std.proofs.Common.{◌≡◌, ℕ, zero, suc, List, [], ◌∷◌, ◌++◌, map, refl, sym, ap, ◌∙◌, subst, Bool, true, false, ◌==◌, ◌||◌, arith}
 use Rattle.std.specs.Prelude.{Contains}
 use Rattle.chor_base.specs.declared.names.NameId.{NameId}
 use Rattle.chor_base.specs.declared.fault.Fault.{Fault}
@@ -13,14 +13,13 @@ use Rattle.chor_tree.specs.Names.{Scope, is_among, names_in, scope_of_procedure}
 use Rattle.chor_tree.specs.Source.{Statement, Starts, Sends, Selects, Gives, Sets, Asks, Shows, Block, Then, Either, Calls, Ends, body_of}
 use Rattle.chor_semantics.specs.Choreography as chor
 use Rattle.chor_semantics.specs.Choreography.{Named, among, ref_eq}
-use Rattle.chor_semantics.specs.Sources.{name_ref, parts_of, tree_in, trees_of}
+use Rattle.chor_semantics.specs.Sources.{parts_of, tree_in, trees_of}
 use Rattle.well_formed.specs.Guarded.{IsGuardedFor}
-use Rattle.well_formed.proofs.References.{true_eq, same_name, clash, left_or, right_or, or_false, or_rights}
+use Rattle.well_formed.proofs.References.{true_eq, clash, left_or, right_or, or_false, or_rights}
 use Rattle.typing_rules.specs.Environment.{Environment, at_procedure}
 use Rattle.typing_rules.specs.Guarded.{named_in, IsUnguardedCall, here, further, IsGuarded}
 use Rattle.typing_rules.specs.After.{after_statement}
 use Rattle.typed_sources.proofs.Opened.{AreNew}
-use Rattle.typed_sources.proofs.Arguments.{named}
 use Rattle.typed_sources.specs.Laws.{IsAccepted}
 use Rattle.chor_semantics.specs.Blocks.{node_of, choreography_of}
 use Rattle.chor_semantics.proofs.Blocks.{choreography_at}

@@ -1,8 +1,7 @@
 -- What the names of a block keep, in a file without fault of names, besides what typing needs of them.
-use Rattle.std.proofs.Common.{◌≡◌, ℕ, zero, suc, ◌<◌, List, [], ◌∷◌, ◌++◌, map, length, refl, sym, subst, true, false, ◌&&◌, arith}
-use Rattle.std.specs.Prelude.{Contains, slice_get, not}
+use Rattle.std.proofs.Common.{◌≡◌, ℕ, zero, suc, ◌<◌, List, [], ◌∷◌, ◌++◌, length, sym, subst, true, false, arith}
+use Rattle.std.specs.Prelude.{Contains}
 use Rattle.std.specs.List.{flat_map, list_all}
-use Rattle.chor_base.specs.declared.names.NameId.{NameId}
 use Rattle.chor_base.specs.declared.fault.Fault.{Fault}
 use Rattle.chor_base.specs.declared.rule.Place.{Place}
 use Rattle.chor_base.specs.declared.rule.Rule.TheVariants.{N2}
@@ -13,14 +12,14 @@ use Rattle.chor_tree.specs.declared.tree.NodeId.{NodeId}
 use Rattle.chor_tree.specs.declared.tree.Form.{Form}
 use Rattle.chor_tree.specs.declared.tree.Form.TheVariants as form
 use Rattle.chor_tree.specs.Children.{children_of}
-use Rattle.chor_tree.specs.Names.{Scope, unknown, unknown_process, unknown_session, repeated, is_among, channels_of, channel_of, procedures_of, procedure_of, wrong_parts, wrong_numbers, named_as_channel, message_faults, node_faults, scope_after, IsBodyFault, here, further, IsNameFault, fault_at}
+use Rattle.chor_tree.specs.Names.{Scope, unknown, unknown_process, unknown_session, is_among, channels_of, channel_of, procedures_of, procedure_of, wrong_parts, wrong_numbers, message_faults, node_faults, scope_after, IsBodyFault, here, further, IsNameFault}
 use Rattle.chor_tree.specs.Source.{Statement, Starts, Sends, Selects, Gives, Sets, Asks, Shows, Block, Then, Either, Calls, Ends, block_in, block_of, blocks_of, body_of}
 use Rattle.chor_tree.proofs.Blocks.{block_at}
 use Rattle.global_types.specs.Faults.{faults_of}
 use Rattle.typed_sources.proofs.Sources.{scope_with}
 use Rattle.typed_sources.proofs.Resolved.{no_items, both_empty}
 use Rattle.typed_sources.proofs.ProcedureHeads.{no_fault_at, is_known}
-use Rattle.typed_sources.proofs.Accepted.{in_table, all_in_scope, among_either}
+use Rattle.typed_sources.proofs.Accepted.{in_table, all_in_scope, among_either, no_start_fault}
 use Rattle.typed_sources.proofs.Followers.{low, only, other}
 
 -- a start has its channel's roles, and its session has a new name, which is no channel's
@@ -52,19 +51,11 @@ AreNamed f scope (Ends place) = Unit {0}
 module _ (f : File) (hosts : List (List ℕ)) where
   start_named : (scope : Scope) (c k : Written) (active serve : List Part) (next : NodeId) → node_faults f hosts scope (form.Start c k active serve next) ≡ [] → IsNewStart f scope c k active serve
   start_named scope c k active serve next h =
-      let A = unknown (channels_of f) c in
-      let B = wrong_parts (channel_of f c.name) c active serve in
-      let C = flat_map (λ (q : Part). unknown_process scope q.process) active in
-      let D = named_as_channel f k in
-      let E = repeated (scope.processes ++ scope.sessions) (k ∷ map (λ (q : Part). q.process) serve) in
-      let w0 = both_empty (A ++ B ++ C ++ D) E h in
-      let w1 = both_empty (A ++ B ++ C) D w0.0 in
-      let w2 = both_empty (A ++ B) C w1.0 in
-      let first = both_empty (fault_at (is_among (scope.processes ++ scope.sessions) k.name) N2 k) (repeated (k.name ∷ (scope.processes ++ scope.sessions)) (map (λ (q : Part). q.process) serve)) w0.1 in
+      let w = no_start_fault f hosts scope c k active serve next h in
       record {
-        parts = (both_empty A B w2.0).1;
-        no_channel = no_fault_at (is_among (channels_of f) k.name) N2 k w1.1;
-        new = (among_either scope.processes scope.sessions k.name (no_fault_at (is_among (scope.processes ++ scope.sessions) k.name) N2 k first.0)).1;
+        parts = w.parts;
+        no_channel = no_fault_at (is_among (channels_of f) k.name) N2 k w.session;
+        new = (among_either scope.processes scope.sessions k.name (no_fault_at (is_among (scope.processes ++ scope.sessions) k.name) N2 k w.new)).1;
       }
 
   session_named : (scope : Scope) (a b : Part) (k : Written) → message_faults scope a b k ≡ [] → IsSession scope k

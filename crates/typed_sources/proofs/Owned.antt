@@ -18,7 +18,7 @@ use Rattle.chor_tree.specs.Source.{Statement, Starts, Sends, Selects, Gives, Set
 use Rattle.chor_semantics.specs.Choreography.{Ref, Named, ref_eq}
 use Rattle.chor_semantics.specs.Sources.{name_ref, parts_of, served_of}
 use Rattle.well_formed.specs.Holders.{is_role, first_with, as_parts, HolderFits, holder_after, HeldBy, PassedHeld, HoldersFit}
-use Rattle.well_formed.proofs.References.{same_name, same_ref, clash}
+use Rattle.well_formed.proofs.References.{same_name, same_ref}
 use Rattle.delegation.specs.declared.held.Held.{Held}
 use Rattle.delegation.specs.Owners.{holder_of, holds, holds_some, started, passed}
 use Rattle.delegation.specs.Checks.{Check, ask, first_failed, all_differ}
@@ -28,14 +28,14 @@ use Rattle.typing_rules.specs.Allowed.{value_sent, labels_sent, arm_in, endpoint
 use Rattle.typing_rules.specs.Checks.{parties, sort_at, value_checks, label_checks, is_endpoint, endpoint_checks, rest_ended, params_are_set, holds_as, session_fits, sessions_fit, arguments_fit, statement_checks, rule_at}
 use Rattle.typing_rules.specs.After.{with_value, with_state as in_state, with_endpoint, with_sort, after_statement}
 use Rattle.typed_sources.specs.Stands.{at, holder_at}
-use Rattle.typed_sources.proofs.Checked.{first_passes, asked, holder_is, some_is}
-use Rattle.typed_sources.proofs.Moved.{at_same, at_is, passed_other, passed_this, holds_one}
+use Rattle.typed_sources.proofs.Checked.{first_passes, asked, holder_is}
+use Rattle.typed_sources.proofs.Moved.{at_same, at_is, passed_other, passed_this}
 use Rattle.typed_sources.proofs.Opened.{IsNamedStart, eq_flip, holder_other, holder_new, parts_same, first_of_parts}
 use Rattle.typed_sources.proofs.Arguments.{named}
 use Rattle.typed_sources.proofs.Calls.{all_of}
 use Rattle.chor_semantics.specs.Blocks.{node_of, choreography_of}
 use Rattle.typed_sources.proofs.Sources.{NamesKept, IsNamedCall, IsFaultless, IsIn, scope_with}
-use Rattle.typed_sources.specs.Lists.{one_more, place_of, listed_for, place_for, listed_in, listed_by, lists_of}
+use Rattle.typed_sources.specs.Lists.{one_more, place_of, listed_for, listed_in, listed_by, lists_of}
 use Rattle.typed_sources.proofs.Opened.{not_is}
 use Rattle.typed_sources.proofs.Places.{listed_there, placed, more_is}
 use Rattle.typed_sources.proofs.Owners.{AreKept, kept_moved, kept_passed, kept_started}

@@ -1,6 +1,5 @@
 -- Small facts of tests, numbers, lists and options.
-use Rattle.std.proofs.Common.{◌≡◌, ℕ, Bool, true, false, List, [], ◌∷◌, ◌++◌, Option, None, refl, ap, ◌&&◌, ◌==◌}
-use Rattle.std.proofs.lemmas.Bool.{eqb-true, and_parts}
+use Rattle.std.proofs.Common.{◌≡◌, List, [], ◌∷◌, ◌++◌, Option, None, refl, ap}
 use Rattle.chor_base.specs.declared.names.NameId.{NameId}
 use Rattle.typed_sources.specs.Typing.{HasProtocol}
 

@@ -25,7 +25,6 @@ use Rattle.delegation.specs.Checks.{all_differ}
 use Rattle.typing_rules.specs.Environment.{at_main, at_procedure}
 use Rattle.typed_sources.proofs.Calls.{all_of}
 use Rattle.typed_sources.specs.Laws.{IsAccepted}
-use Rattle.chor_semantics.specs.Blocks.{choreography_of}
 use Rattle.chor_semantics.proofs.Blocks.{choreography_at}
 use Rattle.typed_sources.proofs.Resolved.{both_empty, each_empty, found_in, is_named_there}
 use Rattle.typed_sources.proofs.ProcedureHeads.{no_fault_at, not_true, is_known, all_apart, names_append, names_map}
