@@ -70,11 +70,7 @@ impl Code {
         ensures short { OnOk result (length self.new.nodes < 2 ^ 32) }
         ensures err { OnErr result (self.new ≡ self.old) }
     {
-        let count = self.nodes.len();
-        if count >= u32::MAX as usize {
-            return Err(Memory);
-        }
-        let number = count as u32;
+        let number = self.nodes.count();
         self.nodes.push(node)?;
         Ok(CodeId(number))
     }
