@@ -10,7 +10,7 @@ use Rattle.chor_lexer.proofs.Cuts.{one_reading, not_both}
 use Rattle.chor_tree.specs.declared.file.File.{File}
 use Rattle.chor_tree.specs.Source.{Source, source_of}
 use Rattle.chor_tree.specs.Same.{same_words, same_texts, same_source, same_files}
-use Rattle.chor_tree.proofs.SameLaws.{source_joined, words_joined, texts_joined}
+use Rattle.chor_tree.proofs.SameJoined.{source_joined, words_joined, texts_joined}
 use Rattle.source_grammar.specs.Faults.{IsFirstFault}
 use Rattle.source_grammar.proofs.FirstFaults.{one_source_is, never_refused_is}
 use Rattle.chor_print.specs.Text.{canonical_text}

@@ -19,7 +19,8 @@ use Rattle.chor_lexer.specs.Spelling.{IsSource, expr_symbols}
 use Rattle.chor_lexer.proofs.Cuts.{cut_on}
 use Rattle.chor_lexer.proofs.Pieces.{IsOther}
 use Rattle.chor_lexer.proofs.Texts.{heads}
-use Rattle.chor_lexer.proofs.Printed.{Closed, closed_by, Cuts, word_next, single_next, double_next, is_pair, expr_cuts}
+use Rattle.chor_lexer.proofs.Printed.{Closed, closed_by, word_next, single_next, double_next, is_pair}
+use Rattle.chor_lexer.proofs.PrintedCuts.{Cuts, expr_cuts}
 use Rattle.chor_lexer.proofs.ReadBack.{word_utf8, mark_utf8, expr_utf8}
 use Rattle.chor_print.specs.Parts.{indentation, line_at, after_commas}
 use Rattle.chor_print.specs.Pieces as text

@@ -5,7 +5,7 @@ use Rattle.chor_base.specs.declared.rule.Rule.{Rule}
 use Rattle.chor_tree.specs.declared.file.File.{File}
 use Rattle.chor_tree.specs.Source.{source_of}
 use Rattle.chor_tree.specs.Same.{same_words, same_texts, same_source, same_files}
-use Rattle.chor_tree.proofs.SameLaws.{same_files_reflexive}
+use Rattle.chor_tree.proofs.SameJoined.{same_files_reflexive}
 use Rattle.chor_print.specs.Text.{canonical_text}
 use Rattle.canonical_laws.specs.ReadsBack.{IsReadFrom}
 use Rattle.canonical_laws.proofs.Anew.{is_cut, is_taken, is_settled}

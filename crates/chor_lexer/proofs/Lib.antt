@@ -18,6 +18,7 @@ pub mod Viable
 pub mod Longest
 pub mod Spelling
 pub mod Printed
+pub mod PrintedCuts
 pub mod Utf8
 pub mod ReadBack
 pub mod Sources

@@ -1,41 +1,35 @@
 -- The canonical text of an expression is cut into the tokens that it spells.
-use Rattle.std.proofs.Common.{◌≡◌, ◌≢◌, ◌<◌, ◌≤◌, ◌^◌, ◌==◌, ◌||◌, ◌&&◌, not, ℕ, ℤ, Bool, true, false, List, [], ◌∷◌, ◌++◌, length, map, Option, refl, sym, ap, ◌∙◌, subst, arith, append_assoc, length-append, nat_lt, codes, rules}
+use Rattle.std.proofs.Common.{◌≡◌, ◌≢◌, ◌<◌, ◌≤◌, ◌^◌, ◌==◌, ◌||◌, ◌&&◌, not, ℕ, ℤ, Bool, true, false, List, [], ◌∷◌, ◌++◌, length, Option, refl, sym, ap, ◌∙◌, subst, arith, append_assoc, length-append, nat_lt, codes, rules}
 use Rattle.std.specs.Prelude.{if◌then◌else◌}
 use Rattle.std.specs.Char.{is_ascii_digit}
 use Rattle.std.specs.Fmt.{decimal, signed_decimal}
 use Rattle.std.specs.Str.Parse.{digits_value}
 use Rattle.std.proofs.lemmas.Bool.Decides.{nat_tests, Decides-eqb}
 use Rattle.std.proofs.lemmas.Fmt.{decimal_nonempty, digits_decimal, digits_value-decimal}
-use Rattle.std.proofs.lemmas.List.{append-nil}
 use Rattle.std.proofs.lemmas.Str.Parse.{IsNumeralModel, numerals_by_value}
-use Rattle.chor_base.specs.declared.rule.Place.{Place}
 use Rattle.chor_base.specs.declared.value.Value.{Value}
 use Rattle.chor_base.specs.declared.value.Value.TheVariants as value
-use Rattle.chor_base.specs.declared.expr.UnOp.{UnOp}
 use Rattle.chor_base.specs.declared.expr.UnOp.TheVariants as unop
 use Rattle.chor_base.specs.declared.expr.BinOp.{BinOp}
 use Rattle.chor_base.specs.declared.expr.BinOp.TheVariants as binop
 use Rattle.chor_base.specs.Expr.{Term, Constant, Variable, Unary, Binary}
-use Rattle.chor_base.specs.Words.{AllDistinct}
 use Rattle.chor_base.specs.Writing.{name_in, truth_text, escaped_byte, literal, literal_in}
 use Rattle.chor_base.specs.Writing as writing
 use Rattle.chor_lexer.specs.declared.mark.Mark.{Mark}
-use Rattle.chor_lexer.specs.declared.mark.Mark.TheVariants.{OpenParen, CloseParen, Becomes, Arrow, Plus, Minus, Star, Slash, Equal, NotEqual, Less, LessEqual, And, Or, Not}
-use Rattle.chor_lexer.specs.declared.token.Token.{Token}
+use Rattle.chor_lexer.specs.declared.mark.Mark.TheVariants.{OpenParen, CloseParen, Becomes, Arrow, Plus, Minus, Star, Slash, Equal, NotEqual, Less, LessEqual, And, Or}
 use Rattle.chor_lexer.specs.Mark.{spelling}
 use Rattle.chor_lexer.specs.Text.{is_plain, IsTextOf, nothing, plain, escape}
-use Rattle.chor_lexer.specs.Lexeme.{Symbol, word, number, text, mark, last, Lexeme, is_letter, is_word_byte, IsLexeme, is_word, is_number, is_text, is_mark, IsLongest}
-use Rattle.chor_lexer.specs.Cut.{start, place_after, space, IsNext, IsCut, here, blank, token}
-use Rattle.chor_lexer.specs.Tokens.{IsTokens, AreSpelled}
+use Rattle.chor_lexer.specs.Lexeme.{Symbol, word, number, text, mark, is_letter, is_word_byte, IsLexeme, is_word, is_number, is_text, is_mark, IsLongest}
+use Rattle.chor_lexer.specs.Cut.{IsNext}
 use Rattle.chor_lexer.specs.Scan.{Begins}
-use Rattle.chor_lexer.specs.Canonical.{unary_mark, binary_mark, strength_of, left_needs, right_needs, enclosed, operand_text, constant_text, expr_text}
-use Rattle.chor_lexer.specs.Spelling.{IsLiteral, IsSource, enclosed_symbols, text_symbols, constant_symbols, expr_symbols, SpellAll, IsAllButLast}
+use Rattle.chor_lexer.specs.Canonical.{binary_mark, strength_of, left_needs, right_needs, enclosed, operand_text, constant_text, expr_text}
+use Rattle.chor_lexer.specs.Spelling.{IsLiteral, IsSource}
 use Rattle.chor_lexer.proofs.Texts.{heads, tails}
 use Rattle.chor_lexer.proofs.Runs.{Passes}
 use Rattle.chor_lexer.proofs.Fronts.{IsMark, single, double, mark_is, lexeme_long, lexeme_class, symbol_class}
 use Rattle.chor_lexer.proofs.Pieces.{word_passes, digit_passes, text_longest, IsOther, mark_longest, other_no_blank, mark_few}
-use Rattle.chor_lexer.proofs.Cuts.{cut_on, lexeme_no_blank, one_reading}
-use Rattle.chor_lexer.proofs.Spelling.{name_of, symbols_read_back}
+use Rattle.chor_lexer.proofs.Cuts.{lexeme_no_blank}
+use Rattle.chor_lexer.proofs.Spelling.{name_of}
 
 -- ---- where a token ends
 
@@ -49,10 +43,10 @@ closed_none b r e = absurd cc
 pub closed_by : (c : ℕ) (bs : List ℕ) → is_word_byte c ≡ false → Closed (c ∷ bs)
 closed_by c bs h b r e = subst (λ k. is_word_byte k ≡ false) (heads c b bs r e) h
 
-closed_space : (bs : List ℕ) → Closed (32 ∷ bs)
+pub closed_space : (bs : List ℕ) → Closed (32 ∷ bs)
 closed_space bs = closed_by 32 bs refl
 
-closed_paren : (bs : List ℕ) → Closed (41 ∷ bs)
+pub closed_paren : (bs : List ℕ) → Closed (41 ∷ bs)
 closed_paren bs = closed_by 41 bs refl
 
 digit_is_word_byte : (b : ℕ) → is_ascii_digit b ≡ true → is_word_byte b ≡ true
@@ -100,7 +94,7 @@ decimal_lexeme n h =
     let small : n < 2 ^ 64 = omega arith in
     subst (λ (m : ℕ). IsLexeme (number m) (decimal n)) (digits_value-decimal numeral n small) (digits_lexeme (decimal n) (decimal_nonempty n small) (digits_decimal numeral n small))
 
-number_next : (n : ℕ) (mid : List ℕ) → n < 2 ^ 63 → Closed mid → IsNext (number n) (decimal n) mid (decimal n ++ mid)
+pub number_next : (n : ℕ) (mid : List ℕ) → n < 2 ^ 63 → Closed mid → IsNext (number n) (decimal n) mid (decimal n ++ mid)
 number_next n mid h c =
     let l = decimal_lexeme n h in
     record {
@@ -139,7 +133,7 @@ pub escaped_is : (t : List ℕ) → IsTextOf (writing.escaped t) t
 escaped_is [] = nothing
 escaped_is (b ∷ t) = byte_is b (writing.escaped t) t (escaped_is t)
 
-text_next : (t mid : List ℕ) → length (writing.escaped t) ≤ 256 → IsNext (text t) (34 ∷ writing.escaped t ++ 34 ∷ []) mid ((34 ∷ writing.escaped t ++ 34 ∷ []) ++ mid)
+pub text_next : (t mid : List ℕ) → length (writing.escaped t) ≤ 256 → IsNext (text t) (34 ∷ writing.escaped t ++ 34 ∷ []) mid ((34 ∷ writing.escaped t ++ 34 ∷ []) ++ mid)
 text_next t mid few =
     let long = text_longest ((34 ∷ writing.escaped t ++ 34 ∷ []) ++ mid) (writing.escaped t) mid t (ap (λ (l : List ℕ). 34 ∷ l) (append_assoc (writing.escaped t) (34 ∷ []) mid)) (escaped_is t) in
     record {
@@ -201,23 +195,23 @@ double_next m b c mid e other slashes =
     }
 
 -- no two slashes
-unslashed : (b : ℕ) (mid rest : List ℕ) → (b ≡ 47 → ⊥) → b ∷ mid ≡ 47 ∷ rest → ⊥
+pub unslashed : (b : ℕ) (mid rest : List ℕ) → (b ≡ 47 → ⊥) → b ∷ mid ≡ 47 ∷ rest → ⊥
 unslashed b mid rest n e = n (heads b 47 mid rest e)
 
 twice : (b : ℕ) (mid rest : List ℕ) → 47 ∷ b ∷ mid ≡ 47 ∷ 47 ∷ rest → b ∷ mid ≡ 47 ∷ rest
 twice b mid rest e = tails 47 47 (b ∷ mid) (47 ∷ rest) e
 
-open_next : (mid : List ℕ) → IsNext (mark OpenParen) (40 ∷ []) mid (40 ∷ mid)
+pub open_next : (mid : List ℕ) → IsNext (mark OpenParen) (40 ∷ []) mid (40 ∷ mid)
 open_next mid = single_next OpenParen 40 mid refl (refl, refl, refl, λ e. omega arith) (λ rest e. unslashed 40 mid (47 ∷ rest) (λ q. omega arith) e) (λ c r e. refl)
 
-close_next : (mid : List ℕ) → IsNext (mark CloseParen) (41 ∷ []) mid (41 ∷ mid)
+pub close_next : (mid : List ℕ) → IsNext (mark CloseParen) (41 ∷ []) mid (41 ∷ mid)
 close_next mid = single_next CloseParen 41 mid refl (refl, refl, refl, λ e. omega arith) (λ rest e. unslashed 41 mid (47 ∷ rest) (λ q. omega arith) e) (λ c r e. refl)
 
 spaced : (b : ℕ) (mid : List ℕ) → is_pair b 32 ≡ false → (c : ℕ) (r : List ℕ) → 32 ∷ mid ≡ c ∷ r → is_pair b c ≡ false
 spaced b mid h c r e = let same : 32 ≡ c = cc in subst (λ k. is_pair b k ≡ false) same h
 
 -- before a space
-operator_next : (op : BinOp) (mid : List ℕ) → IsNext (mark (binary_mark op)) (spelling (binary_mark op)) (32 ∷ mid) (spelling (binary_mark op) ++ 32 ∷ mid)
+pub operator_next : (op : BinOp) (mid : List ℕ) → IsNext (mark (binary_mark op)) (spelling (binary_mark op)) (32 ∷ mid) (spelling (binary_mark op) ++ 32 ∷ mid)
 operator_next binop.Add mid = single_next Plus 43 (32 ∷ mid) refl (refl, refl, refl, λ e. omega arith) (λ rest e. unslashed 43 _ (47 ∷ rest) (λ q. omega arith) e) (spaced 43 mid refl)
 operator_next binop.Sub mid = single_next Minus 45 (32 ∷ mid) refl (refl, refl, refl, λ e. omega arith) (λ rest e. unslashed 45 _ (47 ∷ rest) (λ q. omega arith) e) (spaced 45 mid refl)
 operator_next binop.Mul mid = single_next Star 42 (32 ∷ mid) refl (refl, refl, refl, λ e. omega arith) (λ rest e. unslashed 42 _ (47 ∷ rest) (λ q. omega arith) e) (spaced 42 mid refl)
@@ -231,14 +225,14 @@ operator_next binop.Or mid = double_next Or 124 124 (32 ∷ mid) refl (refl, ref
 
 -- ---- how the text of an expression begins
 
-record Starts (bs : List ℕ) : Type 0 where
-  byte : ℕ
-  rest : List ℕ
-  parts : bs ≡ byte ∷ rest
-  no_equal : byte ≢ 61
-  no_greater : byte ≢ 62
+pub record Starts (bs : List ℕ) : Type 0 where
+  pub byte : ℕ
+  pub rest : List ℕ
+  pub parts : bs ≡ byte ∷ rest
+  pub no_equal : byte ≢ 61
+  pub no_greater : byte ≢ 62
 
-starts_on : (bs more : List ℕ) → Starts bs → Starts (bs ++ more)
+pub starts_on : (bs more : List ℕ) → Starts bs → Starts (bs ++ more)
 starts_on bs more s = record { byte = s.byte; rest = s.rest ++ more; parts = ap (λ (l : List ℕ). l ++ more) s.parts; no_equal = s.no_equal; no_greater = s.no_greater }
 
 starts_by : (p : ℕ → Bool) (c : ℕ) (cs : List ℕ) → p c ≡ true → p 61 ≡ false → p 62 ≡ false → Starts (c ∷ cs)
@@ -272,11 +266,11 @@ constant_starts names texts (value.Bool false) ok = starts_by is_letter 102 (97 
 constant_starts names texts (value.Text t) ok = subst (λ (o : Option (List ℕ)). Starts (literal o)) (sym ok.1) (literal_byte 34 (writing.escaped ok.0 ++ 34 ∷ []) (omega arith))
 constant_starts names texts (value.Part s r) ok = absurd ok
 
-operand_starts : (b : Bool) (bs : List ℕ) → Starts bs → Starts (enclosed b bs)
+pub operand_starts : (b : Bool) (bs : List ℕ) → Starts bs → Starts (enclosed b bs)
 operand_starts true bs s = literal_byte 40 (bs ++ 41 ∷ []) (omega arith)
 operand_starts false bs s = s
 
-expr_starts : (names texts : List (List ℕ)) (x : Term) → IsSource names texts x → Starts (expr_text names texts x)
+pub expr_starts : (names texts : List (List ℕ)) (x : Term) → IsSource names texts x → Starts (expr_text names texts x)
 expr_starts names texts (Constant v) ok = constant_starts names texts v ok
 expr_starts names texts (Variable x) ok = subst Starts (sym (name_of names x ok.0 ok.1)) (word_starts (word ok.0) ok.0 ok.3 refl)
 expr_starts names texts (Unary unop.Neg x) ok = literal_byte 45 _ (omega arith)
@@ -284,130 +278,3 @@ expr_starts names texts (Unary unop.Not x) ok = literal_byte 33 _ (omega arith)
 expr_starts names texts (Binary op x y) ok =
     let o = operand_starts (nat_lt (strength_of x) (left_needs op)) (expr_text names texts x) (expr_starts names texts x ok.0) in
     starts_on _ (operand_text (right_needs op) (strength_of y) (expr_text names texts y)) (starts_on _ (codes " " ++ spelling (binary_mark op) ++ codes " ") o)
-
--- ---- cuts
-
--- bytes are cut into tokens of these symbols
-pub record Cuts (bs : List ℕ) (p : Place) (ss : List Symbol) (rest : List ℕ) : Type 0 where
-  pub lexemes : List Lexeme
-  pub next : Place
-  pub cut : IsCut bs p lexemes rest next
-  pub are : map (λ l. l.symbol) lexemes ≡ ss
-
-map_both : (ls ms : List Lexeme) → map (λ (l : Lexeme). l.symbol) (ls ++ ms) ≡ map (λ (l : Lexeme). l.symbol) ls ++ map (λ (l : Lexeme). l.symbol) ms
-map_both [] ms = refl
-map_both (l ∷ ls) ms = ap (λ (k : List Symbol). l.symbol ∷ k) (map_both ls ms)
-
-cuts_one : (s : Symbol) (w mid bs : List ℕ) (p : Place) → IsNext s w mid bs → Cuts bs p (s ∷ []) mid
-cuts_one s w mid bs p n = record { lexemes = record { symbol = s; place = p } ∷ []; next = place_after p w; cut = token n here; are = refl }
-
-cuts_on : (bs mid rest : List ℕ) (p : Place) (ss qs : List Symbol) → Cuts bs p ss mid → ((q : Place) → Cuts mid q qs rest) → Cuts bs p (ss ++ qs) rest
-cuts_on bs mid rest p ss qs c more =
-    let d = more c.next in
-    record {
-      lexemes = c.lexemes ++ d.lexemes;
-      next = d.next;
-      cut = cut_on bs mid rest p c.next d.next c.lexemes d.lexemes c.cut d.cut;
-      are = map_both c.lexemes d.lexemes ∙ (λ i. c.are i ++ d.are i);
-    }
-
-cuts_space : (bs rest : List ℕ) (p : Place) (ss : List Symbol) → ((q : Place) → Cuts bs q ss rest) → Cuts (32 ∷ bs) p ss rest
-cuts_space bs rest p ss more =
-    let c = more (place_after p (32 ∷ [])) in
-    record { lexemes = c.lexemes; next = c.next; cut = blank {w = 32 ∷ []} refl (space refl) c.cut; are = c.are }
-
--- a text that is cut so wherever a token ends after it
-abbrev pub AlwaysCuts : List ℕ → List Symbol → Type 0
-AlwaysCuts bs ss = (rest : List ℕ) → Closed rest → (p : Place) → Cuts (bs ++ rest) p ss rest
-
-operand_cuts : (b : Bool) (bs : List ℕ) (ss : List Symbol) → AlwaysCuts bs ss → AlwaysCuts (enclosed b bs) (enclosed_symbols b ss)
-operand_cuts true bs ss c rest h p =
-    let after = append_assoc bs (41 ∷ []) rest in
-    cuts_on (40 ∷ ((bs ++ 41 ∷ []) ++ rest)) ((bs ++ 41 ∷ []) ++ rest) rest p (mark OpenParen ∷ []) (ss ++ mark CloseParen ∷ []) (cuts_one _ _ _ _ p (open_next ((bs ++ 41 ∷ []) ++ rest)))
-    (λ q. subst (λ l. Cuts l q (ss ++ mark CloseParen ∷ []) rest) (sym after) (cuts_on (bs ++ 41 ∷ rest) (41 ∷ rest) rest q ss (mark CloseParen ∷ []) (c (41 ∷ rest) (closed_paren rest) q) (λ r. cuts_one _ _ _ _ r (close_next rest))))
-operand_cuts false bs ss c rest h p = c rest h p
-
-constant_cuts : (names texts : List (List ℕ)) (v : Value) → IsLiteral names texts v → AlwaysCuts (constant_text texts v) (constant_symbols texts v)
-constant_cuts names texts (value.Int z) ok rest h p =
-    let P : ℤ → Type 0 = λ y. Cuts (signed_decimal y ++ rest) p (constant_symbols texts (value.Int y)) rest in
-    subst P (sym ok.1) (cuts_one _ _ _ _ p (number_next ok.0 rest ok.2 h))
-constant_cuts names texts (value.Bool true) ok rest h p = cuts_one _ _ _ _ p (word_next (codes "true") rest (is_word refl (refl, (refl, (refl, tt)))) (omega arith) h)
-constant_cuts names texts (value.Bool false) ok rest h p = cuts_one _ _ _ _ p (word_next (codes "false") rest (is_word refl (refl, (refl, (refl, (refl, tt))))) (omega arith) h)
-constant_cuts names texts (value.Text t) ok rest h p =
-    let P : Option (List ℕ) → Type 0 = λ o. Cuts (literal o ++ rest) p (text_symbols o) rest in
-    subst P (sym ok.1) (cuts_one _ _ _ _ p (text_next ok.0 rest ok.2))
-constant_cuts names texts (value.Part s r) ok rest h p = absurd ok
-
-unary_cuts : (op : UnOp) (bs : List ℕ) (ss : List Symbol) → Starts bs → AlwaysCuts bs ss → AlwaysCuts (spelling (unary_mark op) ++ bs) (mark (unary_mark op) ∷ ss)
-unary_cuts unop.Neg bs ss s c rest h p =
-    let alone : (b : ℕ) (r : List ℕ) → bs ++ rest ≡ b ∷ r → is_pair 45 b ≡ false = λ b r e. let t = starts_on bs rest s in let same : t.byte ≡ b = same_head t.byte b t.rest r (sym t.parts ∙ e) in subst (λ k. is_pair 45 k ≡ false) same (minus_alone t.byte t.no_greater) in
-    cuts_on (45 ∷ (bs ++ rest)) (bs ++ rest) rest p (mark Minus ∷ []) ss (cuts_one _ _ _ _ p (single_next Minus 45 (bs ++ rest) refl (refl, refl, refl, λ e. omega arith) (λ r e. unslashed 45 (bs ++ rest) (47 ∷ r) (λ q. omega arith) e) alone)) (λ q. c rest h q)
-  where
-    same_head : (a b : ℕ) (r q : List ℕ) → a ∷ r ≡ b ∷ q → a ≡ b
-    same_head a b r q e = cc
-
-    minus_alone : (b : ℕ) → b ≢ 62 → is_pair 45 b ≡ false
-    minus_alone b n = grind (arith, nat_tests)
-unary_cuts unop.Not bs ss s c rest h p =
-    let alone : (b : ℕ) (r : List ℕ) → bs ++ rest ≡ b ∷ r → is_pair 33 b ≡ false = λ b r e. let t = starts_on bs rest s in let same : t.byte ≡ b = same_head t.byte b t.rest r (sym t.parts ∙ e) in subst (λ k. is_pair 33 k ≡ false) same (not_alone t.byte t.no_equal) in
-    cuts_on (33 ∷ (bs ++ rest)) (bs ++ rest) rest p (mark Not ∷ []) ss (cuts_one _ _ _ _ p (single_next Not 33 (bs ++ rest) refl (refl, refl, refl, λ e. omega arith) (λ r e. unslashed 33 (bs ++ rest) (47 ∷ r) (λ q. omega arith) e) alone)) (λ q. c rest h q)
-  where
-    same_head : (a b : ℕ) (r q : List ℕ) → a ∷ r ≡ b ∷ q → a ≡ b
-    same_head a b r q e = cc
-
-    not_alone : (b : ℕ) → b ≢ 61 → is_pair 33 b ≡ false
-    not_alone b n = grind (arith, nat_tests)
-
-binary_cuts : (op : BinOp) (xs ys : List ℕ) (ss qs : List Symbol) → AlwaysCuts xs ss → AlwaysCuts ys qs → AlwaysCuts ((xs ++ (codes " " ++ spelling (binary_mark op) ++ codes " ")) ++ ys) (ss ++ mark (binary_mark op) ∷ qs)
-binary_cuts op xs ys ss qs c d rest h p =
-    let sp = spelling (binary_mark op) in
-    let parts : ((xs ++ (codes " " ++ sp ++ codes " ")) ++ ys) ++ rest ≡ xs ++ 32 ∷ (sp ++ 32 ∷ (ys ++ rest)) =
-    append_assoc (xs ++ (codes " " ++ sp ++ codes " ")) ys rest
-    ∙ append_assoc xs (codes " " ++ sp ++ codes " ") (ys ++ rest)
-    ∙ ap (λ (l : List ℕ). xs ++ l) (append_assoc (32 ∷ sp) (32 ∷ []) (ys ++ rest)) in
-    subst (λ l. Cuts l p (ss ++ mark (binary_mark op) ∷ qs) rest) (sym parts)
-    (cuts_on (xs ++ 32 ∷ (sp ++ 32 ∷ (ys ++ rest))) (32 ∷ (sp ++ 32 ∷ (ys ++ rest))) rest p ss (mark (binary_mark op) ∷ qs) (c (32 ∷ (sp ++ 32 ∷ (ys ++ rest))) (closed_space (sp ++ 32 ∷ (ys ++ rest))) p)
-    (λ q. cuts_space (sp ++ 32 ∷ (ys ++ rest)) rest q (mark (binary_mark op) ∷ qs)
-    (λ r. cuts_on (sp ++ 32 ∷ (ys ++ rest)) (32 ∷ (ys ++ rest)) rest r (mark (binary_mark op) ∷ []) qs (cuts_one _ _ _ _ r (operator_next op (ys ++ rest)))
-    (λ i. cuts_space (ys ++ rest) rest i qs (λ j. d rest h j)))))
-
-pub expr_cuts : (names texts : List (List ℕ)) (x : Term) → IsSource names texts x → AlwaysCuts (expr_text names texts x) (expr_symbols names texts x)
-expr_cuts names texts (Constant v) ok rest h p = constant_cuts names texts v ok rest h p
-expr_cuts names texts (Variable x) ok rest h p =
-    subst (λ (w : List ℕ). Cuts (w ++ rest) p (word w ∷ []) rest) (sym (name_of names x ok.0 ok.1)) (cuts_one _ _ _ _ p (word_next ok.0 rest ok.3 ok.4 h))
-expr_cuts names texts (Unary op x) ok rest h p =
-    let weak = nat_lt (strength_of x) 6 in
-    unary_cuts op (enclosed weak (expr_text names texts x)) (enclosed_symbols weak (expr_symbols names texts x)) (operand_starts weak (expr_text names texts x) (expr_starts names texts x ok)) (operand_cuts weak (expr_text names texts x) (expr_symbols names texts x) (expr_cuts names texts x ok)) rest h p
-expr_cuts names texts (Binary op x y) ok rest h p =
-    let weak = nat_lt (strength_of x) (left_needs op) in
-    let low = nat_lt (strength_of y) (right_needs op) in
-    binary_cuts op (enclosed weak (expr_text names texts x)) (enclosed low (expr_text names texts y)) (enclosed_symbols weak (expr_symbols names texts x)) (enclosed_symbols low (expr_symbols names texts y)) (operand_cuts weak (expr_text names texts x) (expr_symbols names texts x) (expr_cuts names texts x ok.0)) (operand_cuts low (expr_text names texts y) (expr_symbols names texts y) (expr_cuts names texts y ok.1)) rest h p
-
--- ---- the tokens of the text
-
--- all tokens but the last one
-record Fronts (names texts : List (List ℕ)) (ts : List Token) (ls : List Lexeme) : Type 0 where
-  front : List Token
-  end : Token
-  parts : ts ≡ front ++ end ∷ []
-  spelled : SpellAll names texts front (map (λ l. l.symbol) ls)
-
-fronts : (names texts : List (List ℕ)) (ts : List Token) (ls : List Lexeme) (l : Lexeme) → AreSpelled names texts ts (ls ++ l ∷ []) → Fronts names texts ts ls
-fronts names texts [] [] l h = absurd h
-fronts names texts [] (m ∷ ls) l h = absurd h
-fronts names texts (t ∷ []) [] l h = record { front = []; end = t; parts = refl; spelled = tt }
-fronts names texts (t ∷ u ∷ ts) [] l h = absurd h.1
-fronts names texts (t ∷ ts) (m ∷ ls) l h =
-    let f = fronts names texts ts ls l h.1 in
-    record { front = t ∷ f.front; end = f.end; parts = ap (λ (k : List Token). t ∷ k) f.parts; spelled = (h.0.0, f.spelled) }
-
--- the tokens of the canonical text but the last one are the expression
-pub text_reads_back : (names texts : List (List ℕ)) (x : Term) (ls : List Lexeme) (ts : List Token) → AllDistinct names → AllDistinct texts → IsSource names texts x → IsTokens (expr_text names texts x) ls → AreSpelled names texts ts ls → IsAllButLast names ts x
-text_reads_back names texts x ls ts d e ok tokens spelled =
-    let c = expr_cuts names texts x ok [] closed_none start in
-    let end : Lexeme = record { symbol = last; place = c.next } in
-    let cut : IsCut (expr_text names texts x) start c.lexemes [] c.next = subst (λ bs. IsCut bs start c.lexemes [] c.next) (append-nil (expr_text names texts x)) c.cut in
-    let own : IsTokens (expr_text names texts x) (c.lexemes ++ end ∷ []) = record { utf8 = tokens.utf8; front = c.lexemes; next = c.next; cut = cut; whole = refl } in
-    let same : ls ≡ c.lexemes ++ end ∷ [] = one_reading (expr_text names texts x) ls (c.lexemes ++ end ∷ []) tokens own in
-    let f = fronts names texts ts c.lexemes end (subst (AreSpelled names texts ts) same spelled) in
-    record { written = f.front; end = f.end; parts = f.parts; is = symbols_read_back names texts x f.front d e ok (subst (SpellAll names texts f.front) c.are f.spelled) }

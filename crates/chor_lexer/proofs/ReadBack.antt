@@ -27,7 +27,8 @@ use Rattle.chor_lexer.proofs.Each.{each_append}
 use Rattle.chor_lexer.proofs.Pieces.{word_passes}
 use Rattle.chor_lexer.proofs.Spelled.{spelled_push}
 use Rattle.chor_lexer.proofs.Spelling.{name_of}
-use Rattle.chor_lexer.proofs.Printed.{closed_none, escaped_is, expr_cuts, text_reads_back}
+use Rattle.chor_lexer.proofs.Printed.{closed_none, escaped_is}
+use Rattle.chor_lexer.proofs.PrintedCuts.{expr_cuts, text_reads_back}
 use Rattle.chor_lexer.proofs.Utf8.{ascii_passes, word_byte_low, mark_ascii, joined, written_utf8}
 
 -- ---- the text is UTF-8

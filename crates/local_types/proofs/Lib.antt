@@ -4,6 +4,7 @@ pub mod States
 pub mod Readings
 pub mod Numbers
 pub mod Texts
+pub mod NamedLabels
 pub mod Breadth
 pub mod RoleTexts
 pub mod Appends

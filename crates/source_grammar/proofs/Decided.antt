@@ -19,6 +19,7 @@ use Rattle.source_grammar.specs.Parts.{MarkPart, WordPart, NamePart, AMark, AWor
 use Rattle.source_grammar.proofs.Terminals.{mark_class, mark_alike, mark_begins, mark_stable, word_class, word_alike, word_begins, word_stable, name_class, name_alike, said_name, name_begins, name_stable, word_not_name, words_differ, nothing_among, or_left, or_right, or_stable, distinct_or, protocol_keyword, service_keyword, end_keyword, then_keyword, int_keyword, bool_keyword, text_keyword}
 use Rattle.source_grammar.proofs.ItemLists.{AreItems, IsItem, CommaAnd, Commas, Roomy, Bare, roomy_items, repeated, apart_from_more}
 use Rattle.source_grammar.proofs.Protocols as p
+use Rattle.source_grammar.proofs.ShortParts as short
 use Rattle.source_grammar.proofs.Heads as h
 
 -- ---- tokens
@@ -156,13 +157,13 @@ decided_list : {A : Type 0} {n : ℕ} {R : Part A} {C : Further} (k : ℕ) → I
 decided_list k r d = decided_commas k (roomy_items r) (λ j. decided_within d r.begins r.opens r.stable tells_name)
 
 decided_names : {n : ℕ} (k : ℕ) → IsDecided n (NamesPart k) (OrComma Nothing)
-decided_names k = decided_same (decided_list k p.name_item (decided_same decided_name (p.free_item NameIs))) (p.names_alike k)
+decided_names k = decided_same (decided_list k short.name_item (decided_same decided_name (short.free_item NameIs))) (short.names_alike k)
 
 pub decided_any_names : {n : ℕ} (k : ℕ) → IsDecided n (AnyNamesPart k) OrName
-decided_any_names k = decided_same (decided_option (decided_names k) (p.names_begins k) name_stable tells_name (or_right AName (OrComma Nothing)) (or_left AName (OrComma Nothing)) (or_stable name_stable p.list_stable)) (p.any_names_alike k)
+decided_any_names k = decided_same (decided_option (decided_names k) (short.names_begins k) name_stable tells_name (or_right AName (OrComma Nothing)) (or_left AName (OrComma Nothing)) (or_stable name_stable short.list_stable)) (short.any_names_alike k)
 
 pub decided_part : {n : ℕ} → IsDecided n PartPart Nothing
-decided_part = decided_same (name_and (mark_and (name_and (decided_mark CloseBracket)))) p.part_alike
+decided_part = decided_same (name_and (mark_and (name_and (decided_mark CloseBracket)))) short.part_alike
 
 -- ---- protocols
 
@@ -182,10 +183,10 @@ decided_arm : {n : ℕ} → IsDecided n ArmPart Nothing
 decided_arm = decided_same (name_and (word_and then_keyword decided_name)) p.arm_alike
 
 decided_arms : {n : ℕ} (k : ℕ) → IsDecided n (ArmsPart k) (OrComma Nothing)
-decided_arms k = decided_same (decided_list k p.arm_item (decided_same decided_arm (p.free_item ArmIs))) (p.arms_alike k)
+decided_arms k = decided_same (decided_list k p.arm_item (decided_same decided_arm (short.free_item ArmIs))) (p.arms_alike k)
 
 decided_passes : {n : ℕ} → IsDecided n p.PassesNest Nothing
-decided_passes = decided_choice (mark_and (part_and decided_payload (word_and then_keyword decided_name))) (mark_and (decided_then (decided_arms 64) (decided_mark CloseBrace) (p.mark_after_list p.not_comma_close_brace))) (then_begins (mark_begins Colon)) (then_begins (mark_begins OpenBrace)) (mark_stable Colon) (tells_mark Colon) p.colon_not_brace
+decided_passes = decided_choice (mark_and (part_and decided_payload (word_and then_keyword decided_name))) (mark_and (decided_then (decided_arms 64) (decided_mark CloseBrace) (short.mark_after_list p.not_comma_close_brace))) (then_begins (mark_begins Colon)) (then_begins (mark_begins OpenBrace)) (mark_stable Colon) (tells_mark Colon) p.colon_not_brace
 
 decided_step : {n : ℕ} → IsDecided n StepPart Nothing
 decided_step = decided_same (decided_choice (decided_word end_keyword) (name_and (mark_and (name_and decided_passes))) (word_begins (codes "end")) (then_begins name_begins) (word_stable (codes "end")) (tells_word (codes "end")) (word_not_name end_keyword)) p.step_alike
@@ -202,7 +203,7 @@ decided_protocol = decided_same (word_and protocol_keyword (name_and (mark_and (
 -- ---- services
 
 decided_served : {n : ℕ} (k : ℕ) → IsDecided n (ServedPart k) OrBar
-decided_served k = decided_same (decided_option (mark_and (decided_names k)) (then_begins (mark_begins Bar)) (mark_stable Bar) (tells_mark Bar) (or_right (AMark Bar) (OrComma Nothing)) (or_left (AMark Bar) (OrComma Nothing)) (or_stable (mark_stable Bar) p.list_stable)) (p.served_alike k)
+decided_served k = decided_same (decided_option (mark_and (decided_names k)) (then_begins (mark_begins Bar)) (mark_stable Bar) (tells_mark Bar) (or_right (AMark Bar) (OrComma Nothing)) (or_left (AMark Bar) (OrComma Nothing)) (or_stable (mark_stable Bar) short.list_stable)) (p.served_alike k)
 
 decided_served_tail : {n : ℕ} (k : ℕ) → IsDecided n (p.ServedTail k) Nothing
 decided_served_tail k = decided_then (decided_served k) (mark_and (decided_mark Semicolon)) p.end_of_served
@@ -219,10 +220,10 @@ decided_variable : {n : ℕ} → IsDecided n VariablePart Nothing
 decided_variable = decided_same (name_and (mark_and decided_sort)) h.variable_alike
 
 decided_vars : {n : ℕ} → IsDecided n VarsPart (OrComma Nothing)
-decided_vars = decided_same (decided_list 16 h.variable_item (decided_same decided_variable (p.free_item VariableIs))) h.vars_alike
+decided_vars = decided_same (decided_list 16 h.variable_item (decided_same decided_variable (short.free_item VariableIs))) h.vars_alike
 
 decided_variables : {n : ℕ} → IsDecided n VariablesPart (AMark OpenParen)
-decided_variables = decided_same (decided_option (mark_and (decided_then decided_vars (decided_mark CloseParen) (p.mark_after_list (λ e. absurd cc)))) h.paren_begins (mark_stable OpenParen) (tells_mark OpenParen) (nothing_among (AMark OpenParen)) (λ names t x. x) (mark_stable OpenParen)) h.variables_alike
+decided_variables = decided_same (decided_option (mark_and (decided_then decided_vars (decided_mark CloseParen) (short.mark_after_list (λ e. absurd cc)))) h.paren_begins (mark_stable OpenParen) (tells_mark OpenParen) (nothing_among (AMark OpenParen)) (λ names t x. x) (mark_stable OpenParen)) h.variables_alike
 
 decided_proc_param : {n : ℕ} → IsDecided n ProcParamPart (AMark OpenParen)
 decided_proc_param = decided_same (name_and decided_variables) h.proc_param_alike
@@ -237,10 +238,10 @@ decided_holders : {n : ℕ} → IsDecided n HoldersPart (OrComma Nothing)
 decided_holders = decided_same (decided_commas {W = Bare HolderIs} 0 h.holder_items (λ j. decided_holder)) h.holders_alike
 
 decided_session_param : {n : ℕ} → IsDecided n SessionParamPart Nothing
-decided_session_param = decided_same (name_and (mark_and (name_and (mark_and (name_and (mark_and (decided_then decided_holders (decided_mark CloseBrace) (p.mark_after_list (λ e. absurd cc))))))))) h.session_param_alike
+decided_session_param = decided_same (name_and (mark_and (name_and (mark_and (name_and (mark_and (decided_then decided_holders (decided_mark CloseBrace) (short.mark_after_list (λ e. absurd cc))))))))) h.session_param_alike
 
 decided_session_params : {n : ℕ} → IsDecided n SessionParamsPart (OrComma Nothing)
-decided_session_params = decided_same (decided_list 8 h.session_param_item (decided_same decided_session_param (p.free_item SessionParamIs))) h.session_params_alike
+decided_session_params = decided_same (decided_list 8 h.session_param_item (decided_same decided_session_param (short.free_item SessionParamIs))) h.session_params_alike
 
 decided_sessions : {n : ℕ} → IsDecided n SessionsPart OrSession
 decided_sessions = decided_same (decided_option (mark_and decided_session_params) h.sessions_begin (mark_stable Semicolon) (tells_mark Semicolon) h.list_among_sessions (or_left (AMark Semicolon) (OrComma (AMark OpenParen))) h.session_stable) h.sessions_alike

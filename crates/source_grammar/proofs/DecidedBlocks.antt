@@ -10,7 +10,7 @@ use Rattle.source_grammar.specs.Expressions.{Operator}
 use Rattle.source_grammar.specs.Values.{After}
 use Rattle.source_grammar.proofs.Starts.{then_begins, within_begins, nothing_apart}
 use Rattle.source_grammar.proofs.Values.{as_begins, after_begins}
-use Rattle.source_grammar.proofs.Expressions.{expr_begins}
+use Rattle.source_grammar.proofs.ExpressionAnswers.{expr_begins}
 use Rattle.source_grammar.proofs.DecidedTokens.{Tells, IsDecided, decided_same, decided_as, decided_further, decided_then, decided_after, decided_later, decided_choice, decided_either, decided_option, decided_within, decided_at, decided_times}
 use Rattle.source_grammar.proofs.DecidedExpressions.{decided_expr}
 use Rattle.source_grammar.specs.Grammar.{NameIs, PartIs}
@@ -20,7 +20,7 @@ use Rattle.source_grammar.specs.Blocks.{BlockPart, LinesPart, LinePart, TailPart
 use Rattle.source_grammar.specs.Files.{ProcedurePart, AnItemPart, ItemFirst, ItemsPart, MainPart, SourcePart}
 use Rattle.source_grammar.proofs.Terminals.{mark_begins, mark_stable, word_begins, word_stable, name_begins, name_stable, word_not_name, start_keyword, new_keyword, host_keyword, show_keyword, end_keyword, call_keyword, if_keyword, else_keyword, proc_keyword, main_keyword}
 use Rattle.source_grammar.proofs.ItemLists.{Bare, any_list_alike}
-use Rattle.source_grammar.proofs.Protocols.{part_items}
+use Rattle.source_grammar.proofs.ShortParts.{part_items}
 use Rattle.source_grammar.proofs.Statements as s
 use Rattle.source_grammar.proofs.PassedNames as c
 use Rattle.source_grammar.proofs.Nested as b

@@ -14,7 +14,8 @@ use Rattle.chor_lexer.proofs.Viable.{ended, all_is}
 use Rattle.chor_lexer.proofs.Longest.{never_front, longest_of}
 use Rattle.source_grammar.specs.Symbols.{AreWhole}
 use Rattle.source_grammar.specs.Expressions.{Operator, ExprPart}
-use Rattle.source_grammar.proofs.Expressions.{expr_part, expr_reads, refusal_halts}
+use Rattle.source_grammar.proofs.Expressions.{expr_part}
+use Rattle.source_grammar.proofs.ExpressionAnswers.{expr_reads, refusal_halts}
 use Rattle.source_grammar.proofs.DecidedTokens.{Outcome, reads, halts, IsDecided}
 
 abbrev Told : List (List ℕ) → List Token → Type 0

@@ -18,7 +18,8 @@ use Rattle.source_grammar.specs.Parts.{MarkPart, WordPart, NamePart, AMark, AWor
 use Rattle.source_grammar.specs.Blocks.{BlockPart}
 use Rattle.source_grammar.specs.Files.{ProcedurePart, Item, AnItemPart, ItemFirst, ItemsPart, with_item, MainPart, SourcePart}
 use Rattle.source_grammar.proofs.Terminals.{mark_begins, word_part, word_begins, word_stable, mark_not_name, marks_differ, words_differ, nothing_distinct, nothing_among, or_stable, distinct_or, proc_keyword, main_keyword}
-use Rattle.source_grammar.proofs.Protocols.{seq, and_then, mark_then, name_then, any_names_part, protocol_alike, protocol_part, service_alike, service_part}
+use Rattle.source_grammar.proofs.Protocols.{protocol_alike, protocol_part, service_alike, service_part}
+use Rattle.source_grammar.proofs.ShortParts.{seq, and_then, mark_then, name_then, any_names_part}
 use Rattle.source_grammar.proofs.Heads.{params_part}
 use Rattle.source_grammar.proofs.Nested.{block_part}
 

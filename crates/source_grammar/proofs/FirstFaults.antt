@@ -21,7 +21,7 @@ use Rattle.source_grammar.specs.Faults.{IsViable, IsFaultAt, unexpected, excess 
 use Rattle.source_grammar.specs.Files.{Main, SourcePart}
 use Rattle.source_grammar.proofs.Files.{source_part}
 use Rattle.source_grammar.proofs.Free.{IsFree, file_free}
-use Rattle.source_grammar.proofs.Protocols.{seq}
+use Rattle.source_grammar.proofs.ShortParts.{seq}
 
 -- ---- a source and its end
 

@@ -16,7 +16,8 @@ use Rattle.source_grammar.specs.Limits.{KeepsVariables, KeepsParam, KeepsSession
 use Rattle.source_grammar.specs.Parts.{MarkPart, NamePart, AMark, AName, AComma, OrComma, OrSession, OrParams, VarsPart, ProcParamsPart, HoldersPart, SessionParamsPart, ItemPart, Unlimited, SortPart, VariablePart, VariablesPart, ProcParamPart, HolderPart, SessionParamPart, SessionsPart, ParamsPart}
 use Rattle.source_grammar.proofs.Terminals.{mark_begins, mark_stable, name_part, name_begins, name_opens, name_stable, marks_differ, nothing_among, nothing_distinct, or_left, or_right, or_stable, distinct_or}
 use Rattle.source_grammar.proofs.ItemLists.{AreItems, Commas, IsItem, Roomy, roomy_items, list_alike, commas_part, commas_begins, all_of, Bare, any_list_alike}
-use Rattle.source_grammar.proofs.Protocols.{seq, mark_then, name_then, a_mark, mark_after_list, free_items, nothing_stable, sort_part}
+use Rattle.source_grammar.proofs.Protocols.{sort_part}
+use Rattle.source_grammar.proofs.ShortParts.{seq, mark_then, name_then, a_mark, mark_after_list, free_items, nothing_stable}
 
 -- ---- variables
 

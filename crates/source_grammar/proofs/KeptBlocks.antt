@@ -19,7 +19,8 @@ use Rattle.source_grammar.specs.Grammar as g
 use Rattle.source_grammar.specs.Grammar.{MarkIs, WordIs, NameIs, AnyNamesAre, PartIs, ProtocolIs, ServiceIs, ParamsAre, StatementIs, BlockIs, LinesAre, TailIs, ProcedureIs, ItemsAre, FileIs}
 use Rattle.source_grammar.specs.Known.{IsTextKnown}
 use Rattle.source_grammar.specs.Growing.{statement_kept, block_kept}
-use Rattle.source_grammar.proofs.Protocols.{any_names_part, protocol_part, service_part}
+use Rattle.source_grammar.proofs.Protocols.{protocol_part, service_part}
+use Rattle.source_grammar.proofs.ShortParts.{any_names_part}
 use Rattle.source_grammar.proofs.Heads.{params_part}
 use Rattle.source_grammar.proofs.Statements.{statement_part}
 use Rattle.source_grammar.proofs.Files.{body_part, procedure_part, items_part}

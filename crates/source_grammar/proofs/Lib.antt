@@ -6,6 +6,7 @@ pub mod Singles
 pub mod Repetitions
 pub mod Derived
 pub mod Expressions
+pub mod ExpressionAnswers
 pub mod Values
 pub mod Sound
 pub mod DecidedTokens
@@ -13,6 +14,7 @@ pub mod DecidedExpressions
 pub mod Terminals
 pub mod ItemLists
 pub mod Protocols
+pub mod ShortParts
 pub mod Heads
 pub mod Shorter
 pub mod Tables
@@ -20,6 +22,7 @@ pub mod Growth
 pub mod KnownTexts
 pub mod KeptHeads
 pub mod Statements
+pub mod StatementSteps
 pub mod PassedNames
 pub mod Nested
 pub mod Files

@@ -14,7 +14,7 @@ use Rattle.source_grammar.specs.Grammar.{MarkIs, NameIs, PassedSessionsAre, no_s
 use Rattle.source_grammar.specs.Parts.{MarkPart, AMark, AName, OrComma}
 use Rattle.source_grammar.specs.Blocks.{AllNamesPart, PassedSessionsPart, PassedSessionsMore, PassedPart, PassedMore}
 use Rattle.source_grammar.proofs.ItemLists.{AreItems, Bare, commas_part, commas_begins, any_list_alike}
-use Rattle.source_grammar.proofs.Protocols.{nothing_stable}
+use Rattle.source_grammar.proofs.ShortParts.{nothing_stable}
 use Rattle.source_grammar.proofs.Terminals.{mark_begins, mark_stable, mark_head, no_mark_head, name_part, name_begins, name_stable, marks_differ, mark_not_name, nothing_distinct, or_stable, distinct_or}
 use Rattle.source_grammar.proofs.Statements.{mark_then, past_mark}
 

@@ -28,7 +28,8 @@ use Rattle.source_grammar.specs.Grammar.{MarkIs, WordIs, NameIs, SortIs}
 use Rattle.source_grammar.specs.Parts.{MarkPart, WordPart, NamePart, AMark, AWord, AName, AParen, OrComma, OrName, OrBar, OrSession, OrParams, ItemPart, Unlimited, NamesPart, AnyNamesPart, ServedPart, SortPart, PayloadPart, StepPart, StatePart, StatesPart, VarsPart, VariablesPart, SessionParamsPart, SessionsPart, ParamsPart}
 use Rattle.source_grammar.proofs.Terminals.{mark_begins, mark_stable, mark_head, no_mark_head, word_begins, word_stable, word_head, word_reads, name_begins, name_stable, name_not_word, word_not_name, after_name, after_mark, at_once, end_keyword, or_left, or_right, nothing_among}
 use Rattle.source_grammar.proofs.ItemLists.{IsItem, Roomy}
-use Rattle.source_grammar.proofs.Protocols.{free_item, names_begins, any_names_alike, sort_part, sort_begins, sort_stable, sort_not_name, ASort, EndpointNest, payload_alike, step_alike, ChoiceNest, PassesNest, colon_not_brace, passes_of, served_alike, states_alike, states_repeated, after_state, state_part, state_begins, state_opens}
+use Rattle.source_grammar.proofs.Protocols.{sort_part, sort_begins, sort_stable, sort_not_name, ASort, EndpointNest, payload_alike, step_alike, ChoiceNest, PassesNest, colon_not_brace, passes_of, served_alike, states_alike, states_repeated, after_state, state_part, state_begins, state_opens}
+use Rattle.source_grammar.proofs.ShortParts.{free_item, names_begins, any_names_alike}
 use Rattle.source_grammar.proofs.Heads.{variables_alike, paren_begins, sessions_alike, sessions_begin, list_among_sessions, SomeParams, params_alike, some_params_begin}
 
 -- ---- items with limits

@@ -20,7 +20,7 @@ use Rattle.state_sets.specs.Table.{AreActs, HasGrown, AreArms}
 use Rattle.state_sets.specs.Starts.{AreStarts, HasMoreStarts, HaveAllowed}
 use Rattle.state_sets.proofs.Lists.{at_of_in, in_of_at, in_more, in_left, in_right, in_last, in_permuted}
 use Rattle.state_sets.proofs.Sets.{same_or_not, row_is, words-set, length-words}
-use Rattle.state_sets.proofs.Tables.{ArmsSoFar, arms_begin, arms_in, arms_out, arms_end, grown_over}
+use Rattle.state_sets.proofs.TableLoops.{ArmsSoFar, arms_begin, arms_in, arms_out, arms_end, grown_over}
 
 -- ---- lists of states
 

@@ -5,6 +5,7 @@ pub mod Pairs
 pub mod Silence
 pub mod Groups
 pub mod Tables
+pub mod TableLoops
 pub mod Collected
 pub mod Verdicts
 pub mod Kin

@@ -1,4 +1,4 @@
-use Rattle.chor_lexer.proofs.Printed.{text_reads_back}
+use Rattle.chor_lexer.proofs.PrintedCuts.{text_reads_back}
 use Rattle.chor_lexer.proofs.ReadBack.{reads_back}
 use Rattle.chor_lexer.proofs.laws.text_reads_back.Goals as goal
 

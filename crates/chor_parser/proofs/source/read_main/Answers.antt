@@ -1,7 +1,7 @@
 use Rattle.std.proofs.lemmas.Result.{err_from_is_err_and}
 use Rattle.source_grammar.proofs.Sequels.{past, reads_past, leads, now}
 use Rattle.source_grammar.proofs.Terminals.{after_mark, after_word, at_once, main_keyword}
-use Rattle.source_grammar.proofs.Protocols.{mark_then, any_names_part}
+use Rattle.source_grammar.proofs.ShortParts.{mark_then, any_names_part}
 use Rattle.source_grammar.proofs.Files.{body_part, main_tail, names_tail, names_end}
 use Rattle.chor_parser.proofs.source.read_main.Goals as goal
 

@@ -2,7 +2,7 @@ use Rattle.std.proofs.lemmas.Result.{err_from_is_err_and}
 use Rattle.source_grammar.proofs.Sequels.{past, reads_past, leads, now, then_part}
 use Rattle.source_grammar.proofs.Choices.{same_halts, same_reads}
 use Rattle.source_grammar.proofs.Terminals.{after_name, after_mark, after_word, at_once, proc_keyword}
-use Rattle.source_grammar.proofs.Protocols.{mark_then}
+use Rattle.source_grammar.proofs.ShortParts.{mark_then}
 use Rattle.source_grammar.proofs.Heads.{params_part}
 use Rattle.source_grammar.proofs.Files.{procedure_alike, params_end, body_part}
 use Rattle.chor_parser.proofs.source.read_procedure.Goals as goal

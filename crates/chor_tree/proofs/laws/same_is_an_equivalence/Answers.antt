@@ -1,4 +1,4 @@
-use Rattle.chor_tree.proofs.SameLaws.{same_files_reflexive, same_files_symmetric, same_files_transitive}
+use Rattle.chor_tree.proofs.SameJoined.{same_files_reflexive, same_files_symmetric, same_files_transitive}
 use Rattle.chor_tree.proofs.laws.same_is_an_equivalence.Goals as goal
 
 pub returns-clause-reflexive : goal.returns-clause-reflexive

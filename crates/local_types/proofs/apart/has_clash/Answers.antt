@@ -2,7 +2,7 @@ use Rattle.std.proofs.Common.{ℕ, ◌∙◌, sym, subst, inl, inr, arith}
 use Rattle.state_sets.specs.Sets.{Has, row_at}
 use Rattle.state_sets.specs.Table.{Meets}
 use Rattle.state_sets.proofs.Sets.{same_or_not, row_is, row_within, tested_in, tested_out}
-use Rattle.state_sets.proofs.Tables.{is_true, is_false}
+use Rattle.state_sets.proofs.TableLoops.{is_true, is_false}
 use Rattle.local_types.proofs.apart.has_clash.Goals as goal
 use Rattle.local_types.proofs.apart.has_clash.Goals.{else-has-via-then-has+else-meets, else-has-via-else-has}
 

@@ -1,4 +1,4 @@
-use Rattle.local_types.proofs.Texts.{one_text}
+use Rattle.local_types.proofs.NamedLabels.{one_text}
 use Rattle.local_types.proofs.laws.one_text.Goals as goal
 
 pub returns : goal.returns

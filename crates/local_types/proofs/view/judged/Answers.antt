@@ -7,7 +7,7 @@ use Rattle.global_types.specs.Views.{NamesAt}
 use Rattle.state_sets.specs.Sets.{IsSetFor}
 use Rattle.state_sets.specs.Table.{HasAscendingArms, HasTorn, IsWhole, Circles}
 use Rattle.state_sets.specs.declared.table.Row.{Row}
-use Rattle.state_sets.proofs.Tables.{is_true, is_false}
+use Rattle.state_sets.proofs.TableLoops.{is_true, is_false}
 use Rattle.state_sets.proofs.Verdicts.{few_sets, left_behind, not_left, torn, not_torn}
 use Rattle.state_sets.proofs.Kin.{rows_kin}
 use Rattle.local_types.proofs.Breadth.{breadth_first}

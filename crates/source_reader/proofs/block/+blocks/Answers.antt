@@ -8,7 +8,8 @@ use Rattle.source_grammar.proofs.Terminals.{mark_reads, else_keyword}
 use Rattle.source_reader.proofs.Coming.{stands_by_word}
 use Rattle.source_grammar.proofs.Tables.{grows_by, grows_on, last_there}
 use Rattle.source_grammar.proofs.Shorter.{name_shorter, mark_shorter, word_shorter, or_shorter, block_shorter}
-use Rattle.source_grammar.proofs.Statements.{passes, no_memory, mark_then, word_then, past_name, past_mark, past_word, past_expr, expr_halts, at_one}
+use Rattle.source_grammar.proofs.Statements.{passes, mark_then, word_then, past_name, past_mark, past_word, at_one}
+use Rattle.source_grammar.proofs.StatementSteps.{no_memory, past_expr, expr_halts}
 use Rattle.source_grammar.proofs.Nested.{block_part, brace_apart, into_block, lines_halt, past_lines, no_statement_comes, no_tail, end_first, call_first, if_first, too_long_path, reads_end, to_call, to_if, past_branch}
 use Rattle.source_reader.proofs.Blocks.{end_block, conditional_block, said_block}
 use Rattle.source_grammar.proofs.Growth.{adds_none, adds_on, adds_node}

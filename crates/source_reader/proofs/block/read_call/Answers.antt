@@ -5,7 +5,8 @@ use Rattle.source_grammar.proofs.Starts.{memory_halts}
 use Rattle.chor_lexer.specs.declared.mark.Mark.TheVariants.{OpenParen, CloseParen}
 use Rattle.source_grammar.proofs.Terminals.{mark_part, mark_reads}
 use Rattle.source_grammar.proofs.PassedNames.{passed_part, close_apart}
-use Rattle.source_grammar.proofs.Statements.{passes, no_memory, mark_then, past_name, past_mark, at_one}
+use Rattle.source_grammar.proofs.Statements.{passes, mark_then, past_name, past_mark, at_one}
+use Rattle.source_grammar.proofs.StatementSteps.{no_memory}
 use Rattle.source_grammar.proofs.Nested.{past_passed, passed_halts}
 use Rattle.source_reader.proofs.Blocks.{call_block, said_block}
 use Rattle.source_grammar.proofs.Tables.{last_there, grows_by}

@@ -1,5 +1,5 @@
 use Rattle.source_grammar.proofs.Sequels.{past, reads_past}
-use Rattle.source_grammar.proofs.Statements.{on_ok, on_err}
+use Rattle.source_grammar.proofs.StatementSteps.{on_ok, on_err}
 use Rattle.source_grammar.proofs.PassedNames.{to_passed_sessions, no_passed_sessions}
 use Rattle.source_reader.proofs.block.read_passed_sessions.Goals as goal
 

@@ -1,5 +1,5 @@
 use Rattle.std.proofs.lemmas.Result.{err_from_is_err_and}
-use Rattle.source_grammar.proofs.Expressions.{expr_reads, refusal_halts}
+use Rattle.source_grammar.proofs.ExpressionAnswers.{expr_reads, refusal_halts}
 use Rattle.source_reader.proofs.expression.read_expression.Goals as goal
 
 pub returns-clause-reads : goal.returns-clause-reads

@@ -2,7 +2,7 @@ use Rattle.std.proofs.lemmas.Result.{err_from_is_err_and}
 use Rattle.std.proofs.Common.{arith}
 use Rattle.source_grammar.proofs.Terminals.{name_reads}
 use Rattle.source_grammar.proofs.ItemLists.{all_of, roomy_items, first_item_halts, first_comes, more_come, item_halts, list_reads}
-use Rattle.source_grammar.proofs.Protocols.{name_item, names_alike}
+use Rattle.source_grammar.proofs.ShortParts.{name_item, names_alike}
 use Rattle.source_reader.proofs.Readers.{item_read, item_halts_in, item_full, free_read, free_halts, room_first, full_first, room_for, full_for}
 use Rattle.source_grammar.proofs.Shorter.{mark_shorter, name_shorter}
 use Rattle.source_reader.proofs.lists.read_names.Goals as goal

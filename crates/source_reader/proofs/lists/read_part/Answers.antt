@@ -2,7 +2,7 @@ use Rattle.std.proofs.lemmas.Result.{err_from_is_err_and}
 use Rattle.source_grammar.proofs.Sequels.{past, reads_past}
 use Rattle.source_grammar.proofs.Choices.{same_halts, same_reads}
 use Rattle.source_grammar.proofs.Terminals.{after_name, after_mark, at_once, mark_reads}
-use Rattle.source_grammar.proofs.Protocols.{a_mark, name_then, mark_then, part_alike}
+use Rattle.source_grammar.proofs.ShortParts.{a_mark, name_then, mark_then, part_alike}
 use Rattle.source_reader.proofs.lists.read_part.Goals as goal
 
 pub returns-in_err-process-clause-halts : goal.returns-in_err-process-clause-halts

@@ -2,7 +2,7 @@ use Rattle.std.proofs.lemmas.Result.{err_from_is_err_and}
 use Rattle.std.proofs.Common.{arith}
 use Rattle.source_grammar.specs.Grammar.{PartIs}
 use Rattle.source_grammar.proofs.ItemLists.{all_of, first_item_halts, first_comes, more_come, item_halts, list_reads, any_list_alike}
-use Rattle.source_grammar.proofs.Protocols.{part_items}
+use Rattle.source_grammar.proofs.ShortParts.{part_items}
 use Rattle.source_grammar.proofs.Shorter.{mark_shorter, part_shorter}
 use Rattle.source_reader.proofs.lists.read_parts.Goals as goal
 

@@ -1,7 +1,7 @@
 use Rattle.std.proofs.lemmas.Result.{err_from_is_err_and}
 use Rattle.source_grammar.proofs.Sequels.{past, reads_past, leads, now}
 use Rattle.source_grammar.proofs.Terminals.{mark_reads}
-use Rattle.source_grammar.proofs.Protocols.{a_mark, mark_after_list}
+use Rattle.source_grammar.proofs.ShortParts.{a_mark, mark_after_list}
 use Rattle.source_grammar.proofs.Heads.{vars_part}
 use Rattle.source_reader.proofs.Readers.{paren_leads, not_comma_close_paren, no_variables_read}
 use Rattle.source_reader.proofs.procedure.read_any_vars.Goals as goal

@@ -2,7 +2,7 @@ use Rattle.std.proofs.lemmas.Result.{err_from_is_err_and}
 use Rattle.source_grammar.proofs.Sequels.{past, reads_past}
 use Rattle.source_grammar.proofs.Choices.{same_halts, same_reads}
 use Rattle.source_grammar.proofs.Terminals.{after_name, after_mark, at_once, name_part, name_reads}
-use Rattle.source_grammar.proofs.Protocols.{mark_then}
+use Rattle.source_grammar.proofs.ShortParts.{mark_then}
 use Rattle.source_grammar.proofs.Heads.{holder_alike}
 use Rattle.source_reader.proofs.procedure.read_holder.Goals as goal
 

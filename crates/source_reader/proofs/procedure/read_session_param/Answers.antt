@@ -2,7 +2,8 @@ use Rattle.std.proofs.lemmas.Result.{err_from_is_err_and}
 use Rattle.source_grammar.proofs.Sequels.{past, reads_past, leads, now}
 use Rattle.source_grammar.proofs.Choices.{same_halts, same_reads}
 use Rattle.source_grammar.proofs.Terminals.{after_name, after_mark, at_once, mark_reads}
-use Rattle.source_grammar.proofs.Protocols.{a_mark, name_then, mark_then, mark_after_list, not_comma_close_brace}
+use Rattle.source_grammar.proofs.Protocols.{not_comma_close_brace}
+use Rattle.source_grammar.proofs.ShortParts.{a_mark, name_then, mark_then, mark_after_list}
 use Rattle.source_grammar.proofs.Heads.{holders_part, holders_tail, session_param_alike}
 use Rattle.source_reader.proofs.procedure.read_session_param.Goals as goal
 

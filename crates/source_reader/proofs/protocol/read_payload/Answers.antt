@@ -1,7 +1,7 @@
 use Rattle.std.proofs.lemmas.Result.{err_from_is_err_and}
 use Rattle.source_grammar.proofs.Sequels.{past, reads_past}
 use Rattle.source_grammar.proofs.Terminals.{after_name, after_mark, at_once, name_part, name_reads}
-use Rattle.source_grammar.proofs.Protocols.{name_then, mark_then}
+use Rattle.source_grammar.proofs.ShortParts.{name_then, mark_then}
 use Rattle.source_reader.proofs.Readers.{plain_reads, endpoint_leads}
 use Rattle.source_reader.proofs.protocol.read_payload.Goals as goal
 

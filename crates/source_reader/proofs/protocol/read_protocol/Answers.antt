@@ -2,7 +2,8 @@ use Rattle.std.proofs.lemmas.Result.{err_from_is_err_and}
 use Rattle.source_grammar.proofs.Sequels.{past, reads_past, leads, now}
 use Rattle.source_grammar.proofs.Choices.{same_halts, same_reads}
 use Rattle.source_grammar.proofs.Terminals.{after_name, after_mark, after_word, at_once, mark_reads, protocol_keyword}
-use Rattle.source_grammar.proofs.Protocols.{a_mark, mark_then, names_part, states_part, end_of_states, states_tail, roles_end, roles_tail, protocol_alike}
+use Rattle.source_grammar.proofs.Protocols.{states_part, end_of_states, states_tail, roles_end, roles_tail, protocol_alike}
+use Rattle.source_grammar.proofs.ShortParts.{a_mark, mark_then, names_part}
 use Rattle.source_grammar.proofs.KeptHeads.{protocol_filled}
 use Rattle.source_reader.proofs.protocol.read_protocol.Goals as goal
 

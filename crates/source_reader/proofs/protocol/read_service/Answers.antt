@@ -3,7 +3,8 @@ use Rattle.std.proofs.Common.{length, ◌-◌}
 use Rattle.source_grammar.proofs.Sequels.{past, reads_past, leads, now, by_now, by_leads}
 use Rattle.source_grammar.proofs.Choices.{same_halts, same_reads}
 use Rattle.source_grammar.proofs.Terminals.{after_name, after_mark, after_word, at_once, mark_reads, service_keyword}
-use Rattle.source_grammar.proofs.Protocols.{a_mark, name_then, mark_then, names_part, served_part, end_of_served, ServedTail, service_alike, served_tail, after_active, active_tail}
+use Rattle.source_grammar.proofs.Protocols.{served_part, end_of_served, ServedTail, service_alike, served_tail, after_active, active_tail}
+use Rattle.source_grammar.proofs.ShortParts.{a_mark, name_then, mark_then, names_part}
 use Rattle.source_reader.proofs.protocol.read_service.Goals as goal
 
 pub returns-in_err-name-clause-halts : goal.returns-in_err-name-clause-halts

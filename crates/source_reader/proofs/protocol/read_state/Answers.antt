@@ -3,7 +3,8 @@ use Rattle.source_grammar.proofs.Sequels.{past, reads_past, leads}
 use Rattle.source_grammar.proofs.Choices.{same_halts, same_reads}
 use Rattle.source_grammar.proofs.Starts.{nothing_apart}
 use Rattle.source_grammar.proofs.Terminals.{after_name, after_mark, at_once, mark_reads}
-use Rattle.source_grammar.proofs.Protocols.{and_then, a_mark, mark_then, step_part, state_alike}
+use Rattle.source_grammar.proofs.Protocols.{step_part, state_alike}
+use Rattle.source_grammar.proofs.ShortParts.{and_then, a_mark, mark_then}
 use Rattle.source_reader.proofs.protocol.read_state.Goals as goal
 
 pub returns-in_err-name-clause-halts : goal.returns-in_err-name-clause-halts

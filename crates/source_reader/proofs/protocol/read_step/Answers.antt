@@ -1,7 +1,8 @@
 use Rattle.std.proofs.lemmas.Result.{err_from_is_err_and, IfOk-weaker, IfErr-weaker}
 use Rattle.source_grammar.proofs.Sequels.{past, reads_past, leads, now}
 use Rattle.source_grammar.proofs.Terminals.{after_name, after_mark, at_once, mark_reads, no_word_head}
-use Rattle.source_grammar.proofs.Protocols.{a_mark, name_then, mark_then, mark_after_list, not_comma_close_brace, arms_part, choice_tail, passes_part}
+use Rattle.source_grammar.proofs.Protocols.{not_comma_close_brace, arms_part, choice_tail, passes_part}
+use Rattle.source_grammar.proofs.ShortParts.{a_mark, name_then, mark_then, mark_after_list}
 use Rattle.source_reader.proofs.Readers.{end_reads, passing, choice_leads}
 use Rattle.source_reader.proofs.protocol.read_step.Goals as goal
 

@@ -4,7 +4,8 @@ use Rattle.source_grammar.proofs.Values.{as_part, as_leads, after_part}
 use Rattle.source_grammar.proofs.Expressions.{expr_part}
 use Rattle.chor_lexer.specs.declared.mark.Mark.TheVariants.{OpenParen, Comma, CloseParen}
 use Rattle.source_grammar.proofs.Terminals.{mark_part, mark_reads}
-use Rattle.source_grammar.proofs.Statements.{passes, mark_then, past_name, past_mark, past_expr, expr_halts, at_one, mark_apart, last_mark_apart}
+use Rattle.source_grammar.proofs.Statements.{passes, mark_then, past_name, past_mark, at_one, mark_apart, last_mark_apart}
+use Rattle.source_grammar.proofs.StatementSteps.{past_expr, expr_halts}
 use Rattle.source_reader.proofs.statement.read_host.Goals as goal
 
 pub returns-in_err-name-clause-halts : goal.returns-in_err-name-clause-halts

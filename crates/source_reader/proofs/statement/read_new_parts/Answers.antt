@@ -1,5 +1,6 @@
 use Rattle.source_grammar.proofs.Sequels.{past, reads_past}
-use Rattle.source_grammar.proofs.Statements.{to_new, no_new_roles, on_ok, on_err}
+use Rattle.source_grammar.proofs.Statements.{to_new, no_new_roles}
+use Rattle.source_grammar.proofs.StatementSteps.{on_ok, on_err}
 use Rattle.source_reader.proofs.statement.read_new_parts.Goals as goal
 
 pub returns-in-Some-clause-reads : goal.returns-in-Some-clause-reads

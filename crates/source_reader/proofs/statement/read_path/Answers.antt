@@ -1,6 +1,7 @@
 use Rattle.source_grammar.proofs.Sequels.{past, leads_on}
 use Rattle.chor_lexer.specs.declared.mark.Mark.TheVariants.{Colon}
-use Rattle.source_grammar.proofs.Statements.{passes, name_then, mark_then, past_name, past_mark, past_role, at_one, session_tail, to_label, to_give}
+use Rattle.source_grammar.proofs.Statements.{passes, name_then, mark_then, past_name, past_mark, at_one, session_tail}
+use Rattle.source_grammar.proofs.StatementSteps.{past_role, to_label, to_give}
 use Rattle.source_reader.specs.Reading.{statement_of}
 use Rattle.source_reader.proofs.Readers.{hands_by, hands_back}
 use Rattle.source_reader.proofs.statement.read_path.Goals as goal

@@ -2,7 +2,8 @@ use Rattle.source_grammar.proofs.Sequels.{past, reads_past}
 use Rattle.source_grammar.proofs.Values.{as_part, as_leads}
 use Rattle.chor_lexer.specs.declared.mark.Mark.TheVariants.{Dot, Colon}
 use Rattle.source_grammar.proofs.Terminals.{name_part, name_reads}
-use Rattle.source_grammar.proofs.Statements.{passes, name_then, mark_then, role_then, past_name, past_mark, past_role, at_one}
+use Rattle.source_grammar.proofs.Statements.{passes, name_then, mark_then, role_then, past_name, past_mark, at_one}
+use Rattle.source_grammar.proofs.StatementSteps.{past_role}
 use Rattle.source_reader.proofs.statement.read_receiver.Goals as goal
 
 pub returns-in_err-at-clause-halts : goal.returns-in_err-at-clause-halts

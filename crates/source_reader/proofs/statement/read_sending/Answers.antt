@@ -1,6 +1,7 @@
 use Rattle.source_grammar.proofs.Sequels.{past, leads_on}
 use Rattle.chor_lexer.specs.declared.mark.Mark.TheVariants.{CloseBracket}
-use Rattle.source_grammar.proofs.Statements.{passes, mark_then, past_name, past_mark, at_one, role_tail, path_tail, to_value, to_path}
+use Rattle.source_grammar.proofs.Statements.{passes, mark_then, past_name, past_mark, at_one, role_tail, path_tail}
+use Rattle.source_grammar.proofs.StatementSteps.{to_value, to_path}
 use Rattle.source_reader.specs.Reading.{statement_of}
 use Rattle.source_reader.proofs.Readers.{hands_by, hands_back}
 use Rattle.source_reader.proofs.statement.read_sending.Goals as goal

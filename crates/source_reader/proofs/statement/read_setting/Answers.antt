@@ -1,7 +1,8 @@
 use Rattle.source_grammar.proofs.Sequels.{past, reads_past, leads_on}
 use Rattle.source_grammar.proofs.Values.{as_leads}
 use Rattle.chor_lexer.specs.declared.mark.Mark.TheVariants.{Becomes}
-use Rattle.source_grammar.proofs.Statements.{passes, mark_then, past_name, past_mark, at_one, set_tail, to_host, to_set}
+use Rattle.source_grammar.proofs.Statements.{passes, mark_then, past_name, past_mark, at_one, set_tail}
+use Rattle.source_grammar.proofs.StatementSteps.{to_host, to_set}
 use Rattle.source_reader.specs.Reading.{statement_of}
 use Rattle.source_reader.proofs.Readers.{hands_by, hands_back}
 use Rattle.source_reader.proofs.statement.read_setting.Goals as goal

@@ -1,7 +1,8 @@
 use Rattle.source_grammar.proofs.Sequels.{past, reads_past}
 use Rattle.source_grammar.proofs.Values.{as_part, as_leads, after_part}
 use Rattle.chor_lexer.specs.declared.mark.Mark.TheVariants.{OpenParen, CloseParen, Colon}
-use Rattle.source_grammar.proofs.Statements.{passes, name_then, mark_then, past_name, past_mark, past_roles, roles_halt, roles_part, new_roles_part, new_roles_apart, at_one}
+use Rattle.source_grammar.proofs.Statements.{passes, name_then, mark_then, past_name, past_mark, roles_part, new_roles_part, new_roles_apart, at_one}
+use Rattle.source_grammar.proofs.StatementSteps.{past_roles, roles_halt}
 use Rattle.source_reader.proofs.statement.read_start.Goals as goal
 
 pub returns-in_err-channel-clause-halts : goal.returns-in_err-channel-clause-halts

@@ -2,7 +2,8 @@ use Rattle.source_grammar.proofs.Sequels.{past, reads_past, leads_on}
 use Rattle.source_grammar.proofs.Values.{as_part, as_leads}
 use Rattle.source_grammar.proofs.Expressions.{expr_part}
 use Rattle.source_grammar.proofs.Terminals.{show_keyword}
-use Rattle.source_grammar.proofs.Statements.{passes, at_one, past_word, to_start, stops_at_name, to_name, to_sending, to_plain, to_setting, to_show}
+use Rattle.source_grammar.proofs.Statements.{passes, at_one, past_word}
+use Rattle.source_grammar.proofs.StatementSteps.{to_start, stops_at_name, to_name, to_sending, to_plain, to_setting, to_show}
 use Rattle.source_reader.specs.Reading.{statement_of}
 use Rattle.source_reader.proofs.Readers.{hands_by, hands_back}
 use Rattle.source_reader.proofs.statement.read_statement.Goals as goal

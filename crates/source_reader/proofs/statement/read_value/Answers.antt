@@ -3,7 +3,8 @@ use Rattle.source_grammar.proofs.Sequels.{past, reads_past}
 use Rattle.source_grammar.proofs.Values.{as_part}
 use Rattle.chor_lexer.specs.declared.mark.Mark.TheVariants.{Arrow, Dot, Colon}
 use Rattle.source_grammar.proofs.Terminals.{name_part}
-use Rattle.source_grammar.proofs.Statements.{passes, name_then, mark_then, role_then, past_expr, expr_halts, mark_apart}
+use Rattle.source_grammar.proofs.Statements.{passes, name_then, mark_then, role_then, mark_apart}
+use Rattle.source_grammar.proofs.StatementSteps.{past_expr, expr_halts}
 use Rattle.source_reader.proofs.statement.read_value.Goals as goal
 
 pub returns-in_err-expr-clause-halts : goal.returns-in_err-expr-clause-halts

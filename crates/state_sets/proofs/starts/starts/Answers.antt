@@ -1,6 +1,6 @@
 use Rattle.std.proofs.Common.{ℕ, ◌<◌, sym, subst, arith}
 use Rattle.global_types.specs.Moves.{IsIn}
-use Rattle.state_sets.proofs.Tables.{group_among}
+use Rattle.state_sets.proofs.TableLoops.{group_among}
 use Rattle.state_sets.proofs.Allowed.{starts_more, starts_all}
 use Rattle.state_sets.proofs.starts.starts.Goals as goal
 

@@ -4,7 +4,8 @@ use Rattle.global_types.specs.Moves.{IsIn}
 use Rattle.state_sets.specs.declared.graph.Edge.{Edge}
 use Rattle.state_sets.specs.Sets.{Has}
 use Rattle.state_sets.specs.Numbering.{leads_to, IsNumberOf}
-use Rattle.state_sets.proofs.Tables.{group_among, sizes_more, word_longer, word_count}
+use Rattle.state_sets.proofs.Tables.{word_longer, word_count}
+use Rattle.state_sets.proofs.TableLoops.{group_among, sizes_more}
 use Rattle.state_sets.proofs.Allowed.{IsTurn, found_grown, found_in, found_out, found_same, found_begin, found_end}
 use Rattle.state_sets.proofs.Ascents.{arms_ascend_end}
 use Rattle.state_sets.proofs.table.arms.Goals as goal

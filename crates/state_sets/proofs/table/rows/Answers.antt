@@ -4,7 +4,7 @@ use Rattle.chor_base.specs.declared.names.NameId.{NameId}
 use Rattle.chor_tree.specs.declared.protocol.State.{State}
 use Rattle.state_sets.specs.Table.{AreActs, HasGrown, AreArms, nexts, Counts, group_words, arm_words}
 use Rattle.state_sets.specs.Ascending.{Ascend}
-use Rattle.state_sets.proofs.Tables.{rows_begin, rows_in, rows_end, rows_over}
+use Rattle.state_sets.proofs.TableLoops.{rows_begin, rows_in, rows_end, rows_over}
 use Rattle.state_sets.proofs.table.rows.Goals as goal
 use Rattle.std.proofs.lemmas.Option.{MatchOption-at_some, MatchOption-at_none}
 use Rattle.chor_base.specs.Words.{AllDistinct}

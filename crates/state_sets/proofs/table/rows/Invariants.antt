@@ -1,6 +1,6 @@
 use Rattle.std.proofs.Common.{◌-◌, ◌≤◌, length}
 use Rattle.state_sets.specs.Numbering.{AreSingles}
-use Rattle.state_sets.proofs.Tables.{RowsSoFar}
+use Rattle.state_sets.proofs.TableLoops.{RowsSoFar}
 use Rattle.state_sets.proofs.table.rows.Given as goal
 
 abbrev pub invariant-loop-alloc : goal.invariant-loop-alloc
