@@ -17,6 +17,8 @@ use Rattle.endpoint_code.specs.declared.endpoints.Channel.{Channel}
 use Rattle.endpoint_code.specs.declared.endpoints.Endpoints.{Endpoints}
 use Rattle.endpoint_code.specs.Network.{Sessions, Machine, NetworkState, Place, Made, Makes, Taking, Goes, place_of, queue_of, has_room, put_if, puts, moved, part_load, went, takes_from, takes, node_makes, place_makes, machine_makes, node_joins, place_joins, joins, one_joiner, joiners, begun, one_pair, paired, starts_with, channel_starts, channel_of, starts, NetworkSteps, acts, begins}
 use Rattle.endpoint_code.specs.NetworkRuns.{ends_there, has_ended, all_ended, joins_there, is_joined, absent_among, absent_on, waits_to_send, waits_for_first, waits_to_receive, node_waits, place_waits, waits_for, can_step, none_can_step}
+use Rattle.endpoint_code.proofs.Standing.{none_at}
+use Rattle.std.proofs.lemmas.Bool.{true≢false}
 use Rattle.well_formed.proofs.References.{same_name, and_first, and_second, or_rights}
 
 -- some process can step
@@ -220,18 +222,8 @@ step_able : (e : Endpoints) (hosts : Hosts) (cap : Option ℕ) (n m : NetworkSta
 step_able e hosts cap n m x (acts p v answers made) = machine_able e cap n p v (Makes x m) (slice_get n.machines p) refl made
 step_able e hosts cap n m x (begins c ps made) = start_able e cap n c ps (Makes x m) made
 
-nobody_can : (e : Endpoints) (cap : Option ℕ) (n : NetworkState) (ms : List Machine) (j : ℕ) (m : Machine) → none_can_step e cap n ms ≡ true → slice_get ms j ≡ Some m → can_step e cap n m ≡ true → ⊥
-nobody_can e cap n [] j m h t can = cc
-nobody_can e cap n (x ∷ ms) j m h t can = go (can_step e cap n x) refl h j t (λ k i u. nobody_can e cap n ms i m k u can)
-  where
-    go : (b : Bool) → can_step e cap n x ≡ b → (if b then false else none_can_step e cap n ms) ≡ true → (i : ℕ) → slice_get (x ∷ ms) i ≡ Some m
-        → (none_can_step e cap n ms ≡ true → (k : ℕ) → slice_get ms k ≡ Some m → ⊥) → ⊥
-    go true s k i u more = cc
-    go false s k zero u more = let same : x ≡ m = cc in let off : can_step e cap n m ≡ false = ap (can_step e cap n) (sym same) ∙ s in cc
-    go false s k (suc i) u more = more k i u
-
 pub nothing_happens : (e : Endpoints) (hosts : Hosts) (cap : Option ℕ) (n : NetworkState) → none_can_step e cap n n.machines ≡ true → (x : Event) (m : NetworkState) → NetworkSteps e hosts cap n x m → ⊥
-nothing_happens e hosts cap n none x m s = let a = step_able e hosts cap n m x s in nobody_can e cap n n.machines a.place a.machine none a.there a.can
+nothing_happens e hosts cap n none x m s = let a = step_able e hosts cap n m x s in true≢false (sym a.can ∙ none_at e cap n n.machines a.place a.machine none a.there)
 
 -- where all have ended, nobody can step
 pub ended_none : (e : Endpoints) (cap : Option ℕ) (n : NetworkState) (ms : List Machine) → all_ended e ms ≡ true → none_can_step e cap n ms ≡ true

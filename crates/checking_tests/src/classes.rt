@@ -1,4 +1,5 @@
-//! What each class of rules says of a file by itself.
+//! What classes of rules say of a file by themselves: names, protocols, views, guarded procedures and linear channels.
+//! Types and merging are judged only where a file has no fault of these.
 
 use chor_base::{Denied, Rule};
 use chor_host::HostTable;
@@ -12,7 +13,7 @@ use source_check::{check, read};
 use std::alloc::Global;
 use std::test::Fail;
 
-// One fault of each class: a view's in line 2, a protocol's in line 3, a call's in line 5, a start's in line 9,
+// One fault of each: a view's in line 2, a protocol's in line 3, a call's in line 5, a start's in line 9,
 // and a name's in line 11.
 const FAULTY: &[u8] = b"protocol P (A, B) { s = A -> B : int then t; t = end; }
 protocol V (A, B, C) { s = A -> B { l then t, r then u }; t = B -> C : int then e; u = B -> A : int then e; e = end; }

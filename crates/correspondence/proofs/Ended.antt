@@ -17,6 +17,7 @@ use Rattle.endpoint_code.specs.declared.endpoints.Channel.{Channel}
 use Rattle.endpoint_code.specs.declared.endpoints.Endpoints.{Endpoints}
 use Rattle.endpoint_code.specs.Network.{Machine, NetworkState, Place, Sessions, place_of, node_at, channel_of, queue_of}
 use Rattle.endpoint_code.specs.NetworkRuns.{ends_there, has_ended, all_ended}
+use Rattle.endpoint_code.proofs.Standing as standing_at
 use Rattle.well_formed.specs.Follows.{SessionMap, Act, Agrees, HoldsAt, place_after, act_of, fork_of, BothHold, Stands, standing, HoldsOf, follows_act, follows_test, follows_call, Follows}
 use Rattle.well_formed.specs.WellFormed.{Scope, IsProcess, StartFits, NodeFits, CallFits, IsWellFormed}
 use Rattle.well_formed.specs.Linear.{ParameterSets}
@@ -100,16 +101,9 @@ module _ (e : Endpoints) (procs : List Procedure) (sets : NameId → ParameterSe
             go : (o : Option Place) → place_of e m ≡ o → ends_there o ≡ true → AtEnd p c.tree
             go None i j = absurd cc
             go (Some pl) i j =
-                let k : pl.node ≡ code.End = end_node pl j in
+                let k : pl.node ≡ code.End = standing_at.at_end pl j in
                 let st = stood_at e procs p c.tree m.at (node_at e m.at) m.sessions pl refl i (subst NotCall (sym k) tt) (co.follows p m there) in
                 record { q = st.q; m = session_map pl.sessions; stands = st.stands ∙ ap Stands k; follows = st.follows }
-              where
-                end_node : (pl : Place) → ends_there (Some pl) ≡ true → pl.node ≡ code.End
-                end_node pl h = by pl.node pl.sessions h
-                  where
-                    by : (d : CodeNode) (s : Sessions) → ends_there (Some (record { node = d; sessions = s })) ≡ true → d ≡ code.End
-                    by code.End s h = refl
-                    by _ s h = absurd cc
 
     -- no such process acts at a node, or decides
     not_named : (p : ℕ) (node : Node) (rest : Choreography) → AtEnd p (Then node rest) → among (Live p) (named_in node) ≡ true → ⊥

@@ -1,23 +1,22 @@
 -- Runs that are made step by step.
-use Rattle.std.proofs.Common.{◌≡◌, ℕ, zero, suc, ◌+◌, ◌<◌, Bool, true, false, cond, List, [], ◌∷◌, drop, length, refl, sym, ap, ◌∙◌, subst, Option, Some, None, inl}
+use Rattle.std.proofs.Common.{◌≡◌, ℕ, ◌+◌, ◌<◌, Bool, true, false, cond, drop, length, refl, sym, ap, ◌∙◌, subst, Option, Some, None, ◌⊎◌, inl, inr}
 use Rattle.std.specs.Prelude.{◌≢◌, slice_get}
 use Rattle.std.proofs.lemmas.Bool.{true≢false}
 use Rattle.std.proofs.lemmas.Option.{none-some}
 use Rattle.chor_base.specs.declared.event.Why.{Why}
 use Rattle.chor_base.specs.Meaning.{Hosts}
-use Rattle.endpoint_code.specs.declared.code.CodeNode.{CodeNode}
-use Rattle.endpoint_code.specs.declared.code.CodeNode.TheVariants as node
 use Rattle.endpoint_code.specs.declared.endpoints.Endpoints.{Endpoints}
 use Rattle.chor_base.specs.NameMap.{Variables}
-use Rattle.endpoint_code.specs.Network.{Machine, NetworkState, Place, Sessions, place_of}
-use Rattle.endpoint_code.specs.NetworkRuns.{ends_there, place_waits, has_ended, can_step, none_can_step}
+use Rattle.endpoint_code.specs.Network.{Machine, NetworkState, Place, place_of}
+use Rattle.endpoint_code.specs.NetworkRuns.{ends_there, node_waits, place_waits, has_ended, none_can_step}
+use Rattle.endpoint_code.proofs.Standing.{at_end, none_at}
 use Rattle.endpoint_code.specs.Scheduled.{first_waiting, first_waiting_from, stuck}
 use Rattle.net_core.specs.declared.answer.Step.{Step}
 use Rattle.net_core.specs.declared.answer.Step.TheVariants as step
 use Rattle.net_core.specs.declared.answer.Picked.{Picked}
 use Rattle.net_core.specs.declared.answer.Picked.TheVariants as picked
 use Rattle.net_core.specs.Heads.{ended_at, ended_of, why_at, why_of, steps_at, steps_of}
-use Rattle.net_core.specs.Picks.{Turns}
+use Rattle.net_core.specs.Picks.{Turns, IsStuck}
 use Rattle.net_core.specs.Steps.{Answers}
 use Rattle.net_core.specs.Views.{NetworkView, IsSame}
 use Rattle.net_core.proofs.Turns.{waiting_turn}
@@ -25,24 +24,9 @@ use Rattle.endpoint_runs.specs.StepByStep.{TellsWhy}
 
 -- ---- nobody waits who has ended
 
-place_ended : (e : Endpoints) (cap : Option ℕ) (n : NetworkState) (vars : Variables) (s : Sessions) (c : CodeNode) → ends_there (Some (record { node = c; sessions = s })) ≡ true → place_waits e cap n vars (Some (record { node = c; sessions = s })) ≡ None
-place_ended e cap n vars s node.End h = refl
-place_ended e cap n vars s (node.Join a b c d) h = absurd (true≢false (sym h))
-place_ended e cap n vars s (node.Send a b c d) h = absurd (true≢false (sym h))
-place_ended e cap n vars s (node.Recv a b c d) h = absurd (true≢false (sym h))
-place_ended e cap n vars s (node.Pick a b c d) h = absurd (true≢false (sym h))
-place_ended e cap n vars s (node.Branch a b c) h = absurd (true≢false (sym h))
-place_ended e cap n vars s (node.Throw a b c d) h = absurd (true≢false (sym h))
-place_ended e cap n vars s (node.Catch a b c d) h = absurd (true≢false (sym h))
-place_ended e cap n vars s (node.Set a b c) h = absurd (true≢false (sym h))
-place_ended e cap n vars s (node.Show a b) h = absurd (true≢false (sym h))
-place_ended e cap n vars s (node.Host a b c d f) h = absurd (true≢false (sym h))
-place_ended e cap n vars s (node.If a b c) h = absurd (true≢false (sym h))
-place_ended e cap n vars s (node.Call a b c) h = absurd (true≢false (sym h))
-
 ended_waits : (e : Endpoints) (cap : Option ℕ) (n : NetworkState) (vars : Variables) (q : Option Place) → ends_there q ≡ true → place_waits e cap n vars q ≡ None
 ended_waits e cap n vars None h = refl
-ended_waits e cap n vars (Some q) h = place_ended e cap n vars q.sessions q.node h
+ended_waits e cap n vars (Some q) h = ap (node_waits e cap n vars q.sessions) (at_end q h)
 
 waits_unended : (e : Endpoints) (cap : Option ℕ) (n : NetworkState) (o : Option Machine) (w : Why) → why_of e cap n o ≡ Some w → ended_of e o ≡ false
 waits_unended e cap n None w h = refl
@@ -85,24 +69,22 @@ waits_first hosts first now new p why r is answers l within =
     let a = subst (λ (s : Step). Answers hosts now p s new) is answers in
     let waits = also_same (λ e cap n. why_at e cap n p ≡ Some why) first now l.same a.0 in
     let unended = waits_unended first.endpoints first.capacity first.state _ why waits in
-    record { same = same_twice first now new l.same a.1; stuck = turned_at first now p false l within (sym unended) ∙ ap (λ w. Some (p, w)) waits }
+    record { same = same_twice first now new l.same a.1; stuck = inr (turned_at first now p false l within (sym unended) ∙ ap (λ w. Some (p, w)) waits) }
 
 -- nobody steps where none can
-never_steps : (e : Endpoints) (cap : Option ℕ) (n : NetworkState) (ms : List Machine) (i : ℕ) → none_can_step e cap n ms ≡ true → steps_of e cap n (slice_get ms i) ≡ true → ⊥
-never_steps e cap n [] i h s = true≢false (sym s)
-never_steps e cap n (m ∷ ms) i h s = go (can_step e cap n m) refl h i s (never_steps e cap n ms)
+never_steps : (e : Endpoints) (cap : Option ℕ) (n : NetworkState) (p : ℕ) → none_can_step e cap n n.machines ≡ true → steps_at e cap n p ≡ true → ⊥
+never_steps e cap n p none s = go (slice_get n.machines p) refl s
   where
-    go : (b : Bool) → can_step e cap n m ≡ b → cond b false (none_can_step e cap n ms) ≡ true → (i : ℕ) → steps_of e cap n (slice_get (m ∷ ms) i) ≡ true → ((i : ℕ) → none_can_step e cap n ms ≡ true → steps_of e cap n (slice_get ms i) ≡ true → ⊥) → ⊥
-    go true is h i s more = true≢false (sym h)
-    go false is h zero s more = true≢false (sym s ∙ is)
-    go false is h (suc i) s more = more i h s
+    go : (o : Option Machine) → slice_get n.machines p ≡ o → steps_of e cap n o ≡ true → ⊥
+    go None there s = true≢false (sym s)
+    go (Some m) there s = true≢false (sym s ∙ none_at e cap n n.machines p m none there)
 
 -- there was no memory for it
 pub looks_no_more : (hosts : Hosts) (first now new : NetworkView) (p : ℕ) (r : Step) → ((why : Why) → r ≡ step.Waits why → ⊥) → (r ≡ step.Ended → ⊥) → Answers hosts now p r new → Looks first now p → none_can_step first.endpoints first.capacity first.state first.state.machines ≡ true → TellsWhy first picked.Memory new
-looks_no_more hosts first now new p step.Did waits ended a l none = absurd (never_steps first.endpoints first.capacity first.state first.state.machines p none (also_same (λ e cap n. steps_at e cap n p ≡ true) first now l.same a.0))
+looks_no_more hosts first now new p step.Did waits ended a l none = absurd (never_steps first.endpoints first.capacity first.state p none (also_same (λ e cap n. steps_at e cap n p ≡ true) first now l.same a.0))
 looks_no_more hosts first now new p (step.Waits why) waits ended a l none = absurd (waits why refl)
 looks_no_more hosts first now new p step.Ended waits ended a l none = absurd (ended refl)
-looks_no_more hosts first now new p step.Memory waits ended a l none = record { same = same_twice first now new l.same a.2; stuck = tt }
+looks_no_more hosts first now new p step.Memory waits ended a l none = record { same = same_twice first now new l.same a.2; stuck = inl refl }
 
 -- ---- one turn
 
@@ -114,7 +96,11 @@ no_event hosts old new p step.Ended other a = a.1
 no_event hosts old new p step.Memory other a = a.2
 
 pub stuck_turns : (hosts : Hosts) (seed steps : ℕ) (old new : NetworkView) (r : Picked) → TellsWhy old r new → length old.history ≢ steps → none_can_step old.endpoints old.capacity old.state old.state.machines ≡ true → Turns hosts seed steps old (Some r) new
-stuck_turns hosts seed steps old new picked.Ended t before none = absurd t.stuck
-stuck_turns hosts seed steps old new picked.Limit t before none = absurd t.stuck
-stuck_turns hosts seed steps old new (picked.Stuck p why) t before none = record { same = t.same; closes = stuck before none t.stuck }
-stuck_turns hosts seed steps old new picked.Memory t before none = inl t.same
+stuck_turns hosts seed steps old new r t before none = go r t.stuck
+  where
+    go : (r : Picked) → (r ≡ picked.Memory) ⊎ IsStuck old.endpoints old.capacity old.state r → Turns hosts seed steps old (Some r) new
+    go r (inl lacks) = subst (λ (q : Picked). Turns hosts seed steps old (Some q) new) (sym lacks) (inl t.same)
+    go (picked.Stuck p why) (inr s) = record { same = t.same; closes = stuck before none s }
+    go picked.Ended (inr s) = absurd s
+    go picked.Limit (inr s) = absurd s
+    go picked.Memory (inr s) = absurd s

@@ -1,6 +1,6 @@
 //! The scheduled run of endpoint programs.
 
-ghost use Rattle.std.specs.Prelude.{◌≡◌, ◌<◌, ◌≤◌, ◌^◌, [], Some, IfOk, length};
+ghost use Rattle.std.specs.Prelude.{◌≡◌, ◌<◌, ◌≤◌, ◌^◌, [], Some, IfOk};
 ghost use Rattle.chor_host.specs.Functions.{names_of, hosts_in};
 ghost use Rattle.chor_host.specs.Tables.{functions_of};
 ghost use Rattle.endpoint_code.specs.Faults.{IsFaultless, IsFaultlessWith};

@@ -1,10 +1,10 @@
 //! The scheduled run as its definition says.
 
-ghost use Rattle.std.specs.Prelude.{◌≡◌, ◌≢◌, ◌<◌, ◌≤◌, ◌-◌, ◌^◌, ◌⊎◌, IfOk, Some, false, true, length};
+ghost use Rattle.std.specs.Prelude.{◌≡◌, ◌≢◌, ◌<◌, ◌≤◌, ◌-◌, ◌^◌, IfOk, true, length};
 ghost use Rattle.chor_host.specs.Functions.{names_of, hosts_in};
 ghost use Rattle.chor_host.specs.Tables.{functions_of};
 ghost use Rattle.endpoint_code.specs.Faults.{IsFaultlessWith, AsksKnown, is_listed};
-ghost use Rattle.endpoint_code.specs.NetworkRuns.{all_ended, none_can_step};
+ghost use Rattle.endpoint_code.specs.NetworkRuns.{none_can_step};
 ghost use Rattle.net_core.specs.Picks.{Runs, Turns};
 ghost use Rattle.net_core.specs.Steps.{FitsMore};
 ghost use Rattle.endpoint_runs.specs.Runs.{IsRunOf};

@@ -314,47 +314,34 @@ module _ (names : List (List ℕ)) (distinct : AllDistinct names) (M : ℕ → �
   same_message : (b : NameId) (c d : Payload) (n m : ℕ) → content_of c ≡ content_of d → n ∷ [] ≡ m ∷ [] → message_text names b c n ≡ message_text names b d m
   same_message b c d n m e f = rw (same_content names c d e, one_number n m f) refl
 
+  -- where each label has an act of its own, labels stand for each other as their acts do
+  module _ (act : NameId → Action) (own : (k l : NameId) → act k ≡ act l → k ≡ l) where
+    abbrev acted : List (NameId × ℕ) → List (Action × ℕ)
+    acted us = map (λ k. (act k.0, k.1)) us
+
+    found : (l : NameId) (n : ℕ) (us : List (NameId × ℕ)) → IsIn (act l, n) (acted us) → IsIn (l, n) us
+    found l n us h =
+        let p = in_map_back (λ (k : NameId × ℕ). (act k.0, k.1)) (act l, n) us h in
+        labelled l n p.0 us p.1 (own p.0.0 l (ap (λ (q : Action × ℕ). q.0) p.2)) (ap (λ (q : Action × ℕ). q.1) p.2)
+
+    for_labels : (N : ℕ → ℕ → Type 0) (us vs : List (NameId × ℕ)) → ((a : Action) (k : ℕ) → IsIn (a, k) (acted us) → (m : ℕ) × IsIn (a, m) (acted vs) × N k m) → (l : NameId) (k : ℕ) → IsIn (l, k) us → (m : ℕ) × IsIn (l, m) vs × N k m
+    for_labels N us vs there l k h = let p = there (act l) k (in_map (λ (q : NameId × ℕ). (act q.0, q.1)) (l, k) us h) in (p.0, found l p.0 vs p.1, p.2)
+
   picks : (b : NameId) (ls ks : List (NameId × ℕ)) → Fits names (Pick b ls) → Fits names (Pick b ks) → There (Pick b ls) (Pick b ks) → Back (Pick b ls) (Pick b ks) → Alike (Pick b ls) (Pick b ks)
   picks b ls ks f g there back =
-      let p = pairs ls ks there_by back_by f.apart g.apart f.ascend g.ascend f.named g.named in
+      let p = pairs ls ks (for_labels (selects b) (λ k l e. cc) M ls ks there) (for_labels (selects b) (λ k l e. cc) (λ m k. M k m) ks ls back) f.apart g.apart f.ascend g.ascend f.named g.named in
       record {
         nexts = subst (λ v. Pairwise v (nexts_of (Pick b ks))) (sym (pick_nexts b ls)) (subst (λ v. Pairwise (map (λ l. l.1) ls) v) (sym (pick_nexts b ks)) p.nexts);
         text = λ e. ap (λ v. state_text names (Pick b v)) (same_labels ls ks p.labels (sym (pick_nexts b ls) ∙ e ∙ pick_nexts b ks));
       }
-    where
-      found : (l : NameId) (n : ℕ) (us : List (NameId × ℕ)) → IsIn (selects b l, n) (acts_of (Pick b us)) → IsIn (l, n) us
-      found l n us h =
-          let p = in_map_back (λ (k : NameId × ℕ). (selects b k.0, k.1)) (selects b l, n) us h in
-          let e : selects b p.0.0 ≡ selects b l = ap (λ (q : Action × ℕ). q.0) p.2 in
-          let m : p.0.0 ≡ l = cc in
-          labelled l n p.0 us p.1 m (ap (λ (q : Action × ℕ). q.1) p.2)
-
-      there_by : (l : NameId) (k : ℕ) → IsIn (l, k) ls → (m : ℕ) × IsIn (l, m) ks × M k m
-      there_by l k h = let p = there (selects b l) k (in_map (λ (q : NameId × ℕ). (selects b q.0, q.1)) (l, k) ls h) in (p.0, found l p.0 ks p.1, p.2)
-
-      back_by : (l : NameId) (m : ℕ) → IsIn (l, m) ks → (k : ℕ) × IsIn (l, k) ls × M k m
-      back_by l m h = let p = back (selects b l) m (in_map (λ (q : NameId × ℕ). (selects b q.0, q.1)) (l, m) ks h) in (p.0, found l p.0 ls p.1, p.2)
 
   branches : (b : NameId) (ls ks : List (NameId × ℕ)) → Fits names (Branch b ls) → Fits names (Branch b ks) → There (Branch b ls) (Branch b ks) → Back (Branch b ls) (Branch b ks) → Alike (Branch b ls) (Branch b ks)
   branches b ls ks f g there back =
-      let p = pairs ls ks there_by back_by f.apart g.apart f.ascend g.ascend f.named g.named in
+      let p = pairs ls ks (for_labels (offers b) (λ k l e. cc) M ls ks there) (for_labels (offers b) (λ k l e. cc) (λ m k. M k m) ks ls back) f.apart g.apart f.ascend g.ascend f.named g.named in
       record {
         nexts = subst (λ v. Pairwise v (nexts_of (Branch b ks))) (sym (branch_nexts b ls)) (subst (λ v. Pairwise (map (λ l. l.1) ls) v) (sym (branch_nexts b ks)) p.nexts);
         text = λ e. ap (λ v. state_text names (Branch b v)) (same_labels ls ks p.labels (sym (branch_nexts b ls) ∙ e ∙ branch_nexts b ks));
       }
-    where
-      found : (l : NameId) (n : ℕ) (us : List (NameId × ℕ)) → IsIn (offers b l, n) (acts_of (Branch b us)) → IsIn (l, n) us
-      found l n us h =
-          let p = in_map_back (λ (k : NameId × ℕ). (offers b k.0, k.1)) (offers b l, n) us h in
-          let e : offers b p.0.0 ≡ offers b l = ap (λ (q : Action × ℕ). q.0) p.2 in
-          let m : p.0.0 ≡ l = cc in
-          labelled l n p.0 us p.1 m (ap (λ (q : Action × ℕ). q.1) p.2)
-
-      there_by : (l : NameId) (k : ℕ) → IsIn (l, k) ls → (m : ℕ) × IsIn (l, m) ks × M k m
-      there_by l k h = let p = there (offers b l) k (in_map (λ (q : NameId × ℕ). (offers b q.0, q.1)) (l, k) ls h) in (p.0, found l p.0 ks p.1, p.2)
-
-      back_by : (l : NameId) (m : ℕ) → IsIn (l, m) ks → (k : ℕ) × IsIn (l, k) ls × M k m
-      back_by l m h = let p = back (offers b l) m (in_map (λ (q : NameId × ℕ). (offers b q.0, q.1)) (l, m) ks h) in (p.0, found l p.0 ls p.1, p.2)
 
   pub alike : (t u : LocalState) → Fits names t → Fits names u → There t u → Back t u → Alike t u
   alike End u f g there back =

@@ -23,6 +23,7 @@ use Rattle.net_core.specs.Heads.{Shows, is_end, steps_at, steps_of, why_at, why_
 use Rattle.net_core.specs.Views.{NetworkView}
 use Rattle.net_core.specs.Steps.{HasStepped, AreFew, FitsMore, HasGrown, most_served}
 use Rattle.net_core.specs.Picks.{Underway, GoesOn, stays, goes, entries_of, HasRun, HasGone, Runs, HasTurned, HasClosed, Turns, IsStuck}
+use Rattle.endpoint_code.proofs.Standing.{none_at}
 use Rattle.net_core.proofs.Leaders.{some_there}
 use Rattle.net_core.proofs.Scopes.{length-standing_all}
 use Rattle.net_core.proofs.Numbers.{grown_by_none, grown_by_more, grown_by_same, grown_by_both}
@@ -91,15 +92,6 @@ first_found e cap n i (m ∷ ms) p w h = go (has_ended e m) refl h (first_found 
     go false s k more =
         let parts = some_pair_parts i p (waits_for e cap n m) w k in
         record { place = zero; number = own_place i p parts.0; item = record { machine = m; there = refl }; unended = s; why = sym parts.1 }
-
-none_at : (e : Endpoints) (cap : Option ℕ) (n : NetworkState) (ms : List Machine) (j : ℕ) (m : Machine) → none_can_step e cap n ms ≡ true → slice_get ms j ≡ Some m → can_step e cap n m ≡ false
-none_at e cap n [] j m h t = absurd (none-some m t)
-none_at e cap n (x ∷ ms) j m h t = go (can_step e cap n x) refl h j t (λ k i u. none_at e cap n ms i m k u)
-  where
-    go : (b : Bool) → can_step e cap n x ≡ b → cond b false (none_can_step e cap n ms) ≡ true → (i : ℕ) → slice_get (x ∷ ms) i ≡ Some m → (none_can_step e cap n ms ≡ true → (i : ℕ) → slice_get ms i ≡ Some m → can_step e cap n m ≡ false) → can_step e cap n m ≡ false
-    go true s k i u more = absurd (true≢false (sym k))
-    go false s k zero u more = ap (can_step e cap n) (sym (same_Some x m u)) ∙ s
-    go false s k (suc i) u more = more k i u
 
 waits_some : (e : Endpoints) (cap : Option ℕ) (n : NetworkState) (m : Machine) → has_ended e m ≡ false → can_step e cap n m ≡ false → waits_for e cap n m ≡ None → ⊥
 waits_some e cap n m u s h = let a : can_step e cap n m ≡ true = ap (λ (b : Bool). cond b false (cond (is_some (waits_for e cap n m)) false true)) u ∙ ap (λ (w : Option Why). cond (is_some w) false true) h in true≢false (sym a ∙ s)

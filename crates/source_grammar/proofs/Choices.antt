@@ -7,7 +7,7 @@ use Rattle.chor_base.specs.declared.rule.Denied.{Denied}
 use Rattle.chor_lexer.specs.declared.token.Token.{Token}
 use Rattle.chor_lexer.specs.Tokens.{is_ended}
 use Rattle.source_grammar.specs.Symbols.{Allowed, anywhere, but_at, Part, Further, Ends, AreWhole, Fits, Completes, IsPart, SameFirst, Only, Reads, Reason, wrong, excess, Stops, Halts, Choice, left, right, OneOf, the_first, the_second, AtMost, without, with, IsStable, Among, AreDistinct, Head, Begins, Alike, Leads}
-use Rattle.source_grammar.proofs.Wholes.{whole_first, first_of_cons, same_first, same_first_of, same_first_after, same_first_back, head_there, head_back, head_stays, head_known, head_among, ends_no_head, ends_among}
+use Rattle.source_grammar.proofs.Wholes.{whole_first, first_of_cons, same_first, same_first_of, same_first_after, same_first_back, head_there, head_back, head_stays, head_known, head_among, ends_no_head, ends_among, stops_as, halts_as}
 
 -- ---- two ways to say one part
 
@@ -51,16 +51,7 @@ reason_alike a wrong = wrong
 reason_alike a (excess c) = excess (λ p. completes_alike a (c p))
 
 stops_alike : {A B : Type 0} {R : Part A} {S : Part B} {f : B → A} {C : Further} {names : List (List ℕ)} {ts : List Token} {rule : Rule} {place : Place} → Alike R S f → Stops S C names ts rule place → Stops R C names ts rule place
-stops_alike a s = record {
-  before = s.before;
-  token = s.token;
-  rest = s.rest;
-  parts = s.parts;
-  at = s.at;
-  viable = λ p. completes_alike a (s.viable p);
-  never = λ words more y end k e. let h = a.to k in s.never words more h.value end h.is e;
-  reason = reason_alike a s.reason;
-}
+stops_alike a s = stops_as s (λ p. completes_alike a (s.viable p)) (λ words more y end k e. let h = a.to k in s.never words more h.value end h.is e) (reason_alike a s.reason)
 
 pub same_halts : {A B : Type 0} {R : Part A} {S : Part B} {f : B → A} {C : Further} {names : List (List ℕ)} {ts : List Token} {d : Denied} → Alike R S f → Halts S C names ts d → Halts R C names ts d
 same_halts a h = record { by = λ r e w. let s = h.by r e w in (stops_alike a s.0, s.1) }
@@ -202,40 +193,18 @@ never_right s b f w n words more (left y) end (the_first k) e = n (head_known wo
 never_right s b f w n words more (right y) end (the_second k) e = s.never words more y end k e
 
 pub first_halts : {A B : Type 0} {R : Part A} {S : Part B} {C F G : Further} {names : List (List ℕ)} {ts : List Token} {d : Denied} → Begins S G → IsStable F → AreDistinct F G → Head F names ts → Halts R C names ts d → Halts (OneOf R S) C names ts d
-first_halts c f g h k = record {
-  by = λ r e w.
-      let s = (k.by r e w).0 in (
-        record {
-          before = s.before;
-          token = s.token;
-          rest = s.rest;
-          parts = s.parts;
-          at = s.at;
-          viable = λ p. complete_left (s.viable p);
-          never = λ words more y end m o. never_left s c f g h words more y end m o;
-          reason = reason_left s.reason;
-        },
-        (k.by r e w).1,
-      );
-}
+first_halts c f g h k = halts_as
+    (λ rule place w s. stops_as s (λ p. complete_left (s.viable p))
+    (λ words more y end m o. never_left s c f g h words more y end m o)
+    (reason_left s.reason))
+    k
 
 pub second_halts : {A B : Type 0} {R : Part A} {S : Part B} {C F : Further} {names : List (List ℕ)} {ts : List Token} {d : Denied} → Begins R F → IsStable F → (Head F names ts → ⊥) → Halts S C names ts d → Halts (OneOf R S) C names ts d
-second_halts b f n k = record {
-  by = λ r e w.
-      let s = (k.by r e w).0 in (
-        record {
-          before = s.before;
-          token = s.token;
-          rest = s.rest;
-          parts = s.parts;
-          at = s.at;
-          viable = λ p. complete_right (s.viable p);
-          never = λ words more y end m o. never_right s b f w n words more y end m o;
-          reason = reason_right s.reason;
-        },
-        (k.by r e w).1,
-      );
-}
+second_halts b f n k = halts_as
+    (λ rule place w s. stops_as s (λ p. complete_right (s.viable p))
+    (λ words more y end m o. never_right s b f w n words more y end m o)
+    (reason_right s.reason))
+    k
 
 only_left : {A B : Type 0} {R : Part A} {S : Part B} {C F G : Further} {names : List (List ℕ)} {ts : List Token} {x : A} {rest : List Token} → (o : Only R C names ts x rest) → Begins S G → IsStable F → AreDistinct F G → Head F names ts → (words : List (List ℕ)) (more : List Token) (y : Choice A B) (end : List Token) → SameFirst rest more → OneOf R S anywhere (names ++ words) (o.front ++ more) y end → Ends C (names ++ words) end → (y ≡ left x) × (end ≡ more)
 only_left o c f d h words more (left y) end s (the_first k) e = let one = o.by words more y end s k e in (ap left one.0, one.1)
@@ -305,22 +274,11 @@ never_with {names = names} s f c a h words more us None end m without e = ends_n
 never_with {R = R} {names = names} {rule = rule} {place = place} s f c a h words more us (Some y) end m (with k) e = s.never words more y end (subst (λ (l : List Token). R (but_at rule place) (names ++ words) l y end) m k) (ends_among c e)
 
 pub option_halts : {A : Type 0} {R : Part A} {C D F : Further} {names : List (List ℕ)} {ts : List Token} {d : Denied} → IsStable F → Among C D → Among F D → Head F names ts → Halts R C names ts d → Halts (AtMost R) D names ts d
-option_halts f c a h k = record {
-  by = λ r e w.
-      let s = (k.by r e w).0 in (
-        record {
-          before = s.before;
-          token = s.token;
-          rest = s.rest;
-          parts = s.parts;
-          at = s.at;
-          viable = λ p. complete_with (s.viable p);
-          never = λ words more y end m o. never_with s f c a h words more (s.before ++ s.token ∷ more) y end refl m o;
-          reason = reason_with s.reason;
-        },
-        (k.by r e w).1,
-      );
-}
+option_halts f c a h k = halts_as
+    (λ rule place w s. stops_as s (λ p. complete_with (s.viable p))
+    (λ words more y end m o. never_with s f c a h words more (s.before ++ s.token ∷ more) y end refl m o)
+    (reason_with s.reason))
+    k
 
 only_with : {A : Type 0} {R : Part A} {C D F : Further} {names : List (List ℕ)} {ts : List Token} {x : A} {rest : List Token} → (o : Only R C names ts x rest) → IsStable F → Among C D → Among F D → Head F names ts → (words : List (List ℕ)) (more us : List Token) (y : Option A) (end : List Token) → us ≡ o.front ++ more → SameFirst rest more → AtMost R anywhere (names ++ words) us y end → Ends D (names ++ words) end → (y ≡ Some x) × (end ≡ more)
 only_with o f c a h words more us None end m s without e = absurd (ends_no_head e (head_among a (head_there (same_first o.parts (same_first_back (same_first_after o.front s) m)) (head_stays words f h))))

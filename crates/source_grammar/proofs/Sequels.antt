@@ -7,7 +7,7 @@ use Rattle.chor_base.specs.declared.rule.Denied.{Denied}
 use Rattle.chor_lexer.specs.declared.token.Token.{Token}
 use Rattle.chor_lexer.proofs.Each.{each_append}
 use Rattle.source_grammar.specs.Symbols.{Allowed, anywhere, nowhere, only_at, but_at, also_at, Part, Further, Ends, more_words, Fits, Completes, IsPart, SameFirst, Only, Reads, Reason, wrong, excess, Stops, Halts, ThenBy, Then, Apart, Leads}
-use Rattle.source_grammar.proofs.Wholes.{whole_after, same_first_of, same_first_after, same_first}
+use Rattle.source_grammar.proofs.Wholes.{whole_after, same_first_of, same_first_after, same_first, stops_as}
 
 -- ---- completions
 
@@ -91,16 +91,7 @@ reason_first q wrong = wrong
 reason_first {names = names} q (excess c) = excess (λ p. complete_first (c p) (λ x. complete_wider (q x) (λ rule o e. inl e) ((q x).some p names)))
 
 stops_first : {A B : Type 0} {R : Part A} {S : A → Part B} {C D : Further} {names : List (List ℕ)} {ts : List Token} {rule : Rule} {place : Place} → ((x : A) → IsPart (S x) D) → ((x : A) → Apart C (S x) D) → Stops R C names ts rule place → Stops (ThenBy R S) D names ts rule place
-stops_first {names = names} q a s = record {
-  before = s.before;
-  token = s.token;
-  rest = s.rest;
-  parts = s.parts;
-  at = s.at;
-  viable = λ p. complete_first (s.viable p) (λ x. (q x).some p names);
-  never = λ words more y left k e. s.never words more y.0 k.mid k.first ((a y.0).by k.second e);
-  reason = reason_first q s.reason;
-}
+stops_first {names = names} q a s = stops_as s (λ p. complete_first (s.viable p) (λ x. (q x).some p names)) (λ words more y left k e. s.never words more y.0 k.mid k.first ((a y.0).by k.second e)) (reason_first q s.reason)
 
 pub by_now : {A B : Type 0} {R : Part A} {S : A → Part B} {C D : Further} {names : List (List ℕ)} {ts : List Token} {d : Denied} → ((x : A) → IsPart (S x) D) → ((x : A) → Apart C (S x) D) → Halts R C names ts d → Halts (ThenBy R S) D names ts d
 by_now q a h = record { by = λ r e w. let s = h.by r e w in (stops_first q a s.0, s.1) }

@@ -8,7 +8,7 @@ use Rattle.chor_base.specs.declared.rule.Denied.{Denied}
 use Rattle.chor_base.specs.declared.rule.Denied.TheVariants.{Memory}
 use Rattle.chor_lexer.specs.declared.token.Token.{Token}
 use Rattle.source_grammar.specs.Symbols.{Allowed, only_at, also_at, Part, Further, Nothing, Ends, more_words, AreWhole, Fits, Completes, IsPart, Reads, Reason, wrong, excess, Stops, Halts, ThenBy, Apart, AtMost, without, with, IsStable, Among, AreDistinct, Head, Begins, AllowsFirst, Within, Opens, Alike, RefusesFirst, HasRoom, IsFull, Leads}
-use Rattle.source_grammar.proofs.Wholes.{first_of_cons, same_first, same_first_of, head_back, head_known, head_among, ends_among}
+use Rattle.source_grammar.proofs.Wholes.{first_of_cons, same_first, same_first_of, head_back, head_known, head_among, ends_among, stops_as, halts_as}
 use Rattle.source_grammar.proofs.Sequels.{complete_first}
 use Rattle.source_grammar.proofs.Choices.{wrong_start, completes_alike}
 
@@ -133,22 +133,11 @@ reason_room before t rest parts b s room w wrong = wrong
 reason_room before t rest parts b s room w (excess c) = excess (λ p. complete_after before t rest parts b s room w (c p))
 
 pub within_halts : {A : Type 0} {rule : Rule} {n : ℕ} {R : Part A} {C F : Further} {names : List (List ℕ)} {ts : List Token} {d : Denied} → Begins R F → IsStable F → (n ≡ 0 → Head F names ts → ⊥) → Halts R C names ts d → Halts (Within rule n R) C names ts d
-within_halts b f room k = record {
-  by = λ r e w.
-      let s = (k.by r e w).0 in (
-        record {
-          before = s.before;
-          token = s.token;
-          rest = s.rest;
-          parts = s.parts;
-          at = s.at;
-          viable = λ p. complete_room s.before s.token s.rest s.parts b f room w (s.viable p);
-          never = λ words more y end m o. s.never words more y end m.is o;
-          reason = reason_room s.before s.token s.rest s.parts b f room w s.reason;
-        },
-        (k.by r e w).1,
-      );
-}
+within_halts b f room k = halts_as
+    (λ rule place w s. stops_as s (λ p. complete_room s.before s.token s.rest s.parts b f room w (s.viable p))
+    (λ words more y end m o. s.never words more y end m.is o)
+    (reason_room s.before s.token s.rest s.parts b f room w s.reason))
+    k
 
 pub within_reads : {A : Type 0} {rule : Rule} {n : ℕ} {R : Part A} {C F : Further} {names : List (List ℕ)} {ts : List Token} {x : A} {rest : List Token} → Begins R F → (n ≡ 0 → Head F names ts → ⊥) → Reads R C names ts x rest → Reads (Within rule n R) C names ts x rest
 within_reads b room r = record {

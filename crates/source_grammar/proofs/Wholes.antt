@@ -1,10 +1,13 @@
 -- Tokens that are whole, and first tokens.
 use Rattle.std.proofs.Common.{◌≡◌, ℕ, true, List, [], ◌∷◌, ◌++◌, refl, sym, ◌∙◌, subst}
 use Rattle.std.specs.List.{AllByRecursion}
+use Rattle.chor_base.specs.declared.rule.Denied.{Denied}
+use Rattle.chor_base.specs.declared.rule.Place.{Place}
+use Rattle.chor_base.specs.declared.rule.Rule.{Rule}
 use Rattle.chor_lexer.specs.declared.token.Token.{Token}
 use Rattle.chor_lexer.specs.Tokens.{IsKnown, is_ended}
 use Rattle.chor_lexer.proofs.Each.{each_back}
-use Rattle.source_grammar.specs.Symbols.{Allowed, Part, Further, Ends, AreWhole, IsPart, SameFirst, Only, Reads, IsStable, Among, Head}
+use Rattle.source_grammar.specs.Symbols.{Allowed, Part, Further, Ends, AreWhole, IsPart, SameFirst, Only, Reads, IsStable, Among, Head, Completes, Reason, Stops, Halts, only_at, but_at}
 
 -- ---- whole tokens
 
@@ -116,3 +119,18 @@ only_by_end {A} {R} {C} {Q} {names} {ts} {x} {rest} p h e w =
 
 pub reads_by_end : {A : Type 0} {R : Part A} {C : Further} {names : List (List ℕ)} {ts : List Token} {x : A} {rest : List Token} → IsPart R C → R (λ rule p. ⊥) names ts x rest → Ends C names rest → Reads R C names ts x rest
 reads_by_end p h e = record { is = h; only = λ w. only_by_end p h e w }
+
+-- ---- where a part stops
+
+-- another part stops where this one does, if what comes before can be completed to it and nothing that goes on so is one
+pub stops_as : {A B : Type 0} {R : Part A} {S : Part B} {C D : Further} {names : List (List ℕ)} {ts : List Token} {rule : Rule} {place : Place} (s : Stops R C names ts rule place)
+    → ((p : Place) → Completes S (only_at p) p names s.before)
+    → ((words : List (List ℕ)) (more : List Token) (y : B) (left : List Token) → S (but_at rule place) (names ++ words) (s.before ++ s.token ∷ more) y left → Ends D (names ++ words) left → ⊥)
+    → Reason S names s.before s.token rule
+    → Stops S D names ts rule place
+stops_as s viable never reason = record { before = s.before; token = s.token; rest = s.rest; parts = s.parts; at = s.at; viable = viable; never = never; reason = reason }
+
+-- so a refusal of the one is one of the other
+pub halts_as : {A B : Type 0} {R : Part A} {S : Part B} {C D : Further} {names : List (List ℕ)} {ts : List Token} {d : Denied}
+    → ((rule : Rule) (place : Place) → AreWhole names ts → Stops R C names ts rule place → Stops S D names ts rule place) → Halts R C names ts d → Halts S D names ts d
+halts_as f k = record { by = λ r e w. let s = k.by r e w in (f r.rule r.place w s.0, s.1) }
