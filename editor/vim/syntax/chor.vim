@@ -1,13 +1,13 @@
-" Choreographies of Chor. Written by tools/highlighting.
+" Chor. Written by tools/highlighting.
 if exists('b:current_syntax')
   finish
 endif
-syntax keyword chorKeyword protocol service proc main start new if else call end show host then chor capacity
-syntax keyword chorSort int bool text
+syntax match chorSign '\%(:=\|->\|==\|!=\|<=\|&&\|||\|=\||\|+\|-\|\*\|\/\|<\|!\)'
+syntax match chorNumber '\v<[0-9]+>'
 syntax keyword chorValue true false
-syntax match chorNumber '\<\d\+\>'
-syntax match chorSign '\%(:=\|->\|\*\|\/\|==\|!=\|<=\|&&\|||\|=\||\|+\|-\|<\|!\)'
-syntax match chorEscape contained '\\[\"\\n]'
+syntax keyword chorSort int bool text
+syntax keyword chorKeyword protocol service proc main start new if else call end show host then chor capacity
+syntax match chorEscape contained '\\["\\n]'
 syntax region chorText start=+"+ skip=+\\.+ end=+"+ oneline contains=chorEscape
 syntax match chorComment '//.*$'
 highlight default link chorKeyword Keyword
