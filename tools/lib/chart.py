@@ -1,4 +1,6 @@
 """A run as a chart: who takes part, which messages go from whom to whom, and which sessions there are."""
+from __future__ import annotations
+
 from dataclasses import dataclass, field
 
 from lib.transcript import PUTS, Event

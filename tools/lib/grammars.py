@@ -1,4 +1,6 @@
 """The tokens of the languages, read from the manual, and grammars for editors that are made from them."""
+from __future__ import annotations
+
 import json
 import re
 from dataclasses import dataclass

@@ -2,6 +2,7 @@
 import re
 from dataclasses import dataclass, field
 
+from lib.measure import shortened
 from lib.program import fail
 from lib.transcript import NAME
 
@@ -50,7 +51,7 @@ def read_machines(text, name):
         elif state and machines and int(state["number"]) == len(machines[-1].steps):
             machines[-1].steps.append(steps_of(state))
         else:
-            fail(f"{name}:{place}:1: this is no line of local types: {line[:60]}")
+            fail(f"{name}:{place}:1: this is no line of local types: {shortened(line, 60)}")
     for machine in machines:
         if any(after >= len(machine.steps) for steps in machine.steps for _, after in steps) or not machine.steps:
             fail(f"{name}: local {machine.name} lacks a state")

@@ -1,7 +1,10 @@
 """Reads transcripts: a line for each event, and then perhaps a last line that says how the run ended."""
+from __future__ import annotations
+
 import re
 from dataclasses import dataclass, field
 
+from lib.measure import shortened
 from lib.program import fail
 
 NAME = r"[A-Za-z_][A-Za-z0-9_]*"
@@ -92,10 +95,12 @@ def read_transcript(text, name):
         event = event_of(line)
         if last:
             fail(f"{name}:{place}:1: a line after the last one, `{last.text}`")
+        if event and events and event.number <= events[-1].number:
+            fail(f"{name}:{place}:1: event {event.number} comes after event {events[-1].number}")
         if event:
             events.append(event)
             continue
         last = last_of(line)
         if not last:
-            fail(f"{name}:{place}:1: this is no line of a transcript: {line[:60]}")
+            fail(f"{name}:{place}:1: this is no line of a transcript: {shortened(line, 60)}")
     return events, last
