@@ -64,8 +64,8 @@ class Mermaid:
 
     def close(self, last):
         if last.process:
-            self.lines.append(self.note([last.process], f"{last.text}: {last.reason}"))
-        elif self.order:
+            self.lines.append(self.note([last.process], f"stuck: {last.reason}"))
+        if self.order:
             self.lines.append(self.note([self.order[0], self.order[-1]][:len(self.order)], last.text))
 
 

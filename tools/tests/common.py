@@ -12,7 +12,7 @@ sys.path.insert(0, os.path.join(TOP, "tools"))
 def run(tool, *words, given="", chor="/nowhere"):
     """What a tool writes, what it says on the error stream, and its exit status. There is no program but where the test has one."""
     done = subprocess.run(
-        [os.path.join(TOP, "tools", tool), *words], input=given.encode(), capture_output=True, check=False, cwd=TOP,
+        [os.path.join(TOP, "tools", tool), *words], input=given.encode(), capture_output=True, check=False, cwd=TOP, timeout=60,
         env={**os.environ, "CHOR": chor},
     )
     return done.stdout.decode(), done.stderr.decode(), done.returncode
