@@ -7,7 +7,7 @@ const os = require('os');
 const path = require('path');
 const vscode = require('vscode');
 
-/** The lines, from 1, that have a comment; what stands in a text is none. */
+/** The lines, from 1, that have a comment; what is in a text is none. */
 function linesWithComments(source) {
   const lines = source.split('\n').map((line) => line.replace(/"(?:[^"\\]|\\.)*("|$)/g, '""'));
   return lines.flatMap((line, place) => (line.includes('//') ? [place + 1] : []));

@@ -42,7 +42,7 @@ class Network:
         process.code, process.sessions = self.entered(code, process.sessions)
 
     def moves(self):
-        """All events that can come next, in the order of the processes; a start stands at its first process."""
+        """All events that can come next, in the order of the processes; a start is listed at its first process."""
         found = []
         for process in self.processes:
             word, *parts = process.code[0]
