@@ -1,0 +1,22 @@
+# Completions of chor for fish: copied to share/fish/vendor_completions.d/chor.fish.
+complete -c chor -f
+complete -c chor -n __fish_use_subcommand -a check -d 'writes ok, or the first rule that is violated'
+complete -c chor -n __fish_use_subcommand -a run -d 'runs a choreography and writes its transcript'
+complete -c chor -n __fish_use_subcommand -a exec -d 'runs the programs of an endpoint file'
+complete -c chor -n __fish_use_subcommand -a replay -d 'decides whether the events of a file can have happened'
+complete -c chor -n __fish_use_subcommand -a project -d 'writes the endpoint program of each process'
+complete -c chor -n __fish_use_subcommand -a types -d 'writes the local type of each role of each protocol'
+complete -c chor -n __fish_use_subcommand -a fmt -d 'writes a source in canonical text'
+complete -c chor -n __fish_use_subcommand -a gen -d 'makes a choreography of N rounds'
+complete -c chor -n __fish_use_subcommand -a explain -d 'prints the section of the manual on a rule'
+complete -c chor -n __fish_use_subcommand -a watch -d 'checks a choreography each time it is saved'
+complete -c chor -n __fish_use_subcommand -l prove -d 'proves and builds the program'
+complete -c chor -n __fish_use_subcommand -l help -d 'prints the commands and the statuses'
+complete -c chor -n __fish_use_subcommand -l version -d 'prints which version this is'
+complete -c chor -n '__fish_seen_subcommand_from check run project types fmt watch' -k -a '(__fish_complete_suffix .chor)'
+complete -c chor -n '__fish_seen_subcommand_from exec' -k -a '(__fish_complete_suffix .endpoints)'
+complete -c chor -n '__fish_seen_subcommand_from replay' -F
+complete -c chor -n '__fish_seen_subcommand_from explain' -a '(chor explain | string replace -r "  " \t)'
+complete -c chor -n '__fish_seen_subcommand_from run exec' -x -l seed -d 'picks another order of events'
+complete -c chor -n '__fish_seen_subcommand_from run exec' -x -l steps -d 'stops after so many events'
+complete -c chor -n '__fish_seen_subcommand_from gen' -l text -d 'writes the text of the choreography'
