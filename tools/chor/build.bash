@@ -100,10 +100,10 @@ prove_in_background() {
 # built where there is none.
 choose_program() {
   local now
-  if [ -n "${CHOR:-}" ] && ! [ "$CHOR" -ef "$top/chor" ]; then
-    program=$(command -v -- "$CHOR") && return
-    say "CHOR=$CHOR is no program"
-    exit 127
+  if [ -n "${CHOR:-}" ]; then
+    program=$(command -v -- "$CHOR") || { say "CHOR=$CHOR is no program"; exit 127; }
+    # CHOR may name this very script, which then takes the program that it has without it.
+    [ "$program" -ef "$top/chor" ] || return
   fi
   program=$top/program
   [ ! -x "$program" ] || return

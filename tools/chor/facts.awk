@@ -75,12 +75,19 @@ function facts_of_role(rule, i,   at, protocol) {
   return rule == "V1" || rule == "V2" ? view_fault(rule, protocol, text[i]) : ""
 }
 
-# The name that an endpoint file has not, or has twice, at token i.
+# What is wrong with the name at token i of an endpoint file, by the node or the unit in which it is.
 function unknown_in_endpoints(i,   before) {
   before = text[i - 1]
-  if (before ~ /^(send|recv|pick|give|branch)$/ || before == "gain") return "No session is called " quoted(text[i]) " here."
+  if (before == "[" && text[i - 3] == "join") return "It is no active role of " quoted(text[i - 2]) "."
+  if (before == "[" && text[i - 3] == "service") return "It is no service role of " quoted(text[i - 2]) "."
+  if (before == "(" && text[i - 6] == "join" || text[i - 3] == "gain") return "A session is called so already."
+  if (before ~ /^(send|recv|pick|give|gain|branch)$/ || text[i - 3] == "give")
+    return "No session is called " quoted(text[i]) " here."
   if (before == "channel" || before == "process") return "There is another " before " of this name."
-  if (before == "join" || before == "service") return "There is no channel of this name, or the role has its service already."
+  if (before == "join") return "There is no such channel."
+  if (before == "service") return "There is no such channel, or this role of it has its service already."
+  if (before == "procedure") return "There is another procedure of this name for the same parameter."
   if (before == "call") return "There is no such procedure for this parameter, or it has another number of sessions."
+  if (text[i - 2] == "host") return "There is no such host function."
   return ""
 }

@@ -7,6 +7,7 @@ function slip_at(i,   word, before, opened) {
   before = text[i - 1]
   if (i == 1 && word == "endpoints") return "endpoints 1;"
   if (i == token_count && !has_main()) return "a file without main"
+  if (i == token_count && open_braces()) return "a missing }"
   if (word == "if" && before == "else") return "else if"
   if (word == "end" && before == "then") return "then end"
   if (touches(i, "/", "*")) return "/* */"
@@ -15,9 +16,9 @@ function slip_at(i,   word, before, opened) {
   if (before == "if" && word == "(") return "if (p.x < 3)"
   if (text[i - 2] == "if" && kind[i - 1] == "word" && word != ".") return "if x < 3"
   if (kind[i] == "keyword" && before ~ /^(\(|\[|,|\.|protocol|service|proc|start|call)$/) return "a keyword as a name"
-  if (text[i - 2] == ":" && word == "then") return "a sort that isn't there"
+  if (text[i - 2] == ":" && word == "then" && !is_in_body(i)) return "a sort that isn't there"
   if (word == "=" && is_in_body(i)) return text[i - 2] == "." && statement_at(i) == i - 3 ? "p.x = 1" : "if p.x = 1"
-  if (word ~ /^(==|!=|<|<=)$/ && in_expression(i)) return "1 < x < 3"
+  if (word ~ /^(==|!=|<|<=)$/ && in_expression(i) && (kind[i - 1] ~ /^(word|number|text)$/ || before == ")")) return "1 < x < 3"
   if (word == "." && in_expression(i)) return "p.x in an expression"
   if (before == "}" && (opened = opening(i - 1))) return slip_after_block(i, opened)
   if (word == "}" && (before == ";" || before == "{") && is_in_body(i)) return "a block without end"
@@ -104,4 +105,13 @@ function slip_of_character(rest) {
   if (rest ~ /^&/) return "&"
   if (rest ~ /^\\/) return "\\ in a text"
   return ""
+}
+
+# How many braces are open at the end of the file.
+function open_braces(   i, depth) {
+  for (i = 1; i <= token_count; i++) {
+    if (text[i] == "{") depth++
+    if (text[i] == "}") depth--
+  }
+  return depth > 0
 }

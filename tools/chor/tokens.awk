@@ -76,6 +76,12 @@ function words_between(i, j,   said) {
   return said
 }
 
+# The text of the tokens from i to before j, with a space after each.
+function spaced(i, j,   said) {
+  for (; i < j; i++) said = said text[i] " "
+  return said
+}
+
 function quoted(word) { return "`" word "`" }
 
 # A list of words, as in "a, b and c"; where nothing is in the list, `none`.

@@ -181,7 +181,7 @@ function unordered_start(body, i,   channel, list, n, j, heard, missing) {
   read_statement(i)
   n = split(s_parts, list, " ")
   for (j = 1; j <= n; j++) if (!has_word(heard, list[j])) missing = missing " " list[j]
-  if (missing == "") return ""
+  if (missing == "" || !last_start) return ""
   return sprintf("%s %s heard of the start in line %d.", listed(missing), count_of(missing) == 1 ? "hasn't" : "haven't", row[last_start])
 }
 

@@ -2,15 +2,20 @@
 # them the rules of views are violated.
 
 # What a role does in a state: "" where the step doesn't name it.
-function act_of(protocol, state, role,   key, said) {
+function act_of(protocol, state, role,   key) {
   key = protocol SUBSEP state
   if (!(key in step_from)) return "end"
-  if (step_from[key] == role) {
-    said = step_payload[key] != "" ? "sends " step_payload[key] : "selects among " ordered(step_labels[key])
-    return said " to " step_to[key]
-  }
+  if (step_from[key] == role)
+    return step_payload[key] != "" ? "sends " step_payload[key] " to " step_to[key] : "selects " any_of(step_labels[key]) " for " step_to[key]
   if (step_to[key] != role) return ""
   return (step_payload[key] != "" ? "receives " step_payload[key] : "learns a label") " from " step_from[key]
+}
+
+# The words of a list, as in "a, b or c"; their order in the source doesn't count.
+function any_of(words,   said) {
+  said = listed(ordered(words))
+  sub(/ and /, " or ", said)
+  return said
 }
 
 # The words of a list in ascending order.
