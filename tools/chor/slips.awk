@@ -2,12 +2,12 @@
 # could be too, the row itself says maybe.
 
 # The slip at token i, where no source goes on.
-function slip_at(i,   word, before, opened) {
+function slip_at(i,   word, before, opened, slip) {
   word = text[i]
   before = text[i - 1]
   if (i == 1 && word == "endpoints") return "endpoints 1;"
   if (i == token_count && !has_main()) return "a file without main"
-  if (i == token_count && open_braces()) return "a missing }"
+  if (i == token_count && open_braces(i)) return "a missing }"
   if (word == "if" && before == "else") return "else if"
   if (word == "end" && before == "then") return "then end"
   if (touches(i, "/", "*")) return "/* */"
@@ -20,7 +20,10 @@ function slip_at(i,   word, before, opened) {
   if (word == "=" && is_in_body(i)) return text[i - 2] == "." && statement_at(i) == i - 3 ? "p.x = 1" : "if p.x = 1"
   if (word ~ /^(==|!=|<|<=)$/ && in_expression(i) && (kind[i - 1] ~ /^(word|number|text)$/ || before == ")")) return "1 < x < 3"
   if (word == "." && in_expression(i)) return "p.x in an expression"
-  if (before == "}" && (opened = opening(i - 1))) return slip_after_block(i, opened)
+  if (word == "else") return "else without if"
+  if (before == "}" && (opened = opening(i - 1)) && (slip = slip_after_block(i, opened)) != "") return slip
+  if (word ~ /^(protocol|service|proc|main)$/ && open_braces(i)) return "a missing }"
+  if (!open_braces(i) && (i == 1 || before == "}" || before == ";")) return "outside of all braces"
   if (word == "}" && (before == ";" || before == "{") && is_in_body(i)) return "a block without end"
   if (before == "end" && is_in_body(i)) return "end p show 1"
   if (in_expression(i) && (kind[i] == "word" || kind[i] == "keyword" || word == "}")) return "a missing ;"
@@ -107,11 +110,11 @@ function slip_of_character(rest) {
   return ""
 }
 
-# How many braces are open at the end of the file.
-function open_braces(   i, depth) {
-  for (i = 1; i <= token_count; i++) {
-    if (text[i] == "{") depth++
-    if (text[i] == "}") depth--
+# Whether some brace is open before token i.
+function open_braces(i,   at, depth) {
+  for (at = 1; at < i; at++) {
+    if (text[at] == "{") depth++
+    if (text[at] == "}") depth--
   }
   return depth > 0
 }
