@@ -7,7 +7,7 @@ use Rattle.endpoint_code.specs.Trees.{CodeTree}
 use Rattle.well_formed.specs.Asked.{AllAsked}
 use Rattle.projection.specs.Codes.{Part, Absent, Acts, Learns, name_of, is_named, role_in, joins, sends, receives, acts_alone, part_in, proc_named, param_for, call_as, call_code, IsCodeOf, acts, learns, absent, decides, merges, calls, ends}
 use Rattle.projection.proofs.OneCode.{code_distinct}
-use Rattle.merged_codes.specs.Asked.{asks_so, AsksTree}
+use Rattle.endpoint_code.specs.Asked.{asks_so, AsksTree}
 use Rattle.merged_codes.proofs.AskedMerged.{least_asks}
 
 module _ (known : NameId → Bool) where

@@ -13,7 +13,7 @@ use Rattle.endpoint_code.specs.Trees.{CodeTree, Ends as Stops}
 use Rattle.well_formed.proofs.Asked.{asked_put}
 use Rattle.projection.specs.Projects.{Started, start_at, starts_in, starts_in_procs, starts_of, body_at, session_as, IsStartCode, IsServiceCode}
 use Rattle.projection.proofs.OneCode.{code_distinct}
-use Rattle.merged_codes.specs.Asked.{AsksTree}
+use Rattle.endpoint_code.specs.Asked.{AsksTree}
 use Rattle.merged_codes.proofs.AskedMerged.{least_asks}
 use Rattle.accepted_files.proofs.AskedCodes.{Known, both_known, code_known}
 

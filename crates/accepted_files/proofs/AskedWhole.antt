@@ -15,11 +15,11 @@ use Rattle.endpoint_code.specs.declared.endpoints.Procedure.{Procedure}
 use Rattle.endpoint_code.specs.declared.endpoints.ServiceCode.{ServiceCode}
 use Rattle.endpoint_code.specs.declared.endpoints.Process.{Process}
 use Rattle.endpoint_code.specs.declared.endpoints.Endpoints.{Endpoints}
-use Rattle.endpoint_code.specs.Faults.{is_listed}
+use Rattle.endpoint_code.specs.Faults.{AsksKnown, is_listed}
 use Rattle.endpoint_code.specs.Trees.{code_at}
 use Rattle.well_formed.specs.Asked.{AllAsked}
 use Rattle.projection.specs.Projects.{body_at, starts_of, parameters_of, service_roles, started_services, IsProcedureOf, IsServiceOf, IsProcessOf, Projects}
-use Rattle.merged_codes.specs.Asked.{AsksTree, BodiesAskKnown}
+use Rattle.endpoint_code.specs.Asked.{AsksTree}
 use Rattle.accepted_files.proofs.AskedBodies.{is_known, main_known, procs_known}
 use Rattle.accepted_files.proofs.AskedCodes.{Known, code_known}
 use Rattle.accepted_files.proofs.AskedServices.{each_append, all_started, service_known}
@@ -74,7 +74,7 @@ module _ (f : File) (words : List (List ℕ)) (clean : (x : Fault) → IsNameFau
   process_asks x p h = code_known (is_listed words e) f.procs x.name (body_at f f.body) _ h.body body
 
   -- Each body of the projection asks only known host functions
-  pub bodies_known : BodiesAskKnown words e
+  pub bodies_known : AsksKnown (is_listed words e) e
   bodies_known = record {
     procedures =
         zip_all (IsProcedureOf f e) (λ (z : Proc × ProcParam). Known (is_listed words e) (body_at f z.0.body)) (λ p. AsksTree (is_listed words e) (code_at e.code.nodes p.body)) (parameters_of f.procs) e.procedures

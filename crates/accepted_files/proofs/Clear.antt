@@ -1,5 +1,5 @@
 -- How a file of which nothing violates a rule is shown to have no fault.
-use Rattle.std.proofs.Common.{◌≡◌, ℕ, zero, suc, ◌<◌, List, [], ◌∷◌, length, refl, sym, ap, ◌∙◌, subst, Some, None, arith}
+use Rattle.std.proofs.Common.{◌≡◌, ℕ, zero, suc, List, [], ◌∷◌, sym, ◌∙◌, subst, Some, None, arith}
 use Rattle.std.specs.Prelude.{Contains, slice_get}
 use Rattle.chor_base.specs.declared.fault.Fault.{Fault}
 use Rattle.chor_base.specs.declared.rule.Rule.{Rule}
@@ -8,7 +8,7 @@ use Rattle.chor_tree.specs.declared.tree.Node.{Node as TreeNode}
 use Rattle.chor_tree.specs.declared.tree.NodeId.{NodeId}
 use Rattle.chor_tree.specs.Children.{children_of}
 use Rattle.chor_tree.specs.Names.{Scope, node_faults, scope_after, IsBodyFault as IsNameBodyFault, here as name_here, further as name_further}
-use Rattle.chor_tree.specs.Source.{Block, Then, Either, Calls, Ends, tails_of}
+use Rattle.chor_tree.specs.Source.{Block, Then, Either, Calls, Ends}
 use Rattle.delegation.specs.Checks.{Check}
 use Rattle.typing_rules.specs.Environment.{Environment}
 use Rattle.typing_rules.specs.Checks.{rule_at}

@@ -1,5 +1,5 @@
 -- The service started twice is checked, and has a projection.
-use Rattle.std.proofs.Common.{◌≡◌, ℕ, zero, suc, ◌<◌, List, [], ◌∷◌, length, refl, sym, ap, ◌∙◌, subst, Some, None, arith}
+use Rattle.std.proofs.Common.{◌≡◌, zero, suc, ◌<◌, [], length, refl, sym, subst, Some, arith}
 use Rattle.std.specs.Prelude.{Contains}
 use Rattle.chor_base.specs.declared.fault.Fault.{Fault}
 use Rattle.chor_base.specs.declared.names.NameId.{NameId}
@@ -7,17 +7,15 @@ use Rattle.chor_base.specs.Meaning.{Hosts}
 use Rattle.chor_tree.specs.declared.file.File.{File}
 use Rattle.chor_tree.specs.declared.file.Service.{Service}
 use Rattle.chor_tree.specs.Children.{IsClosed as IsClosedTree}
-use Rattle.chor_tree.specs.Names.{IsNameFault, in_a_declaration, in_main as name_in_main, in_a_procedure as name_in_a_procedure, declaration_faults, scope_of_main}
+use Rattle.chor_tree.specs.Names.{IsNameFault, in_a_declaration, in_main as name_in_main, in_a_procedure as name_in_a_procedure, declaration_faults}
 use Rattle.chor_tree.specs.Source.{body_of}
 use Rattle.chor_semantics.specs.Sources.{Procedure, procedures_of}
 use Rattle.chor_semantics.specs.Steps.{procedure_named}
 use Rattle.chor_semantics.specs.Examples.Source.{nodes_of, node}
-use Rattle.chor_semantics.specs.Examples.Names.{a, d}
 use Rattle.chor_semantics.specs.Examples.ServiceTwice.{source}
 use Rattle.endpoint_code.specs.Code.{IsClosed}
 use Rattle.endpoint_code.specs.Bodies.{AreInside}
 use Rattle.endpoint_code.specs.declared.endpoints.Endpoints.{Endpoints}
-use Rattle.global_types.specs.Faults.{faults_of}
 use Rattle.well_formed.specs.Asked.{IsAnswered}
 use Rattle.typing_rules.specs.Environment.{at_main}
 use Rattle.typing_rules.specs.TypeFaults.{in_main, in_a_head, in_a_procedure, IsTyped}

@@ -9,7 +9,7 @@ use Rattle.chor_semantics.specs.Choreography.{Ref, Choreography, Then, Either, C
 use Rattle.chor_semantics.specs.Sources.{Procedure}
 use Rattle.well_formed.specs.Linear.{Members, ParameterSets, members_after, everyone, all_given}
 use Rattle.linearity.specs.Linear.{ArePassed, set_of, AreWithin, IsGreatest}
-use Rattle.linearity.specs.Taken.{is_passed, taken_at, taken, AreUpper}
+use Rattle.linearity.specs.Taken.{is_passed, taken, AreUpper}
 use Rattle.linearity.proofs.Greatest.{taken_within, full_upper, upper_taken, upper_main}
 
 -- a parameter: its procedure and its place

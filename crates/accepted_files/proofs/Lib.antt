@@ -17,6 +17,10 @@ pub mod FromNames
 pub mod FromRoles
 pub mod FromStarts
 pub mod Realizes
+pub mod AboveUnits
+pub mod AboveItself
+pub mod AboveTransitive
+pub mod AboveProjection
 pub mod EndlessExchange
 pub mod ServiceTwice
 pub mod Parts
@@ -53,3 +57,5 @@ pub mod Whole
 pub mod Codes
 pub mod HeldRenamed
 pub mod Services
+pub mod AskedAlike
+pub mod MoreNames

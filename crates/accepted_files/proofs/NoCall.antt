@@ -10,17 +10,14 @@ use Rattle.chor_tree.specs.declared.file.ProcParam.{ProcParam}
 use Rattle.chor_semantics.specs.Choreography.{Ref, Live, Named, ref_eq, among, Content, OfValue, OfLabel, OfPart, Node, Starts, Communicates, InTransit, Alone, Choreography, Then}
 use Rattle.chor_semantics.specs.Sources.{Procedure, procedure_from, procedures_of}
 use Rattle.chor_semantics.specs.Steps.{procedure_named}
-use Rattle.endpoint_code.specs.declared.code.CodeId.{CodeId}
-use Rattle.endpoint_code.specs.declared.code.CodeNode.{CodeNode}
-use Rattle.endpoint_code.specs.declared.code.CodeNode.TheVariants.{Join, Send, Recv, Pick, Branch, Throw, Catch, Set, Show, Host, If, Call, End}
 use Rattle.endpoint_code.specs.declared.endpoints.Procedure.{Procedure as ProcedureCode}
 use Rattle.endpoint_code.specs.declared.endpoints.Endpoints.{Endpoints}
 use Rattle.endpoint_code.specs.Faults.{begins_with_call}
 use Rattle.endpoint_code.specs.Network.{procedure_of, node_at}
 use Rattle.endpoint_code.specs.Trees as action
-use Rattle.endpoint_code.specs.Trees.{CodeTree, code_at, node_tree, trees_of}
-use Rattle.endpoint_code.specs.Above.{IsAbove, does, offers, tests, calls, ends}
-use Rattle.endpoint_code.proofs.CodeTables.{code_at-node}
+use Rattle.endpoint_code.specs.Trees.{CodeTree, code_at}
+use Rattle.endpoint_code.specs.Above.{IsAbove}
+use Rattle.merged_codes.proofs.NoCall.{IsNoCall, above_no_call, no_call_at}
 use Rattle.projection.specs.Codes as codes
 use Rattle.projection.specs.Codes.{is_named, part_in, param_for, proc_named, call_code, call_as, role_in, IsCodeOf, acts, learns, absent, decides, merges}
 use Rattle.projection.specs.Projects.{Projects, IsProcedureOf, parameters_of, body_at}
@@ -31,20 +28,6 @@ use Rattle.well_formed.specs.WellFormed.{names_in_scope}
 use Rattle.well_formed.proofs.Trees.{body_source}
 use Rattle.correspondence.specs.Premises.{NoCallFirst}
 use Rattle.accepted_files.specs.Premises.{EachGuarded}
-
-abbrev IsNoCall : CodeTree → Type 0
-IsNoCall (action.Calls f p ss) = ⊥
-IsNoCall (action.Does a c) = Unit {0}
-IsNoCall (action.Offers k a arms) = Unit {0}
-IsNoCall (action.Tests e c d) = Unit {0}
-IsNoCall action.Ends = Unit {0}
-
-above_no_call : {q p : CodeTree} → IsAbove q p → IsNoCall p → IsNoCall q
-above_no_call (does a) h = tt
-above_no_call (offers a) h = tt
-above_no_call (tests a b) h = tt
-above_no_call calls h = h
-above_no_call ends h = tt
 
 module _ (fs : List Proc) (r : NameId) where
   abbrev self : Ref
@@ -120,28 +103,6 @@ module _ (fs : List Proc) (r : NameId) where
   no_call c t s g codes.ends = tt
 
 module _ (f : File) (e : Endpoints) where
-  no_call_node : (n : CodeNode) → IsNoCall (node_tree (trees_of e.code.nodes) n) → begins_with_call (Some n) ≡ false
-  no_call_node (Join c r k next) h = refl
-  no_call_node (Send k b x next) h = refl
-  no_call_node (Recv k a x next) h = refl
-  no_call_node (Pick k b l next) h = refl
-  no_call_node (Branch k a arms) h = refl
-  no_call_node (Throw k b z next) h = refl
-  no_call_node (Catch k a z next) h = refl
-  no_call_node (Set x v next) h = refl
-  no_call_node (Show v next) h = refl
-  no_call_node (Host x g u v next) h = refl
-  no_call_node (If v g z) h = refl
-  no_call_node (Call g p ss) h = absurd h
-  no_call_node End h = refl
-
-  no_call_at : (q : CodeId) → IsNoCall (code_at e.code.nodes q) → begins_with_call (node_at e q) ≡ false
-  no_call_at q h = go (node_at e q) refl
-    where
-      go : (o : Option CodeNode) → node_at e q ≡ o → begins_with_call o ≡ false
-      go None i = refl
-      go (Some n) i = no_call_node n (subst IsNoCall (code_at-node e.code.nodes q n e.code.closed i) h)
-
   pub no_call_first : Projects f e → EachGuarded f → NoCallFirst e
   no_call_first pr guarded h p q i = go (parameters_of f.procs) e.procedures pr.procedures guarded i
     where
@@ -155,7 +116,7 @@ module _ (f : File) (e : Endpoints) where
           at true u more =
               let j : Some y ≡ Some q = sym (ap (λ b. if b then Some y else procedure_of ys h p) u) ∙ i in
               let k : y ≡ q = cc in
-              subst (λ (v : ProcedureCode). begins_with_call (node_at e v.body) ≡ false) k (no_call_at y.body (no_call f.procs z.1.name.name (body_at f z.0.body) (code_at e.code.nodes y.body) (body_source f z.0.body) g.0 a.0.body))
+              subst (λ (v : ProcedureCode). begins_with_call (node_at e v.body) ≡ false) k (no_call_at e y.body (no_call f.procs z.1.name.name (body_at f z.0.body) (code_at e.code.nodes y.body) (body_source f z.0.body) g.0 a.0.body))
           at false u more = more (sym (ap (λ b. if b then Some y else procedure_of ys h p) u) ∙ i)
 
 -- each parameter of a found procedure

@@ -4,7 +4,7 @@
 --         go: S -> A : int; To;
 --         To: end
 --     }
-use Rattle.std.specs.Prelude.{ℕ, List, [], ◌∷◌}
+use Rattle.std.specs.Prelude.{[], ◌∷◌}
 use Rattle.chor_base.specs.declared.value.Sort.TheVariants.{Int}
 use Rattle.chor_base.specs.Meaning.{Hosts}
 use Rattle.chor_tree.specs.declared.file.File.{File}

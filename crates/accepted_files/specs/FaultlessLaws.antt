@@ -8,9 +8,8 @@ use Rattle.chor_host.specs.Functions.{Function, names_of, hosts_in}
 use Rattle.chor_host.specs.Exact.{IsExact}
 use Rattle.typing_rules.specs.Guarded.{IsGuarded}
 use Rattle.endpoint_code.specs.declared.endpoints.Endpoints.{Endpoints}
-use Rattle.endpoint_code.specs.Faults.{IsFaultless}
+use Rattle.endpoint_code.specs.Faults.{IsFaultless, AsksKnown, is_listed}
 use Rattle.well_formed.specs.Asked.{IsAnswered}
-use Rattle.merged_codes.specs.Asked.{BodiesAskKnown}
 use Rattle.typed_sources.specs.Laws.{IsAccepted}
 use Rattle.projection.specs.Projects.{Projects}
 
@@ -28,7 +27,7 @@ AskedFunctionsAnswer =
 abbrev pub ProjectionAsksKnown : Type 0
 ProjectionAsksKnown =
     (f : File) (words : List (List ℕ)) → ((x : Fault) → IsNameFault f words x → ⊥)
-    → (e : Endpoints) → Projects f e → BodiesAskKnown words e
+    → (e : Endpoints) → Projects f e → AsksKnown (is_listed words e) e
 
 -- The projection of a guarded file without faults of names, protocols and types has no fault of names and calls
 abbrev pub ProjectionIsFaultless : Type 0

@@ -10,10 +10,14 @@ mod greatest;
 mod held;
 mod worked;
 
+ghost use Rattle.accepted_files.specs.AboveProjection.{ProjectionIsAbove, AboveStaysAbove};
+ghost use Rattle.accepted_files.specs.LinkedRuns.{LinkedRunsAreRuns};
+ghost use Rattle.accepted_files.specs.MoreNames.{RunsAskAlike, ScheduledRunsAskAlike};
 ghost use Rattle.accepted_files.specs.Roles.{EverybodyHoldsItsRoles};
 ghost use Rattle.accepted_files.specs.Accepted.{CheckedIsProjection, NetworkRunsAreRuns, RunsAreNetworkRuns, NetworkRunsConform, EndedNetworkEnds, NeverStuck};
-ghost use Rattle.accepted_files.specs.Scheduled.{NothingHappens, ScheduledRunsClose};
+ghost use Rattle.accepted_files.specs.Closing.{NothingHappens};
 ghost use Rattle.accepted_files.specs.Runs.{ScheduledRunsAreRuns};
+ghost use Rattle.accepted_files.specs.ClosedRuns.{ClosedRunsAreRuns};
 
 pub use faultless::{asked_functions_answer, projection_asks_known, projection_is_faultless};
 pub use following::{
@@ -43,7 +47,7 @@ pub fn checked_runs()
     ensures conform { NetworkRunsConform }
     ensures end { EndedNetworkEnds }
 {
-    crate::projection_runs();
+    correspondence::runs_agree();
     typed_sources::runs_conform();
 }
 
@@ -51,7 +55,7 @@ pub fn checked_runs()
 pub fn checked_never_stuck()
     ensures { NeverStuck }
 {
-    crate::projection_never_stuck();
+    correspondence::never_stuck();
 }
 
 /// Where no process of a network can step, no event can happen.
@@ -59,20 +63,49 @@ pub fn nothing_happens()
     ensures { NothingHappens }
 {}
 
-/// The scheduled run of the network of a checked file's projection is a run of the choreography,
-/// to its end or as long as was asked for. It is never stuck.
-pub fn scheduled_runs_close()
-    ensures { ScheduledRunsClose }
+/// Each run of the network of a checked file's projection, or of programs above it, that is closed is a
+/// run of the choreography, to its end or as long as was asked for, first in, first out, and each session
+/// follows its protocol. It is never stuck.
+pub fn closed_runs_are_runs()
+    ensures { ClosedRunsAreRuns }
 {
     nothing_happens();
     checked_never_stuck();
     checked_runs();
 }
 
-/// It is first in, first out too, and each session follows its protocol.
+/// So is each run that goes on by the pick rule after given events, since it is closed.
 pub fn scheduled_runs_are_runs()
     ensures { ScheduledRunsAreRuns }
 {
-    scheduled_runs_close();
+    closed_runs_are_runs();
+}
+
+/// The projection of a file is, unit by unit, above itself.
+pub fn projection_is_above()
+    ensures { ProjectionIsAbove }
+{}
+
+/// Programs that are, unit by unit, above programs above the projection are above the projection.
+pub fn above_stays_above()
+    ensures { AboveStaysAbove }
+{}
+
+/// Where the projection of a file without faults, or programs above it, were linked with others, the
+/// network of the linked programs has exactly the runs of the file's choreography.
+pub fn linked_runs_are_runs()
+    ensures { LinkedRunsAreRuns }
+{
+    endpoint_link::linked_is_above();
+    above_stays_above();
+    checked_runs();
+}
+
+/// Programs above the projection of a file without faults have a table with more names. To their runs
+/// host functions mean the same by the names of the file.
+pub fn runs_ask_alike()
+    ensures runs { RunsAskAlike }
+    ensures scheduled { ScheduledRunsAskAlike }
+{
     checked_runs();
 }

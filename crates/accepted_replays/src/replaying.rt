@@ -4,8 +4,9 @@ ghost use Rattle.std.specs.Prelude.{◌≡◌, ◌≤◌, ◌^◌, IfOk, length}
 ghost use Rattle.chor_host.specs.Functions.{names_of as host_names, hosts_in};
 ghost use Rattle.chor_host.specs.Tables.{functions_of};
 ghost use Rattle.chor_tree.specs.Names.{names_in};
+ghost use Rattle.accepted_files.specs.AboveProjection.{ProjectionIsAbove};
 ghost use Rattle.accepted_files.specs.Accepted.{NetworkRunsAreRuns, RunsAreNetworkRuns};
-ghost use Rattle.accepted_files.specs.FaultlessLaws.{ProjectionIsFaultless};
+ghost use Rattle.accepted_files.specs.FaultlessLaws.{ProjectionAsksKnown, ProjectionIsFaultless};
 ghost use Rattle.endpoint_code.specs.Faults.{IsFaultlessWith};
 ghost use Rattle.event_files.specs.Networks.{ReplaysNetwork};
 ghost use Rattle.event_reader.specs.Known.{AreWords, IsBook};
@@ -18,45 +19,47 @@ use chor_host::HostTable;
 use chor_tree::{File, Named};
 use endpoint_code::Endpoints;
 use event_files::replay_file;
-use known_functions::asks_known;
 use replay::{ReplayFault, Replayed};
 use simulation::Accepted;
 use std::alloc::Global;
 use transcript::Book;
 use type_check::Typed;
 
-/// Replays the events of a file on an accepted source. `Unmatched` tells the number of the first line,
+/// Replays the events of a file on an accepted source, under a capacity of its queues if there is one.
+/// `Unmatched` tells the number of the first line,
 /// from 1, that doesn't match. It asks the host functions of the table with which the source was
 /// accepted. The names of each source that was read are words.
 pub fn replay_accepted(
     alloc: Global,
     accepted: &Accepted,
     hosts: &HostTable,
+    capacity: Option<u32>,
     bytes: &[u8],
 ) -> Result<Replayed, ReplayFault>
     requires hosts { accepted.now.typed.hosts ≡ host_names (functions_of hosts.now) }
     requires words { AreWords accepted.now.typed.file.names }
     requires few { length bytes.now ≤ 2 ^ 26 }
-    ensures { ReplaysSource accepted.now.typed.file (hosts_in accepted.now.typed.file.names (functions_of hosts.now)) bytes.now result }
+    ensures { ReplaysSource accepted.now.typed.file (hosts_in accepted.now.typed.file.names (functions_of hosts.now)) capacity bytes.now result }
 {
     laws();
     let endpoints = accepted.endpoints();
     let typed = accepted.typed();
     tells_apart(typed);
-    if !asks_known(endpoints, typed.hosts().as_slice()) {
-        return Err(ReplayFault::Memory);
-    }
-    replay_on(alloc, typed.file(), endpoints, hosts, bytes)
+    replay_on(alloc, typed.file(), endpoints, hosts, capacity, bytes)
 }
 
 // What is proved of each accepted file and its runs.
 fn laws()
     ensures faultless { ProjectionIsFaultless }
+    ensures asks { ProjectionAsksKnown }
     ensures to { NetworkRunsAreRuns }
     ensures back { RunsAreNetworkRuns }
+    ensures above { ProjectionIsAbove }
     ensures end { RunsEndTogether }
 {
     accepted_files::projection_is_faultless();
+    accepted_files::projection_asks_known();
+    accepted_files::projection_is_above();
     accepted_files::checked_runs();
     crate::laws::runs_end_together();
 }
@@ -67,12 +70,13 @@ fn replay_on(
     file: &File,
     endpoints: &Endpoints,
     hosts: &HostTable,
+    capacity: Option<u32>,
     bytes: &[u8],
 ) -> Result<Replayed, ReplayFault>
     requires faultless { IsFaultlessWith (host_names (functions_of hosts.now)) endpoints.now }
     requires book { IsBook (book_of file.now) }
     requires few { length bytes.now ≤ 2 ^ 26 }
-    ensures { ReplaysNetwork (book_of file.now) endpoints.now (hosts_in endpoints.now.names (functions_of hosts.now)) bytes.now result }
+    ensures { ReplaysNetwork (book_of file.now) endpoints.now (hosts_in endpoints.now.names (functions_of hosts.now)) capacity bytes.now result }
 {
     let processes = names_of(alloc, file.processes.as_slice())?;
     let book = Book {
@@ -80,7 +84,7 @@ fn replay_on(
         texts: &file.texts,
         processes: &processes,
     };
-    replay_file(alloc, endpoints, hosts, &book, bytes)
+    replay_file(alloc, endpoints, hosts, capacity, &book, bytes)
 }
 
 // The book of a typed file tells its names, texts and processes apart, where its names are words.

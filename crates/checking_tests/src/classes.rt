@@ -6,7 +6,7 @@ use chor_host::HostTable;
 use chor_tree::File;
 use global_types::check_protocols;
 use guard_check::check_guarded;
-use linear_check::check_linear;
+use linear_check::check_linearity;
 use local_types::check_views;
 use name_resolution::resolve;
 use source_check::{check, read};
@@ -80,7 +80,7 @@ fn all_said(alloc: Global, file: &File) -> Result<[Said; 6], Fail> {
         said(check_protocols(file))?,
         said(check_views(alloc, file))?,
         said(check_guarded(alloc, file))?,
-        said(check_linear(alloc, file))?,
+        said(check_linearity(alloc, file))?,
         said(check(alloc, file, &hosts))?,
     ])
 }

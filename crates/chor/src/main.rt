@@ -1,9 +1,9 @@
 //! `chor COMMAND ARGUMENTS`: reads the words, and ends with the status that the command gives.
 #![tactic(auto)]
 
-use chor_base::{HostOp, List, Meaning, Memory, Word};
+use chor_base::{List, Memory, Word};
 use chor_cmd::{Words, chor};
-use chor_host::{HostFn, HostTable, host_gap, host_max, host_min};
+use chor_host::{host_gap, host_max, host_min, program_hosts};
 use chor_io::{DiskShelf, OpenGate, OutSink};
 use std::alloc::Global;
 use std::env::{self, Args};
@@ -22,25 +22,24 @@ fn main(rt: HostRuntime) -> ExitCode {
     let Ok(words) = words_of(rt.alloc(), args) else {
         return ExitCode::from(NO_MEMORY);
     };
-    let Some(names) = host_names(rt.alloc()) else {
+    let Ok(hosts) = program_hosts(rt.alloc(), host_min, host_max, host_gap) else {
         drop(words);
         return ExitCode::from(NO_MEMORY);
     };
-    // The functions that choreographies may call.
-    let mut hosts = HostTable::new(rt.alloc());
-    let min = hosts.add(HostFn::new(names.min, Meaning::Exact(HostOp::Min), host_min));
-    let max = hosts.add(HostFn::new(names.max, Meaning::Exact(HostOp::Max), host_max));
-    let gap = hosts.add(HostFn::new(names.gap, Meaning::Exact(HostOp::Gap), host_gap));
-    let status = if min.is_ok() && max.is_ok() && gap.is_ok() {
-        let mut shelf = DiskShelf::new(rt.alloc(), &rt);
-        let mut out = OutSink::new(&rt);
-        chor(rt.alloc(), &words, &hosts, &mut shelf, &mut out, &OpenGate).number()
-    } else {
-        NO_MEMORY
-    };
+    let mut shelf = DiskShelf::new(rt.alloc(), &rt);
+    let mut out = OutSink::new(&rt);
+    let status = chor(
+        &rt,
+        rt.alloc(),
+        &words,
+        &hosts,
+        &mut shelf,
+        &mut out,
+        &OpenGate,
+    );
     drop(hosts);
     drop(words);
-    ExitCode::from(status)
+    ExitCode::from(status.number())
 }
 
 // The words of a call, without the name of the program.
@@ -55,21 +54,4 @@ fn words_of(alloc: Global, args: Args) -> Result<Words, Memory> {
 fn push_word(alloc: Global, items: &mut List<Word>, bytes: &[u8]) -> Result<(), Memory> {
     let word = Word::from_slice(alloc, bytes)?;
     items.push(word)
-}
-
-// The names of the host functions.
-#[derive(Drop)]
-struct HostNames {
-    min: Word,
-    max: Word,
-    gap: Word,
-}
-
-// None where there is no memory for them.
-fn host_names(alloc: Global) -> Option<HostNames> {
-    Some(HostNames {
-        min: Word::from_slice(alloc, b"min".as_slice()).ok()?,
-        max: Word::from_slice(alloc, b"max".as_slice()).ok()?,
-        gap: Word::from_slice(alloc, b"gap".as_slice()).ok()?,
-    })
 }

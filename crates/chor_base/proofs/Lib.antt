@@ -8,3 +8,4 @@ pub mod FirstPlaces
 pub mod Members
 pub mod Rules
 pub mod Faults
+pub mod Crossing

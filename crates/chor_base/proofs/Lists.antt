@@ -1,6 +1,6 @@
 -- Lists with one item more.
-use Rattle.std.proofs.Common.{◌≡◌, ℕ, ◌+◌, ◌<◌, zero, suc, List, [], ◌∷◌, ◌++◌, length, take, get_or, refl, sym, ap, ◌∙◌, Some}
-use Rattle.std.specs.Prelude.{map, slice_get}
+use Rattle.std.proofs.Common.{◌≡◌, ◌≢◌, arith, ℕ, ◌+◌, ◌<◌, zero, suc, List, [], ◌∷◌, ◌++◌, length, take, get_or, refl, sym, ap, ◌∙◌, Some}
+use Rattle.std.specs.Prelude.{map, slice_get, slice_set}
 use Rattle.std.proofs.lemmas.List.{map-append, take_more}
 
 -- what stands at a place of a list with one item more
@@ -29,3 +29,17 @@ mapped_more f xs old new x y i within at same so_far added =
     ap (map f) added ∙ map-append f old (y ∷ []) ∙ ap (λ r. r ++ f y ∷ []) so_far
     ∙ ap (λ z. map f (take i xs) ++ z ∷ []) (same ∙ ap f at)
     ∙ sym (ap (map f) (take_more xs i x within) ∙ map-append f (take i xs) (get_or xs i x ∷ []))
+
+-- another item is the same after one was set
+pub get_set_other : {X : Type 0} (xs : List X) (i j : ℕ) (x : X) → j ≢ i → slice_get (slice_set xs i x) j ≡ slice_get xs j
+get_set_other [] i j x h = refl
+get_set_other (y ∷ xs) zero zero x h = absurd (h refl)
+get_set_other (y ∷ xs) zero (suc j) x h = refl
+get_set_other (y ∷ xs) (suc i) zero x h = refl
+get_set_other (y ∷ xs) (suc i) (suc j) x h = get_set_other xs i j x (λ e. h (ap suc e))
+
+-- an item is the same with more items behind
+pub get_append_left : {X : Type 0} (xs ys : List X) (j : ℕ) → j < length xs → slice_get (xs ++ ys) j ≡ slice_get xs j
+get_append_left [] ys j lt = absurd (omega arith)
+get_append_left (x ∷ xs) ys zero lt = refl
+get_append_left (x ∷ xs) ys (suc j) lt = get_append_left xs ys j (omega arith)

@@ -7,7 +7,8 @@ use Rattle.command_words.specs.declared.words.Command.TheVariants.{Exec}
 use Rattle.command_words.specs.declared.options.Options.{Options}
 use Rattle.chor_cmd.specs.Status.{status_of}
 use Rattle.chor_cmd.specs.Outputs.{IsExecution, of_programs}
-use Rattle.chor_cmd.specs.Endings.{MayAsk, Ends, done, stuck}
+use Rattle.chor_cmd.specs.Endings.{MayAsk, Ends}
+use Rattle.chor_cmd.proofs.Ways.{done, stuck}
 
 pub ended_so : (functions : List Function) (words : Words) (before after : ShelfState) (word : ℕ) (options : Options) (bytes text : List ℕ) (is : Bool)
     → MayAsk words before (Exec word options) (bytes ∷ []) → IsExecution functions options bytes text is → Ends functions words before after (status_of is) text

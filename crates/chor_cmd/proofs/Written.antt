@@ -1,12 +1,13 @@
 -- What a call has written when it ends.
 use Rattle.std.proofs.Common.{ℕ, List, Option, Some, None, sym, ap, ◌∙◌, subst}
 use Rattle.chor_host.specs.Functions.{Function}
-use Rattle.chor_io.specs.Outside.{PutTells, Risen, ShelfState, SinkState}
+use Rattle.chor_io.specs.Outside.{PutTells, Risen, ShelfState, SinkState, Wrote, WroteFront}
 use Rattle.chor_io.specs.declared.outside.Put.TheVariants as put
 use Rattle.command_words.specs.declared.words.Words.{Words}
 use Rattle.chor_cmd.specs.declared.status.Status.{Status}
 use Rattle.chor_cmd.specs.declared.status.Status.TheVariants.{Done, Refused, Usage, ReadFault, WriteFault, Memory, Unmatched, Stuck, TooLarge}
-use Rattle.chor_cmd.specs.Endings.{Ends, Wrote, WroteFront, HasEnded}
+use Rattle.chor_cmd.proofs.Spoken.{ends_spoken}
+use Rattle.chor_cmd.specs.Endings.{Ends, HasEnded}
 
 wrote : (old new : Option (List ℕ)) (text : List ℕ) → PutTells old new text put.All → Wrote old new text
 wrote None new text h = tt
@@ -26,8 +27,8 @@ module _ (functions : List Function) (words : Words) (shelf shelf' : ShelfState)
   wrote_all Unmatched text e h = (text, e, wrote sink.written sink'.written text h)
   wrote_all Stuck text e h = (text, e, wrote sink.written sink'.written text h)
   wrote_all TooLarge text e h = (text, e, wrote sink.written sink'.written text h)
-  wrote_all WriteFault text e h = elim e [ ]
-  wrote_all Memory text e h = elim e [ ]
+  wrote_all WriteFault text e h = absurd (ends_spoken functions words shelf shelf' WriteFault text e)
+  wrote_all Memory text e h = absurd (ends_spoken functions words shelf shelf' Memory text e)
 
   -- the write failed after a front of it
   pub wrote_some : (status : Status) (text : List ℕ) → Ends functions words shelf shelf' status text → PutTells sink.written sink'.written text put.Failed → Risen sink.faults sink'.faults → HasEnded functions words shelf shelf' sink sink' WriteFault

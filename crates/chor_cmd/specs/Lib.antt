@@ -1,5 +1,9 @@
 pub mod Readings
 pub mod Status
+pub mod Runs
 pub mod Outputs
+pub mod Rows
 pub mod Endings
 pub mod Fetches
+pub mod Calls
+pub mod Follows

@@ -17,7 +17,7 @@ use Rattle.command_words.specs.declared.words.Command.TheVariants.{Check, Fmt, T
 use Rattle.command_words.specs.declared.options.Options.{Options}
 use Rattle.chor_cmd.specs.Readings.{Reading, Source, Programs, Nothing, reading_of}
 use Rattle.chor_host.specs.Functions.{Function, names_of, hosts_in}
-use Rattle.simulation.specs.Runs.{close_of, IsRunOf}
+use Rattle.simulation.specs.Runs.{close_of}
 use Rattle.source_check.specs.Classes.{classes_of, IsFaultless}
 use Rattle.source_check.specs.declared.rules.Rules.TheVariants.{All}
 use Rattle.source_check.specs.Source.{IsFileOf, IsAccepted, IsBroken, Violates}
@@ -27,7 +27,7 @@ use Rattle.program_runs.specs.Books.{book_of}
 use Rattle.accepted_replays.specs.Sources.{ReplaysSource}
 use Rattle.generated_runs.specs.Texts.{IsGeneratedText, IsSummary}
 use Rattle.endpoint_check.specs.Programs.{AreProgramsOf, ViolatesPrograms}
-use Rattle.program_runs.specs.Transcripts.{IsTranscriptOf}
+use Rattle.chor_cmd.specs.Runs.{IsAskedRun, IsAskedTranscript}
 use Rattle.local_types.specs.Texts.{IsTypesText}
 
 -- ---- the texts
@@ -44,15 +44,15 @@ abbrev pub last_line : Bool → ℕ → List ℕ
 last_line true n = end_line n
 last_line false n = limit_line n
 
--- The text is the transcript of the scheduled run, with the asked seed and number of steps, of the network of this file's
--- projection, which asks these host functions: a run of its choreography in which messages are received first in, first out, and sessions follow their
+-- The text is the transcript of a run, as the options ask for it, of the network of this file's projection, which asks these host
+-- functions: a run of its choreography in which messages are received first in, first out, and sessions follow their
 -- protocols; with `end` each process has ended, each queue is empty and nothing is left to happen, with `limit` the run
 -- is as long as was asked for and open
 pub record IsRunText (functions : List Function) (f : File) (options : Options) (text : List ℕ) : Type 0 where
   pub endpoints : Endpoints
   pub history : List Event
   pub ended : Bool
-  pub run : IsRunOf f endpoints (hosts_in f.names functions) options.seed options.steps history (close_of ended)
+  pub run : IsAskedRun f endpoints (hosts_in f.names functions) options history (close_of ended)
   pub text_is : text ≡ transcript (book_of f) history (last_line ended (length history))
 
 -- the text is that of endpoint programs that are the projection of this file
@@ -140,18 +140,18 @@ pub record IsAnswer (functions : List Function) (command : Command) (f : File) (
   pub faultless : IsFine (reading_of command) (names_of functions) f
   pub output : IsOutput functions command f text
 
--- the bytes are the text of endpoint programs without fault, and the text is the transcript of their scheduled run with the
--- asked seed and number of steps, which is stuck or not
+-- the bytes are the text of endpoint programs without fault, and the text is the transcript of a run of them, as the options ask
+-- for it, which is stuck or not
 pub record IsExecution (functions : List Function) (options : Options) (bytes text : List ℕ) (stuck : Bool) : Type 0 where
   pub programs : Endpoints
   pub are : AreProgramsOf (names_of functions) bytes programs
-  pub run : IsTranscriptOf functions programs options.seed options.steps text stuck
+  pub run : IsAskedTranscript functions programs options text stuck
 
 -- the bytes are the text of a source that violates no rule, and so a replay of the events file in its choreography answers
 pub record IsReplayOf (functions : List Function) (bytes events : List ℕ) (answer : Result Replayed ReplayFault) : Type 0 where
   pub file : File
   pub accepted : IsAccepted All (names_of functions) bytes file
-  pub replays : ReplaysSource file (hosts_in file.names functions) events answer
+  pub replays : ReplaysSource file (hosts_in file.names functions) None events answer
 
 -- what `gen` writes: the generated file's text, or how many events, sessions and processes its run has
 abbrev pub IsGenerated : List Function → ℕ → Bool → List ℕ → Type 0

@@ -1,15 +1,17 @@
 //! The call that the program makes.
 
-ghost use Rattle.std.specs.Prelude.{◌≡◌, ◌≢◌, ◌≤◌, ◌^◌, ℕ, List, [], ◌∷◌, length};
+ghost use Rattle.std.specs.Prelude.{◌≡◌, ◌≢◌, ◌≤◌, ◌^◌, ℕ, List, [], ◌∷◌, length, false};
 ghost use Rattle.chor_host.specs.Tables.{functions_of};
 ghost use Rattle.command_words.specs.Words.{IsForm, NamesFile};
 ghost use Rattle.command_words.specs.declared.words.Words.{Words as CommandWords};
 ghost use Rattle.command_words.specs.declared.words.Command.TheVariants.{Gen};
-ghost use Rattle.chor_cmd.specs.Endings.{FetchesOnly, HasEnded};
-ghost use Rattle.chor_cmd.specs.Endings.{GivesUsage, GivesTooLarge, GivesRefusal, GivesAnswer, GivesReplay, GivesUnmatched};
-ghost use Rattle.chor_cmd.specs.Endings.{GivesExecution, GivesProjectedRun, GivesGenerated, GivesCanonical, GivesSame};
+ghost use Rattle.chor_cmd.specs.Endings.{FetchesOnly, HasEnded as HasEndedSo};
+ghost use Rattle.chor_cmd.specs.Calls.{Fetches, HasEnded, IsUsage, IsSettled, RunsSource, RunsProjected, AcceptsRuns, RefusesBroken, call_of};
 ghost use Rattle.projected_programs.specs.Laws.{ProjectedTextIsTaken, ProjectedTextRuns};
+ghost use Rattle.projected_programs.specs.LawsBy.{ProjectedTextRunsByWorkers};
+ghost use Rattle.chor_cmd.specs.Runs.{AsksNoWorkers, workers_of};
 
+use crate::by_workers::answer_by;
 use crate::numbers::answer_number;
 use crate::one_file::answer_file;
 use crate::output::finish;
@@ -17,8 +19,10 @@ use crate::replays::answer_replay;
 use crate::status::Status;
 use chor_host::HostTable;
 use chor_io::{Gate, Shelf, Sink};
-use command_words::{Form, Words, form_of};
+use command_words::{Command, Form, Words, form_of};
 use std::alloc::Global;
+use std::sync::Wait;
+use std::thread::Threads;
 
 /// Does what the words ask for: it reads the named file from the shelf, writes the text of the
 /// command's answer, or one line that says what is wrong, to the sink, and answers how it ended.
@@ -39,44 +43,101 @@ use std::alloc::Global;
 /// violates no rule. `gen N` makes a file of N rounds, runs it, and writes how many events, sessions
 /// and processes there were; `gen N --text` writes its canonical text.
 ///
-/// The gate is for runs with workers, which aren't there yet.
-pub fn chor<F: Shelf, K: Sink, G: Gate + Sync>(
+/// Where the options of `run` or `exec` ask for workers, these make the run, each in its turn, and each
+/// passes the gate before each of its turns. Then the call waits until all workers have finished. For
+/// all other words it is `alone`.
+pub fn chor<R: Threads + Wait + Sync, F: Shelf, K: Sink, G: Gate + Sync>(
+    rt: &R,
     alloc: Global,
     words: &Words,
     hosts: &HostTable,
     shelf: &mut F,
     out: &mut K,
-    _gate: &G,
+    gate: &G,
 ) -> Status
-    ensures fetches { FetchesOnly words.now (F.state shelf.old) (F.state shelf.new) }
+    ensures fetches { Fetches (call_of (functions_of hosts.now) words.now (F.state shelf.old) (F.state shelf.new) (K.state out.old) (K.state out.new) result) }
 
     // What each status says.
-    ensures ended { HasEnded (functions_of hosts.now) words.now (F.state shelf.old) (F.state shelf.new) (K.state out.old) (K.state out.new) result }
+    ensures ended { HasEnded (call_of (functions_of hosts.now) words.now (F.state shelf.old) (F.state shelf.new) (K.state out.old) (K.state out.new) result) }
 
     // Which status comes.
-    ensures usage { GivesUsage (functions_of hosts.now) words.now (F.state shelf.old) (F.state shelf.new) (K.state out.old) (K.state out.new) result }
-    ensures too_large { GivesTooLarge (functions_of hosts.now) words.now (F.state shelf.old) (F.state shelf.new) (K.state out.old) (K.state out.new) result }
-    ensures refused { GivesRefusal (functions_of hosts.now) words.now (F.state shelf.old) (F.state shelf.new) (K.state out.old) (K.state out.new) result }
-    ensures done { GivesAnswer (functions_of hosts.now) words.now (F.state shelf.old) (F.state shelf.new) (K.state out.old) (K.state out.new) result }
-    ensures replayed { GivesReplay (functions_of hosts.now) words.now (F.state shelf.old) (F.state shelf.new) (K.state out.old) (K.state out.new) result }
-    ensures unmatched { GivesUnmatched (functions_of hosts.now) words.now (F.state shelf.old) (F.state shelf.new) (K.state out.old) (K.state out.new) result }
-    ensures executed { GivesExecution (functions_of hosts.now) words.now (F.state shelf.old) (F.state shelf.new) (K.state out.old) (K.state out.new) result }
-    ensures projected { GivesProjectedRun (functions_of hosts.now) words.now (F.state shelf.old) (F.state shelf.new) (K.state out.old) (K.state out.new) result }
-    ensures generated { GivesGenerated (functions_of hosts.now) words.now (F.state shelf.old) (F.state shelf.new) (K.state out.old) (K.state out.new) result }
-    ensures canonical { GivesCanonical (functions_of hosts.now) words.now (F.state shelf.old) (F.state shelf.new) (K.state out.old) (K.state out.new) result }
-    ensures same { GivesSame (functions_of hosts.now) words.now (F.state shelf.old) (F.state shelf.new) (K.state out.old) (K.state out.new) result }
+    ensures usage { IsUsage (call_of (functions_of hosts.now) words.now (F.state shelf.old) (F.state shelf.new) (K.state out.old) (K.state out.new) result) }
+    ensures settled { IsSettled (call_of (functions_of hosts.now) words.now (F.state shelf.old) (F.state shelf.new) (K.state out.old) (K.state out.new) result) }
+
+    // The sentences of the headline.
+    ensures ran { RunsSource (call_of (functions_of hosts.now) words.now (F.state shelf.old) (F.state shelf.new) (K.state out.old) (K.state out.new) result) }
+    ensures projected { RunsProjected (call_of (functions_of hosts.now) words.now (F.state shelf.old) (F.state shelf.new) (K.state out.old) (K.state out.new) result) }
+    ensures replayed { AcceptsRuns (call_of (functions_of hosts.now) words.now (F.state shelf.old) (F.state shelf.new) (K.state out.old) (K.state out.new) result) }
+    ensures refused { RefusesBroken (call_of (functions_of hosts.now) words.now (F.state shelf.old) (F.state shelf.new) (K.state out.old) (K.state out.new) result) }
+{
+    projected_laws();
+    if asks_workers(words) {
+        return answer_by(rt, alloc, words, hosts, shelf, out, gate);
+    }
+    alone(rt, alloc, words, hosts, shelf, out)
+}
+
+/// Does what the words ask for where they ask for no workers, as `chor` does. It waits for nobody.
+pub fn alone<R: Threads + Sync, F: Shelf, K: Sink>(
+    _rt: &R,
+    alloc: Global,
+    words: &Words,
+    hosts: &HostTable,
+    shelf: &mut F,
+    out: &mut K,
+) -> Status
+    requires { AsksNoWorkers words.now }
+    ensures fetches { Fetches (call_of (functions_of hosts.now) words.now (F.state shelf.old) (F.state shelf.new) (K.state out.old) (K.state out.new) result) }
+
+    // What each status says.
+    ensures ended { HasEnded (call_of (functions_of hosts.now) words.now (F.state shelf.old) (F.state shelf.new) (K.state out.old) (K.state out.new) result) }
+
+    // Which status comes.
+    ensures usage { IsUsage (call_of (functions_of hosts.now) words.now (F.state shelf.old) (F.state shelf.new) (K.state out.old) (K.state out.new) result) }
+    ensures settled { IsSettled (call_of (functions_of hosts.now) words.now (F.state shelf.old) (F.state shelf.new) (K.state out.old) (K.state out.new) result) }
+
+    // The sentences of the headline.
+    ensures ran { RunsSource (call_of (functions_of hosts.now) words.now (F.state shelf.old) (F.state shelf.new) (K.state out.old) (K.state out.new) result) }
+    ensures projected { RunsProjected (call_of (functions_of hosts.now) words.now (F.state shelf.old) (F.state shelf.new) (K.state out.old) (K.state out.new) result) }
+    ensures replayed { AcceptsRuns (call_of (functions_of hosts.now) words.now (F.state shelf.old) (F.state shelf.new) (K.state out.old) (K.state out.new) result) }
+    ensures refused { RefusesBroken (call_of (functions_of hosts.now) words.now (F.state shelf.old) (F.state shelf.new) (K.state out.old) (K.state out.new) result) }
 {
     projected_laws();
     answer(alloc, words, hosts, shelf, out)
+}
+
+// Whether the words ask for workers.
+fn asks_workers(words: &Words) -> bool
+    ensures { result ≡ false → AsksNoWorkers words.now }
+{
+    match form_of(words) {
+        None => false,
+        Some(Form::OnFile(command, _name)) => workers_of(command) > 0,
+        Some(Form::OnFiles(_file, _events)) => false,
+        Some(Form::OnNumber(_count, _whole)) => false,
+    }
+}
+
+// How many workers a command asks for.
+fn workers_of(command: Command) -> u32
+    ensures { result ≡ workers_of command }
+{
+    match command {
+        Command::Run(_, options) => options.workers,
+        Command::Exec(_, options) => options.workers,
+        _ => 0,
+    }
 }
 
 // What is proved of the text that `project` writes.
 fn projected_laws()
     ensures taken { ProjectedTextIsTaken }
     ensures runs { ProjectedTextRuns }
+    ensures runs_by { ProjectedTextRunsByWorkers }
 {
     projected_programs::projected_text_is_taken();
     projected_programs::projected_text_runs();
+    projected_programs::projected_text_runs_by_workers();
 }
 
 // Answers what the words ask for.
@@ -88,7 +149,7 @@ fn answer<F: Shelf, K: Sink>(
     out: &mut K,
 ) -> Status
     ensures fetches { FetchesOnly words.now (F.state shelf.old) (F.state shelf.new) }
-    ensures ended { HasEnded (functions_of hosts.now) words.now (F.state shelf.old) (F.state shelf.new) (K.state out.old) (K.state out.new) result }
+    ensures ended { HasEndedSo (functions_of hosts.now) words.now (F.state shelf.old) (F.state shelf.new) (K.state out.old) (K.state out.new) result }
 {
     match form_of(words) {
         None => finish(

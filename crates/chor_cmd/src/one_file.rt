@@ -45,8 +45,8 @@ pub fn answer_file<F: Shelf, K: Sink>(
     }
 }
 
-// How many bytes the command's file has at most.
-fn limit_of(command: Command) -> u64
+/// How many bytes the command's file has at most.
+pub fn limit_of(command: Command) -> u64
     requires { length (limits_of command) ≡ 1 }
     ensures limit { result ≡ limit_of (reading_of command) }
     ensures small { result < 2 ^ 32 }
@@ -110,8 +110,8 @@ fn answer_programs<K: Sink>(
     }
 }
 
-// Writes the transcript of endpoint programs.
-fn finish_executed<K: Sink>(out: &mut K, executed: &Executed) -> Status
+/// Writes the transcript of endpoint programs.
+pub fn finish_executed<K: Sink>(out: &mut K, executed: &Executed) -> Status
     ensures { EachEnds (λ fs ws a b. Ends fs ws a b (status_of executed.now.stuck) executed.now.text.items) (K.state out.old) (K.state out.new) result }
 {
     let status = if executed.stuck {

@@ -61,7 +61,7 @@ fn text_of_run(
     Ok(text)
 }
 
-fn names_of(alloc: Global, written: &[Named]) -> Result<List<NameId>, Memory>
+pub fn names_of(alloc: Global, written: &[Named]) -> Result<List<NameId>, Memory>
     ensures { IfOk result (λ list. list ≡ names_in written.now) }
 {
     let mut list = List::new(alloc);

@@ -37,8 +37,8 @@ pub fn text_of(
     file_text(alloc, command, file, hosts)
 }
 
-// What the command writes for a file.
-fn file_text(
+/// What the command writes for a file.
+pub fn file_text(
     alloc: Global,
     command: Command,
     file: File,

@@ -1,5 +1,6 @@
 -- The generated file (this project's own): rounds one after another, each a session of its own. In an odd round a number goes
--- from p by q to the new process r and back; in an even one p tells q by a label whether that number is less than 2.
+-- from p by q to the new process r and back; in an even one p tells q by a label whether that number is less than the
+-- round's own.
 use Rattle.std.specs.Prelude.{ℕ, Bool, ◌==◌, ◌%◌, if◌then◌else◌, List, [], ◌∷◌, ◌++◌, suc, zero, pos, codes}
 use Rattle.chor_base.specs.declared.value.Value.TheVariants.{Int}
 use Rattle.chor_base.specs.declared.value.Sort.TheVariants.{Int as Number}
@@ -115,8 +116,9 @@ module _ (at : List ℕ → Named) where
   abbrev pub r_sends : Statement
   r_sends = sends (part (codes "r") (codes "C")) (variable (codes "y")) (part (codes "p") (codes "A")) (codes "z")
 
-  abbrev pub is_less : Term
-  is_less = Binary Lt (variable (codes "z")) (literal 2)
+  -- whether z is less than the number of the round
+  abbrev pub is_less : ℕ → Term
+  is_less i = Binary Lt (variable (codes "z")) (literal i)
 
   -- p[A] -> q[B] : k.l
   abbrev pub tells : List ℕ → Statement
@@ -143,11 +145,11 @@ module _ (at : List ℕ → Named) where
   abbrev pub told : List ℕ → (count i : ℕ) → Block
   told l count i = Then beginning (tells l) (after_round count i)
 
-  -- p tells whether z is less than 2
+  -- p tells whether z is less than the number of the round
   abbrev pub even_round : (count i : ℕ) → Block
   even_round count i =
       Then beginning start_fork
-      (Either beginning (at (codes "p")) is_less (told (codes "more") count i) (told (codes "less") count i))
+      (Either beginning (at (codes "p")) (is_less i) (told (codes "more") count i) (told (codes "less") count i))
 
   abbrev pub body_of_round : (count i : ℕ) → Block
   body_of_round count i = if is_odd i then odd_round count i else even_round count i

@@ -188,13 +188,13 @@ fn tells(words: &Words, label: &[u8], next: NodeId) -> Form
     }
 }
 
-// p.z < 2
-fn is_less(alloc: Global, words: &Words) -> Result<Expr, Memory>
-    ensures is { IfOk result (λ expr. term_of expr ≡ is_less (named_in words.now.names)) }
+// p.z < number
+fn is_less(alloc: Global, words: &Words, number: u32) -> Result<Expr, Memory>
+    ensures is { IfOk result (λ expr. term_of expr ≡ is_less (named_in words.now.names) number) }
     ensures there { IfOk result (λ expr. term_there (has_name words.now.names) (has_text []) (term_of expr) ≡ true) }
 {
     let left = Box::new(alloc, Expr::Var(words.at(b"z").name))?;
-    let right = Box::new(alloc, literal(2))?;
+    let right = Box::new(alloc, literal(number))?;
     Ok(Expr::Bin(BinOp::Lt, left, right))
 }
 
@@ -234,7 +234,7 @@ fn push_even(alloc: Global, words: &Words, tree: &mut Tree, round: Round) -> Res
     let second = push_told(alloc, words, tree, round, b"less")?;
     let form = Form::If {
         process: words.at(b"p"),
-        expr: is_less(alloc, words)?,
+        expr: is_less(alloc, words, round.number)?,
         first,
         second,
     };

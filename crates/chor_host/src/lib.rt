@@ -4,9 +4,11 @@
 mod fault;
 mod function;
 mod operations;
+mod program;
 mod table;
 
 pub use fault::AddFault;
 pub use function::HostFn;
 pub use operations::{host_gap, host_max, host_min};
+pub use program::program_hosts;
 pub use table::HostTable;

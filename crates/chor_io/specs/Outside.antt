@@ -87,3 +87,14 @@ abbrev pub WriteTells : Option (List ℕ) → Option (List ℕ) → List ℕ →
 WriteTells None new piece answer = Unit {0}
 WriteTells (Some old) None piece answer = ⊥
 WriteTells (Some old) (Some new) piece answer = PutAdds old new piece answer
+
+-- where the bytes written are told, exactly this text was added
+abbrev pub Wrote : Option (List ℕ) → Option (List ℕ) → List ℕ → Type 0
+Wrote None new text = Unit {0}
+Wrote (Some old) new text = new ≡ Some (old ++ text)
+
+-- where the bytes written are told, a front of this text was added
+abbrev pub WroteFront : Option (List ℕ) → Option (List ℕ) → List ℕ → Type 0
+WroteFront None new text = Unit {0}
+WroteFront (Some old) None text = ⊥
+WroteFront (Some old) (Some new) text = GrowsByFront old new text

@@ -5,6 +5,8 @@ use chor_cmd::{Status, Words, chor};
 use chor_host::HostTable;
 use chor_io::{MemoryShelf, MemorySink, OpenGate};
 use std::alloc::Global;
+use std::sync::Wait;
+use std::thread::Threads;
 
 /// A call: its title, of which the words of the command line stand before `: `, the bytes of the files
 /// on the shelf, whose names are `FILE` and `EVENTS`, the number of the call of the shelf that fails,
@@ -26,8 +28,8 @@ struct Answered {
     out: MemorySink,
 }
 
-// The words of a command line, between which one space stands each.
-fn words_of(alloc: Global, line: &str) -> anyhow::Result<Words> {
+/// The words of a command line, between which there is one space each.
+pub fn words_of(alloc: Global, line: &str) -> anyhow::Result<Words> {
     let mut items = List::new(alloc);
     if line.is_empty() {
         return Ok(Words { items });
@@ -57,11 +59,18 @@ fn shelf_of(alloc: Global, call: &Call<'_>) -> anyhow::Result<MemoryShelf> {
 }
 
 // What a call answers with the words of this line.
-fn answer_to(alloc: Global, call: &Call<'_>, line: &str) -> anyhow::Result<Answered> {
+fn answer_to<R: Threads + Wait + Sync>(
+    rt: &R,
+    alloc: Global,
+    call: &Call<'_>,
+    line: &str,
+) -> anyhow::Result<Answered> {
     let words = words_of(alloc, line)?;
     let mut shelf = shelf_of(alloc, call)?;
     let mut out = MemorySink::new(alloc, call.room, List::new(alloc))?;
-    let status = chor(alloc, &words, call.hosts, &mut shelf, &mut out, &OpenGate);
+    let status = chor(
+        rt, alloc, &words, call.hosts, &mut shelf, &mut out, &OpenGate,
+    );
     Ok(Answered { status, out })
 }
 
@@ -73,19 +82,42 @@ fn line_of(title: &str) -> &str {
     }
 }
 
-/// Writes the title of a call, the number of its status and its text. Where ` | ` stands in its line,
-/// what the words before it write is the file of the words after it.
-pub fn answer(rt: &impl Print, alloc: Global, call: &Call<'_>) -> anyhow::Result<()> {
-    let line = line_of(call.title);
+// What a command line answers, or two with ` | ` between them: what the first writes is the second's `FILE`.
+fn piped<R: Threads + Wait + Sync>(
+    rt: &R,
+    alloc: Global,
+    call: &Call<'_>,
+    line: &str,
+) -> anyhow::Result<Answered> {
     let Some((first, last)) = line.split_once(" | ") else {
-        return tell(rt, call.title, &answer_to(alloc, call, line)?);
+        return answer_to(rt, alloc, call, line);
     };
-    let written = answer_to(alloc, call, first)?;
-    let piped = Call {
+    let written = answer_to(rt, alloc, call, first)?;
+    let fed = Call {
         source: written.out.bytes(),
         ..*call
     };
-    tell(rt, call.title, &answer_to(alloc, &piped, last)?)
+    answer_to(rt, alloc, &fed, last)
+}
+
+/// Writes the title of a call, the number of its status and its text. Where ` > ` stands in its line,
+/// what the words before it write is the file `EVENTS` of the words after it, whose `FILE` is the case's
+/// source again.
+pub fn answer<R: Threads + Wait + Sync + Print>(
+    rt: &R,
+    alloc: Global,
+    call: &Call<'_>,
+) -> anyhow::Result<()> {
+    let line = line_of(call.title);
+    let Some((first, last)) = line.split_once(" > ") else {
+        return tell(rt, call.title, &piped(rt, alloc, call, line)?);
+    };
+    let written = piped(rt, alloc, call, first)?;
+    let logged = Call {
+        events: written.out.bytes(),
+        ..*call
+    };
+    tell(rt, call.title, &answer_to(rt, alloc, &logged, last)?)
 }
 
 // Writes a title, the number of a status and a text.

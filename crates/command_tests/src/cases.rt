@@ -6,6 +6,8 @@ use crate::escapes::put_escaped;
 use anyhow::bail;
 use chor_host::HostTable;
 use std::alloc::Global;
+use std::sync::Wait;
+use std::thread::Threads;
 
 // How many bytes the sink takes where nothing else is said.
 const ROOM: u32 = 1 << 16;
@@ -145,8 +147,8 @@ fn put_lines(bytes: &mut Vec<u8>, text: &str) -> anyhow::Result<()> {
 }
 
 /// Answers all cases of a file.
-pub fn answer_cases(
-    rt: &impl Print,
+pub fn answer_cases<R: Threads + Wait + Sync + Print>(
+    rt: &R,
     alloc: Global,
     tables: Tables<'_>,
     text: &str,
@@ -169,8 +171,8 @@ pub fn answer_cases(
 
 // Answers a case: its title, and the lines after it, which are a source, a change of one or an events
 // file.
-fn answer_case(
-    rt: &impl Print,
+fn answer_case<R: Threads + Wait + Sync + Print>(
+    rt: &R,
     alloc: Global,
     tables: Tables<'_>,
     setting: &Setting<'_>,

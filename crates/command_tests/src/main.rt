@@ -2,15 +2,15 @@
 //! answer is written: the case's title, the status's number, and the text. The file `stdout` of this
 //! crate has the right answers, worked out by hand.
 //!
-//! A file of cases begins with lines that say what it is about. A line `=== WORDS: NAME` begins a case: the
-//! words of the command line, in which `FILE` is the case's source, and what the case shows. Where
-//! ` | ` stands between two command lines, what the first writes is the second's `FILE`. The
-//! lines after it, up to the next `===`, are the source. What stands after a line `=== head` comes
-//! before each source of that file. What stands after a line `=== base` is a source of which the
-//! cases after it are changes: the text of lines that begin with `- ` stands in it once, and
-//! the text of the lines with `+ ` that follow comes in its place. What stands after a line
-//! `=== source` is the source of the cases after it, and the lines of these cases are a file of
-//! events, whose name is `EVENTS`.
+//! A file of cases begins with lines that say what it is about. A line `=== WORDS: NAME` begins a case:
+//! the words of the command line, in which `FILE` is the case's source, and what the case shows. Where
+//! ` | ` stands between two command lines, what the first writes is the second's `FILE`; where ` > `
+//! stands between two, it is the second's `EVENTS`. The lines after it, up to the next `===`, are the
+//! source. What stands after a line `=== head` comes before each source of that file. What stands after
+//! a line `=== base` is a source of which the cases after it are changes: the text of lines that begin
+//! with `- ` stands in it once, and the text of the lines with `+ ` that follow comes in its place.
+//! What stands after a line `=== source` is the source of the cases after it, and the lines of these
+//! cases are a file of events, whose name is `EVENTS`.
 //!
 //! Further lines say how the cases after them are put, up to the next of the three lines above. After
 //! `=== room N` the sink takes N bytes, after `=== failing N` the shelf's call number N fails, and after
@@ -23,56 +23,65 @@
 #![tactic(auto)]
 
 use crate::cases::{Tables, answer_cases};
-use crate::hosts::host_names;
+use crate::gates::answer_gates;
 use crate::worked_texts::answer_worked;
-use chor_base::{HostOp, Meaning, Memory};
-use chor_host::{HostFn, HostTable, host_gap, host_max, host_min};
-use std::fs;
+use chor_host::{HostTable, host_gap, host_max, host_min, program_hosts};
+use std::alloc::{Alloc, Global};
+use std::fs::{self, Files};
+use std::sync::Wait;
+use std::thread::Threads;
 
 mod calls;
 mod cases;
 mod changes;
 mod escapes;
-mod hosts;
+mod gates;
 mod worked_texts;
 
 fn main(rt: HostRuntime) -> anyhow::Result<()> {
-    let names = host_names(rt.alloc())?;
-    let mut hosts = HostTable::new(rt.alloc());
-    let min = hosts.add(HostFn::new(names.min, Meaning::Exact(HostOp::Min), host_min));
-    let max = hosts.add(HostFn::new(names.max, Meaning::Exact(HostOp::Max), host_max));
-    let gap = hosts.add(HostFn::new(names.gap, Meaning::Exact(HostOp::Gap), host_gap));
-    let answered = if min.is_ok() && max.is_ok() && gap.is_ok() {
-        answer_all(&rt, &hosts)
-    } else {
-        Err(anyhow::Error::from(Memory))
-    };
+    let hosts = program_hosts(rt.alloc(), host_min, host_max, host_gap)?;
+    let answered = answer_all(&rt, rt.alloc(), &hosts);
     drop(hosts);
     answered
 }
 
 // The cases of the files that are listed, and the worked texts.
-fn answer_all(rt: &HostRuntime, hosts: &HostTable) -> anyhow::Result<()> {
-    let empty = HostTable::new(rt.alloc());
+fn answer_all<R: Threads + Wait + Sync + Print + Files + Alloc>(
+    rt: &R,
+    alloc: Global,
+    hosts: &HostTable,
+) -> anyhow::Result<()> {
+    let empty = HostTable::new(alloc);
     let tables = Tables {
         program: hosts,
         empty: &empty,
     };
-    answer_listed(rt, tables)?;
+    answer_listed(rt, alloc, tables)?;
+    println!(rt; "##### gates")?;
+    answer_gates(rt, alloc, hosts)?;
     println!(rt; "##### worked")?;
-    answer_worked(rt)
+    answer_worked(rt, alloc)
 }
 
-fn answer_listed(rt: &HostRuntime, tables: Tables<'_>) -> anyhow::Result<()> {
+fn answer_listed<R: Threads + Wait + Sync + Print + Files + Alloc>(
+    rt: &R,
+    alloc: Global,
+    tables: Tables<'_>,
+) -> anyhow::Result<()> {
     let index = fs::read_to_string(rt, "cases")?;
     for name in index.lines() {
-        answer_file(rt, tables, name)?;
+        answer_file(rt, alloc, tables, name)?;
     }
     Ok(())
 }
 
-fn answer_file(rt: &HostRuntime, tables: Tables<'_>, name: &str) -> anyhow::Result<()> {
+fn answer_file<R: Threads + Wait + Sync + Print + Files + Alloc>(
+    rt: &R,
+    alloc: Global,
+    tables: Tables<'_>,
+    name: &str,
+) -> anyhow::Result<()> {
     let text = fs::read_to_string(rt, name)?;
     println!(rt; "##### {name}")?;
-    answer_cases(rt, rt.alloc(), tables, text.as_str())
+    answer_cases(rt, alloc, tables, text.as_str())
 }

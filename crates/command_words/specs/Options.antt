@@ -9,24 +9,35 @@ use Rattle.command_words.specs.declared.settings.Settings.{Settings}
 pub data Setting : Type 0 where
   seed_option : ℕ → Setting
   steps_option : ℕ → Setting
+  workers_option : ℕ → Setting
 
 -- the words of options, two for each: its name, and its number in decimal digits without zeros before it
 abbrev pub words_of : List Setting → List (List ℕ)
 words_of [] = []
 words_of (seed_option n ∷ rest) = codes "--seed" ∷ decimal n ∷ words_of rest
 words_of (steps_option n ∷ rest) = codes "--steps" ∷ decimal n ∷ words_of rest
+words_of (workers_option n ∷ rest) = codes "--workers" ∷ decimal n ∷ words_of rest
 
 -- the seeds that they set
 abbrev pub seeds_in : List Setting → List ℕ
 seeds_in [] = []
 seeds_in (seed_option n ∷ rest) = n ∷ seeds_in rest
 seeds_in (steps_option n ∷ rest) = seeds_in rest
+seeds_in (workers_option n ∷ rest) = seeds_in rest
 
 -- the numbers of steps that they set
 abbrev pub steps_in : List Setting → List ℕ
 steps_in [] = []
 steps_in (seed_option n ∷ rest) = steps_in rest
 steps_in (steps_option n ∷ rest) = n ∷ steps_in rest
+steps_in (workers_option n ∷ rest) = steps_in rest
+
+-- the numbers of workers that they set
+abbrev pub workers_in : List Setting → List ℕ
+workers_in [] = []
+workers_in (seed_option n ∷ rest) = workers_in rest
+workers_in (steps_option n ∷ rest) = workers_in rest
+workers_in (workers_option n ∷ rest) = n ∷ workers_in rest
 
 -- the value of an option that is set to these numbers: its default where it isn't set, and else the only one, within its bounds
 abbrev pub IsValue : ℕ → ℕ → ℕ → List ℕ → ℕ → Type 0
@@ -42,12 +53,17 @@ IsSeed numbers seed = IsValue 0 4294967295 0 numbers seed
 abbrev pub AreSteps : List ℕ → ℕ → Type 0
 AreSteps numbers steps = IsValue 1 1000000 100000 numbers steps
 
+-- a run has at most 16 workers, and none where it isn't said
+abbrev pub AreWorkers : List ℕ → ℕ → Type 0
+AreWorkers numbers workers = IsValue 0 16 0 numbers workers
+
 -- The words set options, in any order and each at most once, and these are their values
 pub record AreOptions (words : List (List ℕ)) (options : Options) : Type 0 where
   pub settings : List Setting
   pub words_are : words ≡ words_of settings
   pub seed_is : IsSeed (seeds_in settings) options.seed
   pub steps_are : AreSteps (steps_in settings) options.steps
+  pub workers_are : AreWorkers (workers_in settings) options.workers
 
 -- they are no options of a run
 abbrev pub AreNoOptions : List (List ℕ) → Type 0
@@ -61,6 +77,7 @@ pub record Completes (set : Settings) (words : List (List ℕ)) (options : Optio
   pub words_are : words ≡ words_of settings
   pub seed_is : IsSeed (option_to_list set.seed ++ seeds_in settings) options.seed
   pub steps_are : AreSteps (option_to_list set.steps ++ steps_in settings) options.steps
+  pub workers_are : AreWorkers (option_to_list set.workers ++ workers_in settings) options.workers
 
 -- with these two words more so much is set: what completes the one after them completes the other
 abbrev pub Sets : Settings → List ℕ → List ℕ → Settings → Type 0

@@ -3,7 +3,7 @@
 ghost use Rattle.std.specs.Prelude.{◌<◌, ◌≤◌, ◌^◌, [], ℕ, MatchOption, IfSome};
 ghost use Rattle.std.specs.Option.{option_to_list};
 ghost use Rattle.command_words.specs.declared.options.Options.{Options as OptionsOfRun};
-ghost use Rattle.command_words.specs.Options.{IsSeed, AreSteps, AreOptions, AreNoOptions, Completes, Sets, SetsNothing};
+ghost use Rattle.command_words.specs.Options.{IsSeed, AreSteps, AreWorkers, AreOptions, AreNoOptions, Completes, Sets, SetsNothing};
 
 use crate::options::Options;
 use chor_base::Word;
@@ -14,11 +14,14 @@ const DEFAULT_STEPS: u64 = 100_000;
 
 const MOST_STEPS: u64 = 1_000_000;
 
+const MOST_WORKERS: u64 = 16;
+
 // The numbers that options were set to so far.
 #[derive(Clone, Copy)]
 pub struct Settings {
     pub seed: Option<u64>,
     pub steps: Option<u64>,
+    pub workers: Option<u64>,
 }
 
 /// The options that these words set, in any order, each at most once. It takes no memory.
@@ -28,6 +31,7 @@ pub fn options_of(words: &[Word]) -> Option<Options>
     let mut settings = Settings {
         seed: None,
         steps: None,
+        workers: None,
     };
     let mut rest = words;
     while let [option, number, more @ ..] = rest {
@@ -63,6 +67,14 @@ impl Settings {
                 }),
                 Some(_) => None,
             }
+        } else if option == b"--workers".as_slice() {
+            match self.workers {
+                None => Some(Settings {
+                    workers: Some(number),
+                    ..self
+                }),
+                Some(_) => None,
+            }
         } else {
             None
         }
@@ -74,7 +86,12 @@ impl Settings {
     {
         let seed = seed_of(self.seed)?;
         let steps = steps_of(self.steps)?;
-        Some(Options { seed, steps })
+        let workers = workers_of(self.workers)?;
+        Some(Options {
+            seed,
+            steps,
+            workers,
+        })
     }
 }
 
@@ -98,4 +115,15 @@ fn steps_of(given: Option<u64>) -> Option<u64>
         return None;
     }
     Some(steps)
+}
+
+fn workers_of(given: Option<u64>) -> Option<u32>
+    ensures workers { MatchOption result ((workers : ℕ) → AreWorkers (option_to_list given) workers → ⊥) (AreWorkers (option_to_list given)) }
+    ensures few { IfSome result (λ workers. workers ≤ 16) }
+{
+    let workers = given.unwrap_or(0);
+    if workers > MOST_WORKERS {
+        return None;
+    }
+    Some(workers as u32)
 }

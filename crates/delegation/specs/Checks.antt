@@ -30,3 +30,8 @@ abbrev pub IsJudged : {T : Type 0} → Check → Result T OwnFault → Type 0
 IsJudged c (Ok x) = c ≡ None
 IsJudged c (Err (fault.Rule r)) = c ≡ Some r
 IsJudged c (Err fault.Memory) = Unit {0}
+
+-- The answer is the check's: no rule is violated, or this one is
+abbrev pub IsRuling : {T : Type 0} → Check → Result T Rule → Type 0
+IsRuling c (Ok x) = c ≡ None
+IsRuling c (Err r) = c ≡ Some r

@@ -2,7 +2,7 @@
 
 ghost use Rattle.std.specs.Prelude.{◌≡◌, ◌==◌, ◌++◌, [], map, IfOk, OnOk, OnErr};
 ghost use Rattle.std.specs.List.{list_any};
-ghost use Rattle.delegation.specs.Checks.{IsJudged, all_differ};
+ghost use Rattle.delegation.specs.Checks.{IsJudged, IsRuling, all_differ};
 ghost use Rattle.delegation.specs.Owners.{Lacks, held, holder_of, holds, holds_some, started, start_check, listed, passed, pass_check};
 ghost use Rattle.delegation.specs.Spans.{AreOf, entries_of, role_holder, passed_role};
 
@@ -163,23 +163,23 @@ impl Owners {
     }
 
     /// Passes a role on from one process to another. T1 is violated where the first doesn't hold
-    /// it, else T9 where the second holds a role of the session.
+    /// it, else T9 where the second holds a role of the session. It takes no memory.
     pub fn pass(
         &mut self,
         session: NameId,
         role: NameId,
         from: NameId,
         to: NameId,
-    ) -> Result<(), OwnFault>
-        ensures rule { IsJudged (pass_check self.old session role from to) result }
+    ) -> Result<(), Rule>
+        ensures rule { IsRuling (pass_check self.old session role from to) result }
         ensures ok { OnOk result (self.new ≡ passed self.old session role to) }
         ensures err { OnErr result (self.new ≡ self.old) }
     {
         if !self.holds(session, role, from) {
-            return Err(OwnFault::Rule(Rule::T1));
+            return Err(Rule::T1);
         }
         if self.holds_some(session, to) {
-            return Err(OwnFault::Rule(Rule::T9));
+            return Err(Rule::T9);
         }
         self.set_holder(session, role, to);
         Ok(())

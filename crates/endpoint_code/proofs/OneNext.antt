@@ -15,9 +15,10 @@ use Rattle.endpoint_code.specs.declared.code.CodeNode.TheVariants.{Join, Send, R
 use Rattle.endpoint_code.specs.declared.endpoints.Channel.{Channel}
 use Rattle.endpoint_code.specs.declared.endpoints.Endpoints.{Endpoints}
 use Rattle.endpoint_code.specs.Network.{Sessions, Machine, NetworkState, Place, Made, Makes, Taking, Goes, takes, takes_from, went, puts, put_if, queue_of, node_makes, place_makes, machine_makes, makes, joiners, starts, starts_with, channel_starts, begun, channel_of, paired, one_pair, served_parts, place_of, NetworkSteps, acts, begins}
+use Rattle.endpoint_code.proofs.Begun.{Begun, begun_as, pair_places}
 
 -- the process that makes an event, if it is no start
-abbrev by_of : Event → Option ℕ
+abbrev pub by_of : Event → Option ℕ
 by_of (event.Start c s ps) = None
 by_of (event.Send p s a b l) = Some p
 by_of (event.Recv p s a b l) = Some p
@@ -62,7 +63,8 @@ node_by cap n p v vars m (Join c r k next) x n' h = absurd cc
 node_by cap n p v vars m (Call f q ss) x n' h = absurd cc
 node_by cap n p v vars m End x n' h = absurd cc
 
-made_by : (e : Endpoints) (cap : Option ℕ) (n : NetworkState) (p : ℕ) (v : ℤ) (x : Event) (n' : NetworkState) → makes e cap n p v ≡ Some (Makes x n') → by_of x ≡ Some p
+-- an event that a process makes by itself is its own
+pub made_by : (e : Endpoints) (cap : Option ℕ) (n : NetworkState) (p : ℕ) (v : ℤ) (x : Event) (n' : NetworkState) → makes e cap n p v ≡ Some (Makes x n') → by_of x ≡ Some p
 made_by e cap n p v x n' h = at_machine (slice_get n.machines p) h
   where
     at_place : (vars : Variables) (o : Option Place) → place_makes cap n p v vars o ≡ Some (Makes x n') → by_of x ≡ Some p
@@ -116,60 +118,26 @@ made_one e cap n p v w x k k' h g = at_machine (slice_get n.machines p) h g
 
 -- ---- starts
 
-record Begun (e : Endpoints) (n : NetworkState) (c : NameId) (ps : List ℕ) (x : Event) : Type 0 where
-  channel : Channel
-  found : channel_of e.channels c ≡ Some channel
-  parts : List (NameId × ℕ)
-  paired_as : paired channel.active ps ≡ Some parts
-  is : x ≡ event.Start c n.sid (parts ++ served_parts channel.serve (length n.machines))
-
-begun_as : (e : Endpoints) (n : NetworkState) (c : NameId) (ps : List ℕ) (x : Event) (m : NetworkState) → starts e n c ps ≡ Some (Makes x m) → Begun e n c ps x
-begun_as e n c ps x m h = at_channel (channel_of e.channels c) refl h
-  where
-    at_joiners : (k : Channel) → channel_of e.channels c ≡ Some k → (qs : List (NameId × ℕ)) → paired k.active ps ≡ Some qs → (o : Option (List (ℕ × Machine))) → begun e n c k qs o ≡ Some (Makes x m) → Begun e n c ps x
-    at_joiners k f qs g None i = absurd cc
-    at_joiners k f qs g (Some ms) i = record { channel = k; found = f; parts = qs; paired_as = g; is = cc }
-
-    at_pairs : (k : Channel) → channel_of e.channels c ≡ Some k → (o : Option (List (NameId × ℕ))) → paired k.active ps ≡ o → starts_with e n c k o ≡ Some (Makes x m) → Begun e n c ps x
-    at_pairs k f None g i = absurd cc
-    at_pairs k f (Some []) g i = absurd cc
-    at_pairs k f (Some (q ∷ qs)) g i = at_joiners k f (q ∷ qs) g (joiners e n c n.sid (q ∷ qs)) i
-
-    at_channel : (o : Option Channel) → channel_of e.channels c ≡ o → channel_starts e n c ps o ≡ Some (Makes x m) → Begun e n c ps x
-    at_channel None f i = absurd cc
-    at_channel (Some k) f i = at_pairs k f (paired k.active ps) refl i
-
--- the processes are the first ones of the event's parts
-pair_places : (rs : List NameId) (ps : List ℕ) (qs : List (NameId × ℕ)) → paired rs ps ≡ Some qs → map (λ q. q.1) qs ≡ ps
-pair_places [] [] qs h = let e : [] ≡ qs = cc in ap (map (λ q. q.1)) (sym e)
-pair_places (r ∷ rs) (p ∷ ps) qs h = go (λ xs f. pair_places rs ps xs f) (paired rs ps) refl h
-  where
-    go : ((xs : List (NameId × ℕ)) → paired rs ps ≡ Some xs → map (λ q. q.1) xs ≡ ps) → (o : Option (List (NameId × ℕ))) → paired rs ps ≡ o → one_pair r p o ≡ Some qs → map (λ q. q.1) qs ≡ p ∷ ps
-    go again None f g = absurd cc
-    go again (Some xs) f g = let e : (r, p) ∷ xs ≡ qs = cc in let i : map (λ q. q.1) xs ≡ ps = again xs f in ap (map (λ q. q.1)) (sym e) ∙ ap (λ z. p ∷ z) i
-pair_places [] (p ∷ ps) qs h = absurd cc
-pair_places (r ∷ rs) [] qs h = absurd cc
-
 started_one : (e : Endpoints) (n : NetworkState) (c c' : NameId) (ps ps' : List ℕ) (x : Event) (m m' : NetworkState) → starts e n c ps ≡ Some (Makes x m) → starts e n c' ps' ≡ Some (Makes x m') → m ≡ m'
 started_one e n c c' ps ps' x m m' h g =
-    let b : Begun e n c ps x = begun_as e n c ps x m h in
-    let b' : Begun e n c' ps' x = begun_as e n c' ps' x m' g in
-    let s : event.Start c n.sid (b.parts ++ served_parts b.channel.serve (length n.machines)) ≡ event.Start c' n.sid (b'.parts ++ served_parts b'.channel.serve (length n.machines)) = sym b.is ∙ b'.is in
+    let b : Begun e n c ps x m = begun_as e n c ps x m h in
+    let b' : Begun e n c' ps' x m' = begun_as e n c' ps' x m' g in
+    let s : event.Start c n.sid (b.parts ++ served_parts b.channel.serve (length n.machines)) ≡ event.Start c' n.sid (b'.parts ++ served_parts b'.channel.serve (length n.machines)) = sym b.event_is ∙ b'.event_is in
     let same_name : c ≡ c' = cc in
     let found : Some b.channel ≡ Some b'.channel = sym b.found ∙ ap (channel_of e.channels) same_name ∙ b'.found in
     let same_channel : b.channel ≡ b'.channel = cc in
     let parts : b.parts ++ served_parts b.channel.serve (length n.machines) ≡ b'.parts ++ served_parts b'.channel.serve (length n.machines) = cc in
     let parts' : b.parts ++ served_parts b.channel.serve (length n.machines) ≡ b'.parts ++ served_parts b.channel.serve (length n.machines) = parts ∙ ap (λ (k : Channel). b'.parts ++ served_parts k.serve (length n.machines)) (sym same_channel) in
     let same_parts : b.parts ≡ b'.parts = append_cancel_right b.parts b'.parts (served_parts b.channel.serve (length n.machines)) parts' in
-    let same_places : ps ≡ ps' = sym (pair_places b.channel.active ps b.parts b.paired_as) ∙ ap (map (λ q. q.1)) same_parts ∙ pair_places b'.channel.active ps' b'.parts b'.paired_as in
+    let same_places : ps ≡ ps' = sym (pair_places b.channel.active ps b.parts b.pairs) ∙ ap (map (λ q. q.1)) same_parts ∙ pair_places b'.channel.active ps' b'.parts b'.pairs in
     one_made h (subst (λ (z : NameId). starts e n z ps ≡ Some (Makes x m')) (sym same_name) (subst (λ (z : List ℕ). starts e n c' z ≡ Some (Makes x m')) (sym same_places) g))
 
 -- an event is either a start or made by one process
 not_both : (e : Endpoints) (cap : Option ℕ) (n : NetworkState) (p : ℕ) (v : ℤ) (c : NameId) (ps : List ℕ) (x : Event) (m m' : NetworkState) → makes e cap n p v ≡ Some (Makes x m) → starts e n c ps ≡ Some (Makes x m') → ⊥
 not_both e cap n p v c ps x m m' h g =
-    let b : Begun e n c ps x = begun_as e n c ps x m' g in
+    let b : Begun e n c ps x m' = begun_as e n c ps x m' g in
     let i : by_of x ≡ Some p = made_by e cap n p v x m h in
-    let j : by_of x ≡ None = ap by_of b.is in cc
+    let j : by_of x ≡ None = ap by_of b.event_is in cc
 
 -- A state of a network and an event have one next state at most
 pub next_one : (e : Endpoints) (hosts : Hosts) (cap : Option ℕ) (n m m' : NetworkState) (x : Event) → NetworkSteps e hosts cap n x m → NetworkSteps e hosts cap n x m' → m ≡ m'

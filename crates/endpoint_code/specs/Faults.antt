@@ -1,6 +1,6 @@
 -- What an endpoint program must keep so that its network always knows what a name stands for (rules E2 and E3).
 use Rattle.std.specs.Prelude.{ℕ, ◌≡◌, ◌==◌, ◌&&◌, ◌||◌, Bool, true, false, List, [], ◌∷◌, ◌++◌, length, map, Option, Some, if◌then◌else◌, All, is_some, bytes_eq}
-use Rattle.std.specs.List.{list_any}
+use Rattle.std.specs.List.{list_any, AllByRecursion}
 use Rattle.chor_base.specs.declared.names.NameId.{NameId}
 use Rattle.chor_base.specs.Writing.{name_in}
 use Rattle.chor_base.specs.Meaning.{Hosts, meaning_named}
@@ -11,7 +11,9 @@ use Rattle.endpoint_code.specs.declared.endpoints.Channel.{Channel}
 use Rattle.endpoint_code.specs.declared.endpoints.Procedure.{Procedure}
 use Rattle.endpoint_code.specs.declared.endpoints.ServiceCode.{ServiceCode}
 use Rattle.endpoint_code.specs.declared.endpoints.Endpoints.{Endpoints}
+use Rattle.endpoint_code.specs.Asked.{AsksTree}
 use Rattle.endpoint_code.specs.Network.{node_at, channel_of, procedure_of}
+use Rattle.endpoint_code.specs.Trees.{code_at}
 
 -- ---- names
 
@@ -137,9 +139,15 @@ abbrev pub asks_known : (NameId → Bool) → CodeNode → Bool
 asks_known known (Host x f a b next) = known f
 asks_known known _ = true
 
--- No fault of E2 of host functions, of which these are known: the code asks no other
-abbrev pub AsksKnown : (NameId → Bool) → Endpoints → Type 0
-AsksKnown known e = All (λ n. asks_known known n ≡ true) e.code.nodes
+-- No fault of E2 of host functions, of which these are known: the bodies ask no other. Of nodes that are in no body nothing is said
+pub record AsksKnown (known : NameId → Bool) (e : Endpoints) : Type 0 where
+  pub procedures : AllByRecursion (λ q. AsksTree known (code_at e.code.nodes q.body)) e.procedures
+  pub services : AllByRecursion (λ s. AsksTree known (code_at e.code.nodes s.body)) e.services
+  pub processes : AllByRecursion (λ p. AsksTree known (code_at e.code.nodes p.body)) e.processes
+
+-- the whole table asks no other, nodes that are in no body among them
+abbrev pub TableAsksKnown : (NameId → Bool) → Endpoints → Type 0
+TableAsksKnown known e = All (λ n. asks_known known n ≡ true) e.code.nodes
 
 -- An endpoint program without a fault, where the host functions have these names
 pub record IsFaultlessWith (words : List (List ℕ)) (e : Endpoints) : Type 0 where

@@ -4,6 +4,8 @@ pub mod Kept
 pub mod Network
 pub mod NetworkRuns
 pub mod Scheduled
+pub mod Asked
+pub mod InBodies
 pub mod Faults
 pub mod Trees
 pub mod Above
@@ -11,4 +13,5 @@ pub mod Labels
 pub mod Heads
 pub mod LeastAbove
 pub mod Covers
+pub mod AboveUnits
 pub mod SameState

@@ -9,7 +9,7 @@ use Rattle.endpoint_code.specs.Trees.{CodeTree, Does, Offers, Tests, Calls, Ends
 use Rattle.endpoint_names.proofs.Keys.{number_turned}
 use Rattle.endpoint_text.specs.Ascending.{is_before}
 use Rattle.merged_codes.specs.Scoped.{bound_after, IsScopedTree, AreScopedArms}
-use Rattle.merged_codes.specs.Asked.{AsksTree, AsksArms}
+use Rattle.endpoint_code.specs.Asked.{AsksTree, AsksArms}
 use Rattle.endpoint_laws.proofs.Backward.{IsFine}
 use Rattle.endpoint_laws.specs.Ordered.{with_arm, in_order, arms_in_order}
 

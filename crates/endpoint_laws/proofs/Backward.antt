@@ -1,6 +1,6 @@
 -- Code that uses its session names well is written without a fault.
 use Rattle.std.proofs.Common.{◌≡◌, ◌==◌, ◌&&◌, ◌||◌, ℕ, Bool, true, false, not, List, [], ◌∷◌, ◌++◌, length, map, refl, ap, sym, ◌∙◌, subst, Some, None, is_some}
-use Rattle.std.specs.Prelude.{Option, if◌then◌else◌}
+use Rattle.std.specs.Prelude.{Option, if◌then◌else◌, slice_index_or}
 use Rattle.std.specs.List.{flat_map}
 use Rattle.std.proofs.lemmas.List.{length-map}
 use Rattle.std.proofs.lemmas.Option.{slice_get_within, get_or_from_slice_get}
@@ -15,10 +15,11 @@ use Rattle.endpoint_reader.specs.declared.written.Procedure.{Procedure}
 use Rattle.endpoint_reader.specs.declared.written.Written.{Written}
 use Rattle.endpoint_code.specs.declared.code.CodeId.{CodeId}
 use Rattle.endpoint_code.specs.declared.code.CodeNode.{CodeNode}
+use Rattle.endpoint_code.specs.declared.code.CodeNode.TheVariants as node
 use Rattle.endpoint_code.specs.declared.endpoints.Channel.{Channel as CodeChannel}
 use Rattle.endpoint_code.specs.declared.endpoints.Procedure.{Procedure as CodeProcedure}
 use Rattle.endpoint_code.specs.declared.endpoints.Endpoints.{Endpoints}
-use Rattle.endpoint_code.specs.Faults.{is_among, AreDistinct, one_more, all_among, asks_known, AsksKnown, IsScoped, joins, sends, receives, picks, offers, gives, gains, sets, shows, asks, tests, calls, ends, AllScoped, no_arm, one_arm}
+use Rattle.endpoint_code.specs.Faults.{is_among, AreDistinct, one_more, all_among, asks_known, TableAsksKnown, IsScoped, joins, sends, receives, picks, offers, gives, gains, sets, shows, asks, tests, calls, ends, AllScoped, no_arm, one_arm}
 use Rattle.endpoint_code.specs.Labels.{has_label, HasDistinctLabels, AreDistinctArms}
 use Rattle.endpoint_code.specs.Network as network
 use Rattle.endpoint_code.specs.Trees.{CodeTree, Arms, arms_in, trees_of, code_at}
@@ -27,7 +28,7 @@ use Rattle.merged_codes.specs.Scoped.{IsScopedAction, IsScopedTree, AreScopedArm
 use Rattle.endpoint_names.specs.Keys.{alone, both, same_key, sign_of_name, sign_of_channel, sign_of_procedure, first_by}
 use Rattle.endpoint_names.specs.Bodies as body
 use Rattle.endpoint_names.specs.Faults.{fault_at, names_in, repeated, channel_of, procedure_of, unknown_channel, inactive, unbound, bound_again, bound_after, wrong_call, setting, action_faults, call_faults, body_faults, arms_faults}
-use Rattle.merged_codes.specs.Asked.{asks_so, AsksTree, AsksArms}
+use Rattle.endpoint_code.specs.Asked.{asks_so, AsksTree, AsksArms}
 use Rattle.endpoint_names.proofs.Keys.{number_turned, left_true, right_true}
 use Rattle.endpoint_making.specs.Codes.{code_id, action_of, code_of, arms_of}
 use Rattle.endpoint_making.specs.Making.{channel_made, procedure_made, IsMadeOf}
@@ -52,7 +53,7 @@ label_in ts l (arm ∷ arms) = ap (λ b. (l.0 == arm.0.0) || b) (label_in ts l a
 
 -- ---- from the table to its trees
 
-module _ (known : NameId → Bool) (e : Endpoints) (asked : AsksKnown known e) where
+module _ (known : NameId → Bool) (e : Endpoints) (asked : TableAsksKnown known e) where
   abbrev ts : List CodeTree
   ts = trees_of e.code.nodes
 
@@ -125,6 +126,25 @@ labels_once : (arms : body.Arms) → AreDistinctArms (arms_of arms) → AreOnce 
 labels_once body.NoArms d = tt
 labels_once (body.Arm l b others) d = (sym (label_known l.name others) ∙ d.0, labels_once others d.2)
 
+-- every function is known to who knows all
+any_node : (n : CodeNode) → asks_known (λ x. true) n ≡ true
+any_node (node.Join c r k next) = refl
+any_node (node.Send k b x next) = refl
+any_node (node.Recv k a x next) = refl
+any_node (node.Pick k b l next) = refl
+any_node (node.Branch k a arms) = refl
+any_node (node.Throw k b g next) = refl
+any_node (node.Catch k a g next) = refl
+any_node (node.Set x v next) = refl
+any_node (node.Show v next) = refl
+any_node (node.Host x f v u next) = refl
+any_node (node.If v first second) = refl
+any_node (node.Call f p ss) = refl
+any_node node.End = refl
+
+pub any_known : (e : Endpoints) → TableAsksKnown (λ x. true) e
+any_known e k d lt = any_node (slice_index_or e.code.nodes k d)
+
 -- ---- from trees to faults
 
 module _ (w : Written) (names texts hosts : List (List ℕ)) (e : Endpoints) (made : IsMadeOf w names texts e) where
@@ -192,10 +212,11 @@ module _ (w : Written) (names texts hosts : List (List ℕ)) (e : Endpoints) (ma
     arms_back bs (body.Arm l b others) s d k =
         two_nothings (body_faults (setting w names hosts) bs b) (arms_faults (setting w names hosts) bs others) (body_back bs b s.0 d.1 k.0) (arms_back bs others s.1 d.2 k.1)
 
-  pub written_scoped : AsksKnown (setting w names hosts).is_function e → (id : LineId) (bs : List NameId) → IsScoped e (code_id id) bs
+  pub written_scoped : (id : LineId) (bs : List NameId) → IsScoped e (code_id id) bs → AsksTree (setting w names hosts).is_function (code_at e.code.nodes (code_id id))
       → body_faults (setting w names hosts) bs (body.body_at w.lines.items id) ≡ []
-  written_scoped asked id bs d =
+  written_scoped id bs d known =
       let same = code_same w names texts hosts e made id in
+      let there = tree_fine (λ x. true) e (any_known e) d in
       let f : IsFine (setting w names hosts).is_function e bs (code_of (body.body_at w.lines.items id)) =
-      subst (λ t. IsFine (setting w names hosts).is_function e bs t) same (tree_fine (setting w names hosts).is_function e asked d) in
+      subst (λ t. IsFine (setting w names hosts).is_function e bs t) same (record { scoped = there.scoped; distinct = there.distinct; asks = known }) in
       body_back bs (body.body_at w.lines.items id) f.scoped f.distinct f.asks

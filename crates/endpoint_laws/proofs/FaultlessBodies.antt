@@ -26,7 +26,7 @@ use Rattle.endpoint_names.proofs.Keys.{left_true, right_true}
 use Rattle.endpoint_laws.specs.Reading.{written_body, written_arms}
 use Rattle.endpoint_laws.proofs.Lists.{two_nothings, faultless, faultless_so, count_same}
 use Rattle.endpoint_laws.proofs.Once.{not_again, names_distinct}
-use Rattle.merged_codes.specs.Asked.{asks_so}
+use Rattle.endpoint_code.specs.Asked.{asks_so}
 use Rattle.endpoint_laws.proofs.Backward.{IsFine, AreFine}
 use Rattle.endpoint_laws.specs.Spelled.{IsNamed, AreNamed, IsActionSpelled, IsCodeSpelled, AreArmsSpelled}
 use Rattle.endpoint_laws.specs.Says.{Names, AllName, DeedSays, joins, sends, receives, selects, gives, gains, sets, shows, asks, BodySays, does, offers, tests, calls, ends, ArmsSay, no_arm, one_arm}

@@ -4,7 +4,7 @@ use Rattle.std.specs.Prelude.{All, bytes_eq, slice_index_or}
 use Rattle.std.specs.List.{flat_map, list_any}
 use Rattle.std.proofs.lemmas.List.{map-append}
 use Rattle.std.proofs.lemmas.Simd.{map-map}
-use Rattle.std.proofs.lemmas.List.Elements.{All-nil, All-cons, All-head, All-tail}
+use Rattle.std.proofs.lemmas.List.Elements.{All-nil, All-cons, All-head, All-tail, All-from_recursion}
 use Rattle.std.proofs.lemmas.Option.{slice_get-get_or}
 use Rattle.chor_base.specs.declared.names.NameId.{NameId}
 use Rattle.chor_base.specs.Writing.{name_in}
@@ -13,12 +13,14 @@ use Rattle.endpoint_reader.specs.declared.written.Channel.{Channel}
 use Rattle.endpoint_reader.specs.declared.written.Procedure.{Procedure}
 use Rattle.endpoint_reader.specs.declared.written.Service.{Service}
 use Rattle.endpoint_reader.specs.declared.written.Written.{Written}
+use Rattle.endpoint_code.specs.declared.code.CodeId.{CodeId}
 use Rattle.endpoint_code.specs.declared.code.CodeNode.{CodeNode}
 use Rattle.endpoint_code.specs.declared.code.CodeNode.TheVariants as node
 use Rattle.endpoint_code.specs.declared.endpoints.Endpoints.{Endpoints}
+use Rattle.endpoint_code.specs.Asked.{AsksTree}
 use Rattle.endpoint_code.specs.Faults as code
 use Rattle.endpoint_code.specs.Network.{node_at}
-use Rattle.endpoint_code.specs.Trees.{CodeTree, node_tree, trees_of}
+use Rattle.endpoint_code.specs.Trees.{CodeTree, node_tree, trees_of, code_at}
 use Rattle.endpoint_code.proofs.CodeTables.{code_at-node}
 use Rattle.endpoint_names.specs.Keys.{both, is_known, sign_of_name, sign_of_channel, sign_of_procedure, sign_of_service, sign_of_process, keys_of}
 use Rattle.endpoint_names.specs.Bodies.{Body, Does, Offers, Tests, Calls, Ends, body_at}
@@ -83,8 +85,12 @@ module _ (w : Written) (names texts hosts : List (List ℕ)) (e : Endpoints) (ma
       two_nothings (unknown_channel w v.channel) (unserved (channel_of w v.channel.name) v.role) (ap (λ o. fault_at (not (is_some o)) v.channel.place) x.1)
       (ap (λ o. unserved o v.role) x.1 ∙ faultless_so (code.is_among v.role.name (names_in x.0.roles.serve)) v.role.place listed)
 
-  body_fine : (id : LineId) (bs : List NameId) → code.IsScoped e (code_id id) bs → body_faults (setting w names hosts) bs (body_at w.lines.items id) ≡ []
-  body_fine id bs d = written_scoped w names texts hosts e made asked id bs d
+  -- the code at a number asks known functions alone
+  abbrev AsksThere : CodeId → Type 0
+  AsksThere id = AsksTree (setting w names hosts).is_function (code_at e.code.nodes id)
+
+  body_fine : (id : LineId) (bs : List NameId) → code.IsScoped e (code_id id) bs → AsksThere (code_id id) → body_faults (setting w names hosts) bs (body_at w.lines.items id) ≡ []
+  body_fine id bs d k = written_scoped w names texts hosts e made id bs d k
 
   opens_fine : (p : Procedure) → p.body.0 < length w.lines.items → code.begins_with_call (node_at e (code_id p.body)) ≡ false → opening_faults (body_at w.lines.items p.body) ≡ []
   opens_fine p lt b =
@@ -109,30 +115,33 @@ module _ (w : Written) (names texts hosts : List (List ℕ)) (e : Endpoints) (ma
   procedures_fine =
       let sessions = of_made (λ q. code.AreDistinct q.sessions) procedure_made w.procedures e.procedures made.procedures h.sessions in
       let bodies = of_made (λ q. code.IsScoped e q.body q.sessions) procedure_made w.procedures e.procedures made.procedures h.procedure_bodies in
+      let asks = of_made (λ q. AsksThere q.body) procedure_made w.procedures e.procedures made.procedures (All-from_recursion (λ q. AsksThere q.body) e.procedures asked.procedures) in
       two_nothings (repeated [] (map sign_of_procedure w.procedures)) (flat_map (procedure_faults (setting w names hosts)) w.procedures)
       (units_apart w.procedures (subst code.AreApart made.procedures h.procedures))
       (all_nothings (procedure_faults (setting w names hosts)) w.procedures (λ i d lt.
       let p = slice_index_or w.procedures i d in
       two_nothings (repeated [] (map sign_of_name p.signature.sessions)) (body_faults (setting w names hosts) (names_in p.signature.sessions) (body_at w.lines.items p.body))
-      (names_distinct (λ x. x) p.signature.sessions (sessions i d lt)) (body_fine p.body (names_in p.signature.sessions) (bodies i d lt))))
+      (names_distinct (λ x. x) p.signature.sessions (sessions i d lt)) (body_fine p.body (names_in p.signature.sessions) (bodies i d lt) (asks i d lt))))
 
   services_fine : faults_of_services (setting w names hosts) ≡ []
   services_fine =
       let served = of_made (code.IsServed e) service_made w.services e.services made.services h.served in
       let bodies = of_made (λ v. code.IsScoped e v.body (v.channel ∷ [])) service_made w.services e.services made.services h.service_bodies in
+      let asks = of_made (λ v. AsksThere v.body) service_made w.services e.services made.services (All-from_recursion (λ v. AsksThere v.body) e.services asked.services) in
       two_nothings (repeated [] (map sign_of_service w.services)) (flat_map (service_faults (setting w names hosts)) w.services)
       (services_single w.services (subst code.AreSingle made.services h.services))
       (all_nothings (service_faults (setting w names hosts)) w.services (λ i d lt.
       let v = slice_index_or w.services i d in
       two_nothings (unknown_channel w v.channel ++ unserved (channel_of w v.channel.name) v.role) (body_faults (setting w names hosts) (v.channel.name ∷ []) (body_at w.lines.items v.body))
-      (served_fine v (served i d lt)) (body_fine v.body (v.channel.name ∷ []) (bodies i d lt))))
+      (served_fine v (served i d lt)) (body_fine v.body (v.channel.name ∷ []) (bodies i d lt) (asks i d lt))))
 
   processes_fine : faults_of_processes (setting w names hosts) ≡ []
   processes_fine =
       let bodies = of_made (λ p. code.IsScoped e p.body []) process_made w.processes e.processes made.processes h.process_bodies in
+      let asks = of_made (λ p. AsksThere p.body) process_made w.processes e.processes made.processes (All-from_recursion (λ p. AsksThere p.body) e.processes asked.processes) in
       two_nothings (repeated [] (map sign_of_process w.processes)) (flat_map (process_faults (setting w names hosts)) w.processes)
       (names_distinct (λ p. p.name) w.processes (names_of_made process_made (λ p. p.name) w.processes e.processes made.processes h.processes))
-      (all_nothings (process_faults (setting w names hosts)) w.processes (λ i d lt. body_fine (slice_index_or w.processes i d).body [] (bodies i d lt)))
+      (all_nothings (process_faults (setting w names hosts)) w.processes (λ i d lt. body_fine (slice_index_or w.processes i d).body [] (bodies i d lt) (asks i d lt)))
 
   names_fine : name_faults (setting w names hosts) ≡ []
   names_fine =
@@ -150,5 +159,5 @@ module _ (w : Written) (names texts hosts : List (List ℕ)) (e : Endpoints) (ma
 pub faultless_is_made : (w : Written) (names texts hosts : List (List ℕ)) (e : Endpoints) → IsMadeOf w names texts e → code.IsFaultlessWith hosts e → IsFaultless (setting w names hosts)
 faultless_is_made w names texts hosts e made f =
     let asked : code.AsksKnown (setting w names hosts).is_function e =
-    subst (λ ns. All (λ n. code.asks_known (λ x. list_any (bytes_eq (name_in ns x)) hosts) n ≡ true) e.code.nodes) made.names_are f.hosts in
+    subst (λ ns. code.AsksKnown (λ x. list_any (bytes_eq (name_in ns x)) hosts) e) made.names_are f.hosts in
     record { names = names_fine w names texts hosts e made f.faultless.names asked; begins = begins_fine w names texts hosts e made f.faultless.names asked f.faultless.calls }

@@ -1,7 +1,7 @@
 -- The text of programs without a fault violates no rule of endpoint files.
 use Rattle.std.proofs.Common.{◌≡◌, ℕ, Bool, true, false, not, List, [], ◌∷◌, ◌++◌, map, is_some, refl, sym, ap, ◌∙◌, subst, arith, inl, inr}
 use Rattle.std.specs.List.{flat_map, AllByRecursion}
-use Rattle.merged_codes.specs.Asked.{AsksTree, BodiesAskKnown}
+use Rattle.endpoint_code.specs.Asked.{AsksTree}
 use Rattle.chor_base.specs.declared.names.NameId.{NameId}
 use Rattle.chor_base.specs.Words.{AllDistinct}
 use Rattle.endpoint_reader.specs.declared.input.Input.{Input}
@@ -14,7 +14,7 @@ use Rattle.endpoint_code.specs.declared.endpoints.Channel.{Channel as CodeChanne
 use Rattle.endpoint_code.specs.declared.endpoints.Procedure.{Procedure as CodeProcedure}
 use Rattle.endpoint_code.specs.declared.endpoints.ServiceCode.{ServiceCode}
 use Rattle.endpoint_code.specs.declared.endpoints.Endpoints.{Endpoints}
-use Rattle.endpoint_code.specs.Faults.{is_among, AreDistinct, all_among, is_listed}
+use Rattle.endpoint_code.specs.Faults.{is_among, AreDistinct, all_among, AsksKnown, is_listed}
 use Rattle.endpoint_code.specs.Network as network
 use Rattle.endpoint_code.specs.Trees.{Action, CodeTree, Arms}
 use Rattle.endpoint_code.specs.Trees as tree
@@ -36,13 +36,11 @@ use Rattle.chor_base.specs.declared.fault.Fault.{Fault}
 use Rattle.endpoint_reader.specs.declared.lines.LineId.{LineId}
 use Rattle.endpoint_reader.specs.Files.{units_written}
 use Rattle.endpoint_code.specs.declared.code.CodeId.{CodeId}
-use Rattle.endpoint_code.specs.declared.code.CodeNode.{CodeNode}
-use Rattle.endpoint_code.specs.declared.code.CodeNode.TheVariants as node
 use Rattle.endpoint_code.specs.Faults as code
 use Rattle.endpoint_code.proofs.CodeTables.{code_at-node}
 use Rattle.endpoint_names.specs.Class.{IsFaultless, opening_faults, begin_faults, IsBroken}
 use Rattle.endpoint_names.specs.Faults as fault
-use Rattle.endpoint_laws.proofs.Backward.{IsFine, tree_fine}
+use Rattle.endpoint_laws.proofs.Backward.{IsFine, any_known, tree_fine}
 use Rattle.endpoint_laws.specs.Ordered.{in_order}
 use Rattle.endpoint_laws.proofs.AskedOrdering.{fine_ordered}
 use Rattle.endpoint_laws.proofs.PrintedFaults.{IsSame, AreSame, ChannelSame, ProcedureSame, ServiceSame, ProcessSame, CodeSaid, UnitsSame, among, channel_found}
@@ -60,32 +58,13 @@ use Rattle.endpoint_laws.specs.PrintedLaws.{AreWritable}
 use Rattle.endpoint_laws.proofs.PrintedUnits.{units_say_them, tokens_are_taken}
 use Rattle.endpoint_laws.proofs.FaultlessUnits.{no_faults, units_same, channel_names, process_names, apart, service_there, single}
 
--- every function is known to who knows all
-any_node : (n : CodeNode) → code.asks_known (λ x. true) n ≡ true
-any_node (node.Join c r k next) = refl
-any_node (node.Send k b x next) = refl
-any_node (node.Recv k a x next) = refl
-any_node (node.Pick k b l next) = refl
-any_node (node.Branch k a arms) = refl
-any_node (node.Throw k b g next) = refl
-any_node (node.Catch k a g next) = refl
-any_node (node.Set x v next) = refl
-any_node (node.Show v next) = refl
-any_node (node.Host x f v u next) = refl
-any_node (node.If v first second) = refl
-any_node (node.Call f p ss) = refl
-any_node node.End = refl
-
-any_known : (e : Endpoints) → code.AsksKnown (λ x. true) e
-any_known e k d lt = any_node (slice_index_or e.code.nodes k d)
-
 -- what holds of each element and what holds of each by recursion hold together
 together : {X : Type 0} (P Q : X → Type 0) (xs : List X) → All P xs → AllByRecursion Q xs → All (λ x. P x × Q x) xs
 together P Q xs h g = let q = All-from_recursion Q xs g in λ k d lt. (h k d lt, q k d lt)
 
 -- ---- names
 
-module _ (words : List (List ℕ)) (e : Endpoints) (i : Input) (w : Written) (dn : AllDistinct e.names) (dm : AllDistinct i.names.now) (same : UnitsSame e i w) (fine : code.IsFaultless e) (asks : BodiesAskKnown words e) where
+module _ (words : List (List ℕ)) (e : Endpoints) (i : Input) (w : Written) (dn : AllDistinct e.names) (dm : AllDistinct i.names.now) (same : UnitsSame e i w) (fine : code.IsFaultless e) (asks : AsksKnown (is_listed words e) e) where
   abbrev here : Setting
   here = setting w i.names.now words
 
@@ -210,7 +189,7 @@ tokens_are e i h = subst (IsTokens (endpoints_text e)) (sym (lexemes_are e i h))
 pub same_units : (e : Endpoints) (i : Input) (w : Written) → AreWritable e → IsInputOf (endpoints_text e) i → IsWritten (lexemes_of i) (units_written i w) → UnitsSame e i w
 same_units e i w h input written = units_same e i w h.spelled (units_say_them e (lexemes_of i) (units_written i w) h (tokens_are e i input) written)
 
-pub units_are_faultless : (words : List (List ℕ)) (e : Endpoints) (i : Input) (w : Written) → AreWritable e → code.IsFaultless e → BodiesAskKnown words e → IsInputOf (endpoints_text e) i → IsWritten (lexemes_of i) (units_written i w) → IsFaultless (setting w i.names.now words)
+pub units_are_faultless : (words : List (List ℕ)) (e : Endpoints) (i : Input) (w : Written) → AreWritable e → code.IsFaultless e → AsksKnown (is_listed words e) e → IsInputOf (endpoints_text e) i → IsWritten (lexemes_of i) (units_written i w) → IsFaultless (setting w i.names.now words)
 units_are_faultless words e i w h fine asks input written = is_faultless words e i w h.names (distinct_names input) (same_units e i w h input written) fine asks
 
 -- what has no fault isn't refused for one
@@ -222,7 +201,7 @@ unbroken : (s : Setting) (r : Refusal) → IsFaultless s → IsBroken s (Refused
 unbroken s r f (inl h) = nothing_there (name_faults s) (told r.rule r.place) f.names h.0.0
 unbroken s r f (inr h) = nothing_there (begin_faults s.written) (told r.rule r.place) f.begins h.1.0.0
 
-pub text_is_taken : (words : List (List ℕ)) (e : Endpoints) (r : Refusal) → AreWritable e → code.IsFaultless e → BodiesAskKnown words e → ViolatesPrograms words (endpoints_text e) r → ⊥
+pub text_is_taken : (words : List (List ℕ)) (e : Endpoints) (r : Refusal) → AreWritable e → code.IsFaultless e → AsksKnown (is_listed words e) e → ViolatesPrograms words (endpoints_text e) r → ⊥
 text_is_taken words e r h fine asks (unread refused nobody) = is_taken e r.rule r.place h.spelled refused
 text_is_taken words e r h fine asks (broken i input (grammar refused)) = tokens_are_taken e (lexemes_of i) r h (tokens_are e i input) refused
 text_is_taken words e r h fine asks (broken i input (names w written told)) = unbroken (setting w i.names.now words) r (units_are_faultless words e i w h fine asks input written) told

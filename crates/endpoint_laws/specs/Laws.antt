@@ -1,13 +1,7 @@
 -- What holds of the endpoint programs that are written, and of all bytes as endpoint files (this project's own).
-use Rattle.std.specs.Prelude.{ℕ, ◌≡◌, ◌<◌, List, length, Some, Contains, slice_get}
+use Rattle.std.specs.Prelude.{ℕ, ◌≡◌, List}
 use Rattle.endpoint_grammar.specs.Written.{Units}
-use Rattle.endpoint_reader.specs.declared.lines.LineId.{LineId}
-use Rattle.endpoint_reader.specs.declared.lines.Line.{Line}
-use Rattle.endpoint_reader.specs.declared.written.Procedure.{Procedure}
-use Rattle.endpoint_reader.specs.declared.written.Service.{Service}
-use Rattle.endpoint_reader.specs.declared.written.Process.{Process}
 use Rattle.endpoint_reader.specs.declared.written.Written.{Written}
-use Rattle.endpoint_reader.specs.Lines.{nexts_of}
 use Rattle.endpoint_reader.specs.Files.{units_written}
 use Rattle.endpoint_code.specs.declared.endpoints.Endpoints.{Endpoints}
 use Rattle.endpoint_code.specs.Faults.{IsFaultless as IsFaultlessCode, IsFaultlessWith, AsksKnown, is_listed}
@@ -22,21 +16,10 @@ MadeIsFaultless =
     (w : Written) (names texts hosts : List (List ℕ)) (e : Endpoints) → IsMadeOf w names texts e → IsFaultless (setting w names hosts)
     → IsFaultlessCode e
 
--- a line with which a unit's body begins, or that follows another
-pub data IsUsed (w : Written) (id : LineId) : Type 0 where
-  begins_procedure : {p : Procedure} → Contains w.procedures p → p.body ≡ id → IsUsed w id
-  begins_service : {v : Service} → Contains w.services v → v.body ≡ id → IsUsed w id
-  begins_process : {p : Process} → Contains w.processes p → p.body ≡ id → IsUsed w id
-  follows : (i : ℕ) {l : Line} → slice_get w.lines.items i ≡ Some l → Contains (nexts_of l) id → IsUsed w id
-
--- each line is: the table has no others
-abbrev pub AreUsed : Written → Type 0
-AreUsed w = (id : LineId) → id.0 < length w.lines.items → IsUsed w id
-
--- what is made of such units, where they have no fault of names and beginnings, asks no host function but these
+-- what is made of units that have no fault of names and beginnings asks no host function but these
 abbrev pub MadeAsksKnown : Type 0
 MadeAsksKnown =
-    (w : Written) (names texts hosts : List (List ℕ)) (e : Endpoints) → IsMadeOf w names texts e → AreUsed w → IsFaultless (setting w names hosts)
+    (w : Written) (names texts hosts : List (List ℕ)) (e : Endpoints) → IsMadeOf w names texts e → IsFaultless (setting w names hosts)
     → AsksKnown (is_listed hosts e) e
 
 -- and back: where what is made has no fault, the units have none

@@ -11,6 +11,7 @@ use Rattle.endpoint_code.specs.declared.code.CodeNode.{CodeNode}
 use Rattle.endpoint_code.specs.declared.code.CodeNode.TheVariants.{Join, Send, Recv, Pick, Branch, Throw, Catch, Set, Show, Host, If, Call, End}
 use Rattle.endpoint_code.specs.declared.endpoints.Endpoints.{Endpoints}
 use Rattle.endpoint_code.specs.Faults.{IsFaultlessWith, asks_known, is_listed}
+use Rattle.endpoint_code.proofs.Asking.{known_in_body}
 use Rattle.endpoint_code.specs.Kept.{node_there, has_name, has_text}
 use Rattle.endpoint_code.specs.Network.{Machine, NetworkState, Sessions, Place, Makes, place_makes, node_makes, PlaceAnswers, moved}
 use Rattle.endpoint_machine.specs.declared.head.Head.TheVariants as head
@@ -54,7 +55,7 @@ pub all_at : {X : Type 0} (P : X → Type 0) (xs : List X) (i : ℕ) (x : X) →
 all_at P xs i x all h = subst P (get_or_from_slice_get xs i x x h) (all i x (slice_get_within xs i x h))
 
 pub known_there : (words : List (List ℕ)) (e : Endpoints) (m : Machine) (node : CodeNode) (ss : Sessions) → IsFaultlessWith words e → StandsAt e m node ss → asks_known (is_listed words e) node ≡ true
-known_there words e m node ss f st = all_at (λ n. asks_known (is_listed words e) n ≡ true) e.code.nodes st.id.0 node f.hosts st.found
+known_there words e m node ss f st = known_in_body (is_listed words e) e f.hosts st.bound.in_body node st.found
 
 pub numbered_there : (e : Endpoints) (m : Machine) (node : CodeNode) (ss : Sessions) → StandsAt e m node ss → node_there (has_name e.names) (has_text e.texts) node ≡ true
 numbered_there e m node ss st = all_at (λ n. node_there (has_name e.names) (has_text e.texts) n ≡ true) e.code.nodes st.id.0 node e.numbered.in_nodes st.found

@@ -4,3 +4,4 @@ pub mod Goings
 pub mod Makings
 pub mod Actings
 pub mod Apart
+pub mod Crossing

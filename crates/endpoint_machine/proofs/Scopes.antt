@@ -1,6 +1,6 @@
 -- What the code at which a process stands tells.
 use Rattle.std.proofs.Common.{◌≡◌, ℕ, ◌<◌, ◌&&◌, ◌||◌, ◌==◌, Bool, true, false, cond, List, [], ◌∷◌, length, refl, sym, ap, ◌∙◌, subst, Option, Some, None, arith, is_some}
-use Rattle.std.specs.Prelude.{All}
+use Rattle.std.specs.Prelude.{All, Contains}
 use Rattle.std.specs.FinMap as fin
 use Rattle.std.specs.Ordering.{nat_cmp, eq_by_cmp}
 use Rattle.std.proofs.lemmas.Cmp.{nat_cmp_total}
@@ -9,6 +9,7 @@ use Rattle.std.proofs.lemmas.Option.{slice_get_within}
 use Rattle.std.proofs.lemmas.List.Elements.{All-head, All-tail}
 use Rattle.chor_base.specs.declared.names.NameId.{NameId}
 use Rattle.chor_base.specs.NameMap.{Variables}
+use Rattle.chor_base.proofs.Members.{at_head, at_tail}
 use Rattle.endpoint_code.specs.declared.code.CodeId.{CodeId}
 use Rattle.endpoint_code.specs.declared.code.CodeNode.{CodeNode}
 use Rattle.endpoint_code.specs.declared.code.CodeNode.TheVariants.{Join, Send, Recv, Pick, Branch, Throw, Catch, Set, Show, Host, If, Call, End}
@@ -16,6 +17,7 @@ use Rattle.endpoint_code.specs.declared.endpoints.Endpoints.{Endpoints}
 use Rattle.endpoint_code.specs.declared.endpoints.Procedure.{Procedure}
 use Rattle.endpoint_code.specs.Network.{Machine, Sessions, node_at, at_node, body_place, place_in, procedure_of, passed, passed_one}
 use Rattle.endpoint_code.specs.Faults.{IsFaultless, begins_with_call, IsScoped, AllScoped, IsActive, is_among, all_among, without, joins, sends, receives, picks, offers, gives, gains, sets, shows, asks, tests, calls, ends}
+use Rattle.endpoint_code.specs.InBodies.{of_procedure}
 use Rattle.endpoint_machine.specs.Bound.{AreBound, IsBound}
 use Rattle.endpoint_machine.specs.Acts.{is_call, knows_sessions}
 use Rattle.endpoint_machine.specs.Places.{StandsAt}
@@ -147,7 +149,7 @@ stands_plainly e m node bound found plain = record {
   id = m.at;
   place = ap (λ (n : Option CodeNode). place_in e n m.sessions) found ∙ plain_place e node m.sessions plain;
   found = found;
-  bound = record { names = bound.names; scoped = bound.scoped; bound = bound.bound };
+  bound = record { in_body = bound.in_body; names = bound.names; scoped = bound.scoped; bound = bound.bound };
   is_head = plain;
 }
 
@@ -158,6 +160,14 @@ procedure_all P (r ∷ qs) f p q all h = go ((r.name.0 == f.0) && (r.param.0 == 
     go : (t : Bool) → cond t (Some r) (procedure_of qs f p) ≡ Some q → (procedure_of qs f p ≡ Some q → P q) → P q
     go true i before = let same : r ≡ q = cc in subst P same (All-head P r qs all)
     go false i before = before i
+
+procedure_among : (qs : List Procedure) (f p : NameId) (q : Procedure) → procedure_of qs f p ≡ Some q → Contains qs q
+procedure_among [] f p q h = absurd cc
+procedure_among (r ∷ qs) f p q h = go ((r.name.0 == f.0) && (r.param.0 == p.0)) h (λ i. procedure_among qs f p q i)
+  where
+    go : (t : Bool) → cond t (Some r) (procedure_of qs f p) ≡ Some q → (procedure_of qs f p ≡ Some q → Contains qs q) → Contains (r ∷ qs) q
+    go true i before = let same : r ≡ q = cc in at_head r qs q same
+    go false i before = at_tail r qs q (before i)
 
 not_called : (node : CodeNode) → begins_with_call (Some node) ≡ false → is_call node ≡ false
 not_called (Join c r k next) h = refl
@@ -188,6 +198,7 @@ stands_beyond e m f p ss q node faultless bound found named there =
           ∙ ap (λ (n : Option CodeNode). at_node n (passed q.sessions ss m.sessions)) there;
       found = there;
       bound = record {
+        in_body = of_procedure (procedure_among e.procedures f p q named) refl;
         names = q.sessions;
         scoped = procedure_all (λ q. IsScoped e q.body q.sessions) e.procedures f p q faultless.names.procedure_bodies named;
         bound = bound_passed m.sessions bound.names q.sessions ss bound.bound even scoped.3;

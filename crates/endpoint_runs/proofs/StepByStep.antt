@@ -50,7 +50,7 @@ also_same P first now s x =
     (subst (λ (e : Endpoints). P e now.capacity now.state) s.endpoints x))
 
 same_twice : (first now new : NetworkView) → IsSame first now → IsSame now new → IsSame first new
-same_twice first now new a b = record { endpoints = b.endpoints ∙ a.endpoints; capacity = b.capacity ∙ a.capacity; state = b.state ∙ a.state; history = b.history ∙ a.history }
+same_twice first now new a b = record { endpoints = b.endpoints ∙ a.endpoints; capacity = b.capacity ∙ a.capacity; state = b.state ∙ a.state; history = b.history ∙ a.history; stopped = b.stopped ∙ a.stopped; room = λ p h. b.room p (a.room p h) }
 
 turned_at : (first now : NetworkView) (p : ℕ) (b : Bool) → Looks first now p → p < length first.state.machines → b ≡ ended_at first.endpoints first.state p
     → first_waiting first.endpoints first.capacity first.state ≡ cond b (first_waiting_from first.endpoints first.capacity first.state (p + 1) (drop (p + 1) first.state.machines)) (Some (p, why_at first.endpoints first.capacity first.state p))

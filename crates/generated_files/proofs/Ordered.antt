@@ -54,14 +54,14 @@ module _ (count : ℕ) (few : count ≤ 4000) (w : Bodies) (kept : IsKept count 
   abbrev told_with : List ℕ → Block → Block
   told_with l tail = Then beginning (tells (at count) l) tail
 
-  abbrev even_with : Block → Block
-  even_with tail = Then beginning (start_fork (at count)) (Either beginning (at count (codes "p")) (is_less (at count)) (told_with (codes "more") tail) (told_with (codes "less") tail))
+  abbrev even_with : ℕ → Block → Block
+  even_with i tail = Then beginning (start_fork (at count)) (Either beginning (at count (codes "p")) (is_less (at count) i) (told_with (codes "more") tail) (told_with (codes "less") tail))
 
   abbrev tail_of : Bool → ℕ → Block
   tail_of b j = if b then Ends beginning else call (at count) j
 
   abbrev round_with : Bool → ℕ → Block → Block
-  round_with odd i tail = if odd then odd_with i tail else even_with tail
+  round_with odd i tail = if odd then odd_with i tail else even_with i tail
 
   passed_in : (c odd last : Bool) (i : ℕ) → ArePassed (channel c) all_sets two (choreography_of (round_with odd i (tail_of last (suc i))))
   passed_in true true true i = tt

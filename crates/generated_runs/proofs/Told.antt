@@ -1,5 +1,5 @@
 -- What is printed of the run of a generated file.
-use Rattle.std.proofs.Common.{◌≡◌, ℕ, suc, List, [], ◌∷◌, length, refl, ap, ◌∙◌}
+use Rattle.std.proofs.Common.{◌≡◌, ℕ, suc, List, [], ◌∷◌, length, None, refl, sym, ap, ◌∙◌, subst, arith}
 use Rattle.std.specs.Prelude.{Result, Ok, Err, IfOk, IfErr}
 use Rattle.chor_base.specs.declared.rule.Denied.{Denied}
 use Rattle.chor_base.specs.declared.rule.Denied.TheVariants.{Refused, Memory}
@@ -11,14 +11,19 @@ use Rattle.source_check.specs.Source.{IsBroken}
 use Rattle.generated_files.specs.Laws.{GeneratedIsDeniedByMemory}
 use Rattle.chor_base.specs.declared.event.Event.{Event}
 use Rattle.chor_base.specs.declared.event.Entry.{Entry}
-use Rattle.chor_host.specs.Functions.{Function}
+use Rattle.chor_host.specs.Functions.{Function, hosts_in}
+use Rattle.endpoint_code.specs.Network.{NetworkState, first_state}
+use Rattle.endpoint_code.specs.NetworkRuns.{NetworkLeads}
+use Rattle.endpoint_code.proofs.Chosen.{scheduled_leads}
+use Rattle.net_core.proofs.Scopes.{length-standing_all}
 use Rattle.net_core.specs.Picks.{entries_of}
 use Rattle.simulation.specs.Accepted.{AcceptedView}
-use Rattle.simulation.specs.Runs.{IsOutcomeOf}
+use Rattle.simulation.specs.Runs.{IsOutcomeOf, close_of}
 use Rattle.simulation.specs.declared.running.Outcome.{Outcome}
 use Rattle.generated_files.specs.Generated.{IsGenerated}
 use Rattle.generated_runs.specs.Counts.{events_of, sessions_in, processes_after}
 use Rattle.generated_runs.specs.Texts.{summary_line, IsLineFor, IsSummary}
+use Rattle.generated_runs.proofs.LastStates.{leads_sessions, leads_processes}
 
 events_back : (h : List Event) → events_of (entries_of h) ≡ h
 events_back [] = refl
@@ -28,10 +33,19 @@ as_long : (h : List Event) → length (entries_of h) ≡ length h
 as_long [] = refl
 as_long (x ∷ xs) = ap suc (as_long xs)
 
-pub summary_is : (functions : List Function) (n : ℕ) (a : AcceptedView) (o : Outcome) (text : List ℕ) → IsGenerated a.typed.file n → IsOutcomeOf a functions 0 1000000 o → IsLineFor a.typed.file o.history n text → IsSummary functions n text
+pub summary_is : (functions : List Function) (n : ℕ) (a : AcceptedView) (o : Outcome) (text : List ℕ) → IsGenerated a.typed.file n → IsOutcomeOf a functions 0 1000000 o → IsLineFor a.endpoints o.history n text → IsSummary functions n text
 summary_is functions n a o text generated x is =
     let events : events_of o.history ≡ x.history = ap events_of x.entries_are ∙ events_back x.history in
     let long : length o.history ≡ length x.history = ap (λ (es : List Entry). length es) x.entries_are ∙ as_long x.history in
+    let from : first_state a.endpoints ≡ x.run.from = x.run.given_run in
+    let leads : NetworkLeads a.endpoints (hosts_in a.typed.file.names functions) None (first_state a.endpoints) x.history x.run.closed.last =
+    subst (λ (s : NetworkState). NetworkLeads a.endpoints (hosts_in a.typed.file.names functions) None s x.history x.run.closed.last) (sym from)
+    (scheduled_leads a.endpoints (hosts_in a.typed.file.names functions) None 0 1000000 x.history x.run.from x.run.closed.last 0 (close_of o.ended) x.run.scheduled) in
+    let sessions : x.run.closed.last.sid ≡ sessions_in x.history =
+    (let count = leads_sessions a.endpoints (hosts_in a.typed.file.names functions) None x.history (first_state a.endpoints) x.run.closed.last leads in omega arith) in
+    let processes : length x.run.closed.last.machines ≡ processes_after (length a.endpoints.processes) x.history =
+    leads_processes a.endpoints (hosts_in a.typed.file.names functions) None x.history (first_state a.endpoints) x.run.closed.last leads
+    ∙ ap (λ k. processes_after k x.history) (length-standing_all a.endpoints.processes) in
     record {
       file = a.typed.file;
       generated = generated;
@@ -39,7 +53,9 @@ summary_is functions n a o text generated x is =
       history = x.history;
       ended = o.ended;
       run = x.run;
-      text_is = is ∙ (λ i. summary_line n (long i) (sessions_in (events i)) (processes_after (length a.typed.file.processes) (events i)));
+      text_is =
+          is ∙ (λ i. summary_line n (long i) (sessions_in (events i)) (processes_after (length a.endpoints.processes) (events i)))
+          ∙ sym (λ i. summary_line n (length x.history) (sessions i) (processes i));
     }
 
 pub ok_so : {X E : Type 0} (P Q : X → Type 0) → ((x : X) → P x → Q x) → (r : Result X E) → IfOk r P → IfOk r Q

@@ -10,6 +10,7 @@ use crate::counts::{Counts, counts_of};
 use chor_base::{Denied, Memory, put_bytes, put_number};
 use chor_host::HostTable;
 use chor_tree::File;
+use endpoint_code::Endpoints;
 use generated_files::generate_faultless;
 use simulation::{Accepted, Outcome, accept, run_accepted};
 use std::alloc::Global;
@@ -45,16 +46,20 @@ fn summary_of(
     ensures { IfOk result (λ text. IsSummary (functions_of hosts.now) count text.items) }
 {
     let outcome = run_accepted(alloc, accepted, hosts, SEED, STEPS)?;
-    let file = accepted.typed().file();
-    line_for(alloc, file, &outcome, count)
+    line_for(alloc, accepted.endpoints(), &outcome, count)
 }
 
-// The line for the run of a file.
-fn line_for(alloc: Global, file: &File, outcome: &Outcome, count: u32) -> Result<Vec<u8>, Memory>
-    ensures { IfOk result (λ line. IsLineFor file.now outcome.now.history count line.items) }
+// The line for the run of endpoint programs.
+fn line_for(
+    alloc: Global,
+    endpoints: &Endpoints,
+    outcome: &Outcome,
+    count: u32,
+) -> Result<Vec<u8>, Memory>
+    ensures { IfOk result (λ line. IsLineFor endpoints.now outcome.now.history count line.items) }
 {
     let history = outcome.history.as_slice();
-    let counts = counts_of(history, file.processes.len() as u64);
+    let counts = counts_of(history, endpoints.processes.len() as u64);
     line_of(alloc, count, history.len() as u64, counts)
 }
 

@@ -1,2 +1,1 @@
 mod HostNames
-pub mod Asked

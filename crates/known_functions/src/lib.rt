@@ -1,8 +1,6 @@
-//! The names of host functions, and whether endpoint programs ask no other.
+//! The names of host functions.
 #![tactic(auto)]
 
-mod asking;
 mod names;
 
-pub use asking::asks_known;
 pub use names::host_names;

@@ -6,3 +6,4 @@ mod Faults
 mod Settled
 mod Groups
 mod Gathering
+mod Weights

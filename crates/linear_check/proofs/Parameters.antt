@@ -8,14 +8,14 @@ use Rattle.linearity.specs.declared.marks.Marks.{Marks}
 use Rattle.linear_check.specs.declared.sets.Parameter.{Parameter}
 use Rattle.linear_check.specs.Sets.{marked_in}
 
-same_name : (x y : NameId) → (x.0 == y.0) ≡ true → x ≡ y
+pub same_name : (x y : NameId) → (x.0 == y.0) ≡ true → x ≡ y
 same_name x y h = let e = eqb-true x.0 y.0 h in let name : ℕ → NameId = λ n. record { 0 = n } in ap name e
 
-left_true : (a b : Bool) → (a && b) ≡ true → a ≡ true
+pub left_true : (a b : Bool) → (a && b) ≡ true → a ≡ true
 left_true true b h = refl
 left_true false b h = absurd cc
 
-right_true : (a b : Bool) → (a && b) ≡ true → b ≡ true
+pub right_true : (a b : Bool) → (a && b) ≡ true → b ≡ true
 right_true true b h = h
 right_true false b h = absurd cc
 

@@ -3,6 +3,7 @@ pub mod Sets
 pub mod Tracks
 pub mod Starts
 pub mod Takes
+pub mod Weights
 pub mod Greatest
 pub mod Several
 pub mod Class

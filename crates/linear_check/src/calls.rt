@@ -1,11 +1,12 @@
 //! What a call takes away.
 
-ghost use Rattle.std.specs.Prelude.{ℕ, ◌≡◌, [], false, map, IfOk, OnOk};
+ghost use Rattle.std.specs.Prelude.{ℕ, ◌≡◌, ◌<◌, [], true, false, map, length, IfOk, OnOk};
 ghost use Rattle.chor_base.specs.declared.names.NameId.{NameId};
 ghost use Rattle.chor_tree.specs.Children.{children_of};
 ghost use Rattle.chor_tree.specs.Forms.{head_of};
 ghost use Rattle.linear_check.specs.Sets.{holds};
 ghost use Rattle.linear_check.specs.Takes.{TakesInCall, TakesAtTail};
+ghost use Rattle.linear_check.specs.Weights.{form_weight, IsLighterBelow, IsNoHeavier};
 
 use crate::heard::Heard;
 use crate::sets::{Parameter, Sets};
@@ -19,6 +20,8 @@ impl Heard {
         requires { children_of form.now ≡ [] }
         ensures taken { OnOk result (TakesAtTail self.now (head_of form.now) sets.old sets.new) }
         ensures same { IfOk result (λ changed. changed ≡ false → sets.new ≡ sets.old) }
+        ensures lighter { OnOk result (IsNoHeavier sets.new sets.old) }
+        ensures falls { IfOk result (λ changed. changed ≡ true → form_weight sets.new form.now < form_weight sets.old form.now) }
     {
         match form {
             Form::Call {
@@ -38,6 +41,8 @@ impl Heard {
     ) -> Result<bool, Memory>
         ensures taken { OnOk result (TakesInCall self.now procedure processes.now sets.old sets.new) }
         ensures same { IfOk result (λ changed. changed ≡ false → sets.new ≡ sets.old) }
+        ensures lighter { OnOk result (IsNoHeavier sets.new sets.old) }
+        ensures falls { IfOk result (λ changed. changed ≡ true → IsLighterBelow procedure (length processes.now) sets.new sets.old) }
     {
         let mut changed = false;
         for place in 0..processes.count() {

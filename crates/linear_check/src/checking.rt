@@ -17,7 +17,7 @@ use std::alloc::Global;
 ///
 /// The first start of which an active process need not have heard of the start before is refused
 /// by U2.
-pub fn check_ordered(alloc: Global, file: &File) -> Result<(), Denied>
+pub fn check_linear(alloc: Global, file: &File) -> Result<(), Denied>
     ensures ok { OnOk result (IsLinearFile file.now) }
     ensures refused { IfErr result (IsDenial (IsOrderFault file.now)) }
 {

@@ -15,7 +15,7 @@ use std::alloc::Global;
 /// Checks that a file is guarded and linear.
 ///
 /// The first of the calls that violate U1 and the starts that violate U2 is refused by its rule.
-pub fn check_linear(alloc: Global, file: &File) -> Result<(), Denied>
+pub fn check_linearity(alloc: Global, file: &File) -> Result<(), Denied>
     ensures guarded { OnOk result (IsGuarded file.now) }
     ensures linear { OnOk result (IsLinearFile file.now) }
     ensures refused { IfErr result (IsDenial (IsLinearityFault file.now)) }

@@ -1,7 +1,8 @@
 //! The greatest sets of the channels of a group, and the first unordered start under these.
 
-ghost use Rattle.std.specs.Prelude.{ℕ, ◌≡◌, ◌<◌, false, IfOk, OnOk};
+ghost use Rattle.std.specs.Prelude.{ℕ, ◌≡◌, true, false, IfOk, OnOk};
 ghost use Rattle.chor_base.specs.Faults.{IsFirst};
+ghost use Rattle.linear_check.specs.Weights.{IsLighter, IsNoHeavier};
 ghost use Rattle.linear_check.specs.Greatest.{HearsInSet, TakesIn, AreAllUpper, AreAllGreatest, IsUnorderedUnder};
 
 use crate::group::Group;
@@ -13,26 +14,26 @@ use std::alloc::Global;
 
 impl<'a> Group<'a> {
     // The greatest sets of these channels. Walks of all bodies take parameters away until a walk
-    // of all takes none. Every other walk goes backwards, so that it doesn't matter whether
-    // procedures call earlier or later ones.
+    // of all takes none, which comes to an end since there are so many to take. Every other walk
+    // goes backwards, so that it doesn't matter whether procedures call earlier or later ones.
     pub fn greatest_sets(&self, alloc: Global) -> Result<Sets, Memory>
         ensures { IfOk result (AreAllGreatest self.now.file.now self.now.channels.names.now) }
     {
         let mut sets = Sets::full(alloc);
-        for _ in 0..u64::MAX {
+        loop {
             let changed = self.take_in_all(alloc, &mut sets)?;
             if !changed {
                 return Ok(sets);
             }
             self.take_backwards(alloc, &mut sets)?;
         }
-        Err(Memory)
     }
 
     // One walk of all bodies, and whether it took a parameter away.
     fn take_in_all(&self, alloc: Global, sets: &mut Sets) -> Result<bool, Memory>
         ensures upper { let channels = self.now.channels.names.now in OnOk result (AreAllUpper self.now.file.now channels sets.old → AreAllUpper self.now.file.now channels sets.new) }
         ensures settled { let channels = self.now.channels.names.now in IfOk result (λ changed. changed ≡ false → AreAllUpper self.now.file.now channels sets.old → AreAllGreatest self.now.file.now channels sets.new) }
+        ensures falls { IfOk result (λ changed. changed ≡ true → IsLighter self.now.file.now.tree.nodes sets.new sets.old) }
     {
         let mut changed = false;
         for procedure in self.file.procs.as_slice() {
@@ -46,7 +47,8 @@ impl<'a> Group<'a> {
 
     // One walk of all procedures, the last one first.
     fn take_backwards(&self, alloc: Global, sets: &mut Sets) -> Result<(), Memory>
-        ensures { let channels = self.now.channels.names.now in OnOk result (AreAllUpper self.now.file.now channels sets.old → AreAllUpper self.now.file.now channels sets.new) }
+        ensures upper { let channels = self.now.channels.names.now in OnOk result (AreAllUpper self.now.file.now channels sets.old → AreAllUpper self.now.file.now channels sets.new) }
+        ensures lighter { OnOk result (IsNoHeavier sets.new sets.old) }
     {
         let mut left = self.file.procs.len();
         while left > 0 {
@@ -64,6 +66,8 @@ impl<'a> Group<'a> {
     ) -> Result<bool, Memory>
         ensures taken { OnOk result (TakesIn self.now.file.now self.now.channels.names.now procedure.now sets.old sets.new) }
         ensures same { IfOk result (λ changed. changed ≡ false → sets.new ≡ sets.old) }
+        ensures lighter { OnOk result (IsNoHeavier sets.new sets.old) }
+        ensures falls { IfOk result (λ changed. changed ≡ true → IsLighter self.now.file.now.tree.nodes sets.new sets.old) }
     {
         let heard = heard_in(alloc, procedure, sets)?;
         self.take_from(alloc, heard, procedure.body, sets)

@@ -12,5 +12,5 @@ mod sets;
 mod steps;
 mod walks;
 
-pub use checking::{check_ordered, first_unordered};
-pub use class::{check_linear, first_fault};
+pub use checking::{check_linear, first_unordered};
+pub use class::{check_linearity, first_fault};

@@ -1,9 +1,11 @@
 //! The parameters in the sets of procedures, for up to 128 channels at a time.
 
-ghost use Rattle.std.specs.Prelude.{ℕ, ◌≡◌, ◌<◌, ◌&&◌, ◌==◌, true, false, IfOk, OnOk, if◌then◌else◌};
+ghost use Rattle.std.specs.Prelude.{ℕ, ◌≡◌, ◌<◌, ◌≤◌, ◌&&◌, ◌==◌, true, false, IfOk, OnOk, if◌then◌else◌};
 ghost use Rattle.chor_base.specs.declared.names.NameId.{NameId};
 ghost use Rattle.linearity.specs.Marks.{is_marked};
+ghost use Rattle.linearity.specs.Marks.{bits_of};
 ghost use Rattle.linear_check.specs.Sets.{holds};
+ghost use Rattle.linear_check.specs.Weights.{weight_at, IsLighterAt, IsNoHeavier};
 
 use chor_base::{Memory, NameId};
 use linearity::Marks;
@@ -40,7 +42,8 @@ impl Sets {
 
     // The channels in whose sets a parameter is.
     pub fn get(&self, parameter: Parameter) -> Marks
-        ensures { (c : ℕ) → c < 128 → is_marked result c ≡ holds self.now c parameter.procedure parameter.place }
+        ensures weight { bits_of result ≤ weight_at self.now parameter.procedure parameter.place }
+        ensures holds { (c : ℕ) → c < 128 → is_marked result c ≡ holds self.now c parameter.procedure parameter.place }
     {
         match self.marks.get(&parameter) {
             Some(marks) => *marks,
@@ -52,6 +55,8 @@ impl Sets {
     pub fn take(&mut self, parameter: Parameter, marks: Marks) -> Result<bool, Memory>
         ensures taken { OnOk result ((c : ℕ) (f : NameId) (i : ℕ) → c < 128 → holds self.new c f i ≡ (if (parameter.procedure.0 == f.0) && (parameter.place == i) then holds self.old c f i && is_marked marks c else holds self.old c f i)) }
         ensures same { IfOk result (λ changed. changed ≡ false → self.new ≡ self.old) }
+        ensures lighter { OnOk result (IsNoHeavier self.new self.old) }
+        ensures falls { IfOk result (λ changed. changed ≡ true → IsLighterAt parameter.procedure parameter.place self.new self.old) }
     {
         let old = self.get(parameter);
         let new = old.and(marks);

@@ -1,10 +1,11 @@
 //! Walks of bodies.
 
-ghost use Rattle.std.specs.Prelude.{ℕ, ◌≡◌, false, IfOk, OnOk, option_copied, slice_get};
+ghost use Rattle.std.specs.Prelude.{ℕ, ◌≡◌, true, false, IfOk, OnOk, option_copied, slice_get};
 ghost use Rattle.chor_base.specs.Faults.{IsFirst, earlier, fault_if, first_of_all};
 ghost use Rattle.chor_tree.specs.Source.{body_of};
 ghost use Rattle.well_formed.specs.Linear.{Members};
 ghost use Rattle.linear_check.specs.Takes.{TakesAway};
+ghost use Rattle.linear_check.specs.Weights.{IsLighter, IsNoHeavier};
 ghost use Rattle.linear_check.specs.Tracks.{Tracks, IsUnorderedOfAny};
 
 use crate::group::Group;
@@ -32,6 +33,8 @@ impl<'a> Group<'a> {
     ) -> Result<bool, Memory>
         ensures taken { let channels = self.now.channels.names.now in OnOk result ((m : ℕ → Members) → Tracks channels heard m → TakesAway channels m (body_of self.now.file.now id) sets.old sets.new) }
         ensures same { IfOk result (λ changed. changed ≡ false → sets.new ≡ sets.old) }
+        ensures lighter { OnOk result (IsNoHeavier sets.new sets.old) }
+        ensures falls { IfOk result (λ changed. changed ≡ true → IsLighter self.now.file.now.tree.nodes sets.new sets.old) }
     {
         let mut heard = heard;
         let mut at = id;

@@ -1,7 +1,7 @@
 //! Marks of up to 128 channels.
 
-ghost use Rattle.std.specs.Prelude.{ℕ, ◌≡◌, ◌<◌, ◌==◌, ◌||◌, ◌&&◌, not, true, false};
-ghost use Rattle.linearity.specs.Marks.{is_marked};
+ghost use Rattle.std.specs.Prelude.{ℕ, ◌≡◌, ◌<◌, ◌≤◌, ◌==◌, ◌||◌, ◌&&◌, not, true, false};
+ghost use Rattle.linearity.specs.Marks.{is_marked, bits_of};
 
 /// Which of up to 128 channels are marked.
 #[derive(Clone, Copy, PartialEq, Eq)]
@@ -43,7 +43,8 @@ impl Marks {
 
     /// Those marked in both.
     pub fn and(self, other: Marks) -> Self
-        ensures { (i : ℕ) → is_marked result i ≡ (is_marked self i && is_marked other i) }
+        ensures fewer { bits_of result ≤ bits_of self }
+        ensures both { (i : ℕ) → is_marked result i ≡ (is_marked self i && is_marked other i) }
     {
         Marks {
             bits: self.bits & other.bits,

@@ -7,7 +7,7 @@ use Rattle.endpoint_code.specs.LeastAbove.{IsLeastAbove}
 use Rattle.endpoint_code.specs.Trees.{CodeTree, Arms}
 use Rattle.merged_codes.specs.Merges.{IsMerge, both_do, both_offer, both_test, both_call, both_end, AreMergedArms, left_over, alone, in_both, IsMergeOf, no_other, one_other}
 use Rattle.merged_codes.proofs.Least.{least_made}
-use Rattle.merged_codes.specs.Asked.{AsksTree, AsksArms}
+use Rattle.endpoint_code.specs.Asked.{AsksTree, AsksArms}
 
 module _ (known : NameId → Bool) where
   -- ---- arms

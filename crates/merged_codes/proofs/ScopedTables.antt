@@ -1,5 +1,5 @@
--- Where the tree at a number of a table uses its session names well, the code there does.
-use Rattle.std.proofs.Common.{◌≡◌, ℕ, zero, suc, ◌<◌, List, [], ◌∷◌, length, refl, ap, ◌∙◌, Some, ◌==◌, ◌||◌, subst, arith}
+-- The tree at a number of a table uses its session names well exactly where the code there does.
+use Rattle.std.proofs.Common.{◌≡◌, ℕ, zero, suc, ◌<◌, List, [], ◌∷◌, length, refl, sym, ap, ◌∙◌, Some, ◌==◌, ◌||◌, subst, arith}
 use Rattle.std.specs.Prelude.{slice_get, All, map}
 use Rattle.std.proofs.lemmas.List.Elements.{All-head, All-tail}
 use Rattle.chor_base.specs.declared.names.NameId.{NameId}
@@ -77,3 +77,28 @@ module _ (e : Endpoints) where
   -- Where the tree at a number uses its session names well, the code there does
   pub tree_tells : (id : CodeId) (bs : List NameId) → id.0 < length e.code.nodes → IsScopedCode e bs (code_at e.code.nodes id) → IsScoped e id bs
   tree_tells id bs there c = below (suc id.0) id bs (omega arith) there c.distinct c.scoped
+
+  -- ---- and back
+
+  put : (bs : List NameId) (id : CodeId) (c : CodeTree) → code_at e.code.nodes id ≡ c → IsScopedTree e c bs → IsScopedTree e (code_at e.code.nodes id) bs
+  put bs id c is h = subst (λ t. IsScopedTree e t bs) (sym is) h
+
+  mutual
+    pub tree_scoped : {id : CodeId} {bs : List NameId} → IsScoped e id bs → IsScopedTree e (code_at e.code.nodes id) bs
+    tree_scoped {id} {bs} (joins h a f d) = put bs id _ (code_at-node e.code.nodes id _ e.code.closed h) ((a, f), tree_scoped d)
+    tree_scoped {id} {bs} (sends h a d) = put bs id _ (code_at-node e.code.nodes id _ e.code.closed h) (a, tree_scoped d)
+    tree_scoped {id} {bs} (receives h a d) = put bs id _ (code_at-node e.code.nodes id _ e.code.closed h) (a, tree_scoped d)
+    tree_scoped {id} {bs} (picks h a d) = put bs id _ (code_at-node e.code.nodes id _ e.code.closed h) (a, tree_scoped d)
+    tree_scoped {id} {bs} (offers h a u d) = put bs id _ (code_at-node e.code.nodes id _ e.code.closed h) (a, trees_scoped d)
+    tree_scoped {id} {bs} (gives h a f d) = put bs id _ (code_at-node e.code.nodes id _ e.code.closed h) ((a, f), tree_scoped d)
+    tree_scoped {id} {bs} (gains h a f d) = put bs id _ (code_at-node e.code.nodes id _ e.code.closed h) ((a, f), tree_scoped d)
+    tree_scoped {id} {bs} (sets h d) = put bs id _ (code_at-node e.code.nodes id _ e.code.closed h) (tt, tree_scoped d)
+    tree_scoped {id} {bs} (shows h d) = put bs id _ (code_at-node e.code.nodes id _ e.code.closed h) (tt, tree_scoped d)
+    tree_scoped {id} {bs} (asks h d) = put bs id _ (code_at-node e.code.nodes id _ e.code.closed h) (tt, tree_scoped d)
+    tree_scoped {id} {bs} (tests h c d) = put bs id _ (code_at-node e.code.nodes id _ e.code.closed h) (tree_scoped c, tree_scoped d)
+    tree_scoped {id} {bs} (calls {q = q} h f n b u) = put bs id _ (code_at-node e.code.nodes id _ e.code.closed h) (record { unit = q; found = f; count = n; bound = b; apart = u })
+    tree_scoped {id} {bs} (ends h) = put bs id _ (code_at-node e.code.nodes id _ e.code.closed h) tt
+
+    trees_scoped : {arms : List (NameId × CodeId)} {bs : List NameId} → AllScoped e arms bs → AreScopedArms e (arms_in ts arms) bs
+    trees_scoped no_arm = tt
+    trees_scoped (one_arm d ds) = (tree_scoped d, trees_scoped ds)

@@ -9,7 +9,7 @@ use Rattle.endpoint_code.specs.declared.code.CodeId.{CodeId}
 use Rattle.endpoint_code.specs.declared.endpoints.Endpoints.{Endpoints}
 use Rattle.endpoint_code.specs.Faults.{IsScoped}
 use Rattle.merged_codes.specs.Merges.{IsMadeOf}
-use Rattle.merged_codes.specs.Asked.{AsksTree}
+use Rattle.endpoint_code.specs.Asked.{AsksTree}
 use Rattle.merged_codes.specs.Scoped.{IsScopedCode}
 
 -- the least code above others is made of them by merging

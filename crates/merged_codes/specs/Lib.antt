@@ -1,4 +1,3 @@
 pub mod Merges
-pub mod Asked
 pub mod Scoped
 pub mod Laws

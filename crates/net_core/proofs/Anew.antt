@@ -5,6 +5,7 @@ use Rattle.std.proofs.lemmas.Bool.{eqb-true, eqb-false}
 use Rattle.std.proofs.lemmas.Bool.Decides.{nat_tests}
 use Rattle.std.proofs.lemmas.Option.{slice_get_within}
 use Rattle.std.proofs.lemmas.List.{length-append}
+use Rattle.chor_base.proofs.Lists.{get_set_other, get_append_left}
 use Rattle.chor_base.specs.declared.names.NameId.{NameId}
 use Rattle.endpoint_code.specs.declared.endpoints.Endpoints.{Endpoints}
 use Rattle.endpoint_code.specs.Network.{NetworkState}
@@ -15,7 +16,6 @@ use Rattle.waiting_processes.specs.declared.lists.WaitingLists.{WaitingLists}
 use Rattle.waiting_processes.specs.Waits.{awaits_room, awaited_by, awaited_in, awaited_at, awaited_of}
 use Rattle.waiting_processes.specs.Lists.{waiting_for, same_awaited}
 use Rattle.waiting_processes.specs.Taken.{IsIn}
-use Rattle.waiting_processes.proofs.Left.{get_other}
 use Rattle.waiting_processes.proofs.Entries.{is_same, same_itself}
 use Rattle.waiting_processes.proofs.Taken.{in_none}
 use Rattle.net_core.specs.declared.candidates.Candidates.{Candidates}
@@ -67,16 +67,11 @@ in_one p q (suc k, h) = absurd cc
 
 -- ---- places
 
-get_before : {X : Type 0} (xs ys : List X) (j : ℕ) → j < length xs → slice_get (xs ++ ys) j ≡ slice_get xs j
-get_before [] ys j lt = absurd (omega arith)
-get_before (x ∷ xs) ys zero lt = refl
-get_before (x ∷ xs) ys (suc j) lt = get_before xs ys j (omega arith)
-
 one_longer : (xs : List Bool) (b : Bool) → length (xs ++ b ∷ []) ≡ length xs + 1
 one_longer xs b = length-append xs (b ∷ [])
 
 still_there : (xs : List Bool) (b c : Bool) (q : ℕ) → slice_get xs q ≡ Some c → slice_get (xs ++ b ∷ []) q ≡ Some c
-still_there xs b c q h = get_before xs (b ∷ []) q (slice_get_within xs q c h) ∙ h
+still_there xs b c q h = get_append_left xs (b ∷ []) q (slice_get_within xs q c h) ∙ h
 
 -- one place more
 pub grown_more : (count : ℕ) (first old : Candidates) (listed unended : List Bool) → HasGrownTo count first old → listed ≡ old.listed ++ false ∷ [] → unended ≡ old.unended ++ false ∷ []
@@ -139,7 +134,7 @@ module _ (e : Endpoints) (cap : Option ℕ) (n : NetworkState) where
           go true i = subst (IsNoted e cap n new) (eqb-true p q i) own
           go false i =
               let apart : q ≢ p = λ s. eqb-false p q i (sym s) in
-              record { unended = ap (λ (bs : List Bool). slice_get bs q) unended ∙ get_other old.unended p q (not (ended_at e n p)) apart ∙ r.unended; kept = λ w a. more w q (r.kept w a) }
+              record { unended = ap (λ (bs : List Bool). slice_get bs q) unended ∙ get_set_other old.unended p q (not (ended_at e n p)) apart ∙ r.unended; kept = λ w a. more w q (r.kept w a) }
 
   pub entered_none : (c : Candidates) → HasPlaces (length n.machines) c → Enters e cap n c [] false c
   entered_none c places = record { places = places; stays = λ q r. r; entered = λ q i. absurd (in_none q i); still = λ q r. r; settled = λ f q i. absurd (in_none q i) }
@@ -212,7 +207,7 @@ module _ (e : Endpoints) (cap : Option ℕ) (n : NetworkState) where
         where
           go : (t : Bool) → (p == q) ≡ t → IsJudged e cap n new q
           go true i = subst (IsJudged e cap n new) (eqb-true p q i) own
-          go false i = let apart : q ≢ p = λ s. eqb-false p q i (sym s) in ap (λ (bs : List Bool). slice_get bs q) put ∙ get_other old p q b apart ∙ r
+          go false i = let apart : q ≢ p = λ s. eqb-false p q i (sym s) in ap (λ (bs : List Bool). slice_get bs q) put ∙ get_set_other old p q b apart ∙ r
 
   pub judged_none : (bits : List Bool) → Judges e cap n bits [] bits
   judged_none bits = record { count = refl; stays = λ q r. r; judged = λ q i. absurd (in_none q i) }

@@ -2,6 +2,7 @@
 use Rattle.std.proofs.Common.{◌≡◌, ℕ, suc, ◌+◌, ◌*◌, ◌^◌, ◌<◌, ◌≤◌, ◌==◌, max, cond, true, false, ◌++◌, ◌∷◌, [], Bool, List, length, get_or, sym, ap, ◌∙◌, subst, refl, Option, Some, arith, length-set, length-append}
 use Rattle.std.specs.Prelude.{slice_get, slice_set, map}
 use Rattle.std.proofs.lemmas.List.{length-map, map-set}
+use Rattle.chor_base.proofs.Lists.{get_set_other}
 use Rattle.chor_base.specs.declared.names.NameId.{NameId}
 use Rattle.chor_base.specs.declared.event.Event.{Event}
 use Rattle.chor_base.specs.declared.event.Event.TheVariants as event
@@ -17,15 +18,14 @@ use Rattle.post_office.specs.Lanes.{QueuesView, loads_in}
 use Rattle.session_starts.specs.Machines.{standing_of}
 use Rattle.endpoint_machine.specs.declared.head.Head.{Head}
 use Rattle.net_core.specs.Heads.{Stands, Shows}
-use Rattle.net_core.specs.Views.{NetworkView, IsSame, state_of}
-use Rattle.net_core.specs.Steps.{HasStepped, HasBegun, HasGrown, FitsMore, most_served}
+use Rattle.net_core.specs.Views.{NetworkView, IsSame, IsReserved, state_of}
+use Rattle.net_core.specs.Steps.{HasSteppedBy, HasBegunBy, HasGrown, FitsMore, most_served}
 use Rattle.session_starts.specs.Starts.{HasStarted}
-use Rattle.waiting_processes.proofs.Left.{get_other}
 use Rattle.net_core.specs.Shown.{MovesAlone}
 use Rattle.net_core.proofs.Scopes.{runner_at}
 
-abbrev pub fields : Endpoints → Option ℕ → List MachineView → QueuesView → ℕ → List Entry → List Bool → NetworkView
-fields e cap ms q sid h res = record { endpoints = e; capacity = cap; state = state_of ms q sid; history = h; reserved = res }
+abbrev pub fields : Endpoints → Option ℕ → List MachineView → QueuesView → ℕ → List Entry → List Bool → Bool → NetworkView
+fields e cap ms q sid h res stop = record { endpoints = e; capacity = cap; state = state_of ms q sid; history = h; reserved = res; stopped = stop }
 
 -- the machine of a process is the one at its place
 pub stands_there : (e : Endpoints) (ms : List MachineView) (q : QueuesView) (sid p : ℕ) (r : MachineView) (node : CodeNode) (s : Stands e (state_of ms q sid) p node) → p < length ms → r ≡ get_or ms p r → s.machine ≡ standing_of r
@@ -73,8 +73,8 @@ grown_after v w new same g = record {
       (subst (λ (n : NetworkState). length new.state.machines ≤ length n.machines + most_served w.endpoints.channels) same.state g.machines);
 }
 
-pub stepped_after : (hosts : Endpoints → Hosts) (v w new : NetworkView) (p : ℕ) → IsSame v w → HasStepped (hosts w.endpoints) w p new → HasStepped (hosts v.endpoints) v p new
-stepped_after hosts v w new p same s =
+pub stepped_after : (worker : ℕ) (hosts : Endpoints → Hosts) (v w new : NetworkView) (p : ℕ) → IsSame v w → HasSteppedBy worker (hosts w.endpoints) w p new → HasSteppedBy worker (hosts v.endpoints) v p new
+stepped_after worker hosts v w new p same s =
     let b = s.becomes in
     record {
       event = s.event;
@@ -83,7 +83,8 @@ stepped_after hosts v w new p same s =
         endpoints = b.endpoints ∙ same.endpoints;
         capacity = b.capacity ∙ same.capacity;
         state = b.state;
-        history = b.history ∙ ap (λ (es : List Entry). es ++ record { worker = 0; event = s.event } ∷ []) same.history;
+        history = b.history ∙ ap (λ (es : List Entry). es ++ record { worker = worker; event = s.event } ∷ []) same.history;
+        stopped = b.stopped ∙ same.stopped;
       };
       chooses = subst (λ (e : Endpoints). Chooses e (hosts e) v.capacity v.state p s.event s.state) same.endpoints
           (subst (λ (k : Option ℕ). Chooses w.endpoints (hosts w.endpoints) k v.state p s.event s.state) same.capacity
@@ -91,8 +92,8 @@ stepped_after hosts v w new p same s =
     }
 
 -- a start draws one session number, and a process number for each service role of its channel
-pub grown_begun : (old : NetworkView) (k : Channel) (parts : List (NameId × ℕ)) (new : NetworkView) → channel_of old.endpoints.channels k.name ≡ Some k → HasBegun old k parts new → HasGrown old new
-grown_begun old k parts new found h =
+pub grown_begun : (worker : ℕ) (old : NetworkView) (k : Channel) (parts : List (NameId × ℕ)) (new : NetworkView) → channel_of old.endpoints.channels k.name ≡ Some k → HasBegunBy worker old k parts new → HasGrown old new
+grown_begun worker old k parts new found h =
     let a : length new.state.machines ≡ length h.machines = ap (λ (n : NetworkState). length n.machines) h.becomes.state in
     let b = length_started old.endpoints k old.state.sid old.state.machines h.machines parts h.started in
     let c = served_most old.endpoints.channels k.name k found in
@@ -102,19 +103,19 @@ grown_begun old k parts new found h =
       machines = omega arith;
     }
 
-module _ {e : Endpoints} {cap : Option ℕ} (ms : List MachineView) (q : QueuesView) {sid : ℕ} {h : List Entry} {res : List Bool} {v : NetworkView} (is : fields e cap ms q sid h res ≡ v) where
+module _ {e : Endpoints} {cap : Option ℕ} (ms : List MachineView) (q : QueuesView) {sid : ℕ} {h : List Entry} {res : List Bool} {stop : Bool} {v : NetworkView} (is : fields e cap ms q sid h res stop ≡ v) where
   pub within : (p : ℕ) → p < length v.state.machines → p < length ms
   within p lt = let k = ap (λ (w : NetworkView). length w.state.machines) is in omega (arith, k, length-map ms standing_of)
 
   pub shows_in : (p : ℕ) (a : Head) → Shows v.endpoints v.state p a → Shows e (state_of ms q sid) p a
   shows_in p a s = subst (λ (w : NetworkView). Shows w.endpoints w.state p a) (sym is) s
 
-  pub stepped : (hosts : Hosts) (new : NetworkView) (p : ℕ) (x : Event) (n : NetworkState) → new.endpoints ≡ e → new.capacity ≡ cap → new.state ≡ n → new.history ≡ h ++ record { worker = 0; event = x } ∷ [] → Chooses e hosts cap (state_of ms q sid) p x n → HasStepped hosts v p new
-  stepped hosts new p x n a t b d chooses =
-      subst (λ (w : NetworkView). HasStepped hosts w p new) is (record { event = x; state = n; becomes = record { endpoints = a; capacity = t; state = b; history = d }; chooses = chooses })
+  pub stepped : (worker : ℕ) (hosts : Hosts) (new : NetworkView) (p : ℕ) (x : Event) (n : NetworkState) → new.endpoints ≡ e → new.capacity ≡ cap → new.state ≡ n → new.history ≡ h ++ record { worker = worker; event = x } ∷ [] → new.stopped ≡ stop → Chooses e hosts cap (state_of ms q sid) p x n → HasSteppedBy worker hosts v p new
+  stepped worker hosts new p x n a t b d z chooses =
+      subst (λ (w : NetworkView). HasSteppedBy worker hosts w p new) is (record { event = x; state = n; becomes = record { endpoints = a; capacity = t; state = b; history = d; stopped = z }; chooses = chooses })
 
-  pub same_but_room : (new : NetworkView) → new.endpoints ≡ e → new.capacity ≡ cap → new.state ≡ state_of ms q sid → new.history ≡ h → IsSame v new
-  same_but_room new a t b d = subst (λ (w : NetworkView). IsSame w new) is (record { endpoints = a; capacity = t; state = b; history = d })
+  pub same_but_room : (new : NetworkView) → new.endpoints ≡ e → new.capacity ≡ cap → new.state ≡ state_of ms q sid → new.history ≡ h → new.stopped ≡ stop → ((p : ℕ) → slice_get res p ≡ Some true → IsReserved new p) → IsSame v new
+  same_but_room new a t b d z room = subst (λ (w : NetworkView). IsSame w new) is (record { endpoints = a; capacity = t; state = b; history = d; stopped = z; room = room })
 
   -- there are numbers for the new processes of a start
   pub numbers_left : (k : Channel) → channel_of v.endpoints.channels k.name ≡ Some k → FitsMore v 1 → length ms + length k.serve < 2 ^ 32
@@ -125,9 +126,9 @@ module _ {e : Endpoints} {cap : Option ℕ} (ms : List MachineView) (q : QueuesV
       let same = length-map ms standing_of in
       omega arith
 
-  pub has_begun : (new : NetworkView) (k : Channel) (parts all : List (NameId × ℕ)) (ns : List Machine) → new.endpoints ≡ e → new.capacity ≡ cap → new.state ≡ record { machines = ns; queues = loads_in q.lanes; sid = suc sid } → new.history ≡ h ++ record { worker = 0; event = event.Start k.name sid all } ∷ [] → all ≡ parts ++ served_parts k.serve (length ms) → HasStarted e k sid (map standing_of ms) parts ns → HasBegun v k parts new
-  has_begun new k parts all ns a t b d same started =
-      subst (λ (w : NetworkView). HasBegun w k parts new) is
+  pub has_begun : (worker : ℕ) (new : NetworkView) (k : Channel) (parts all : List (NameId × ℕ)) (ns : List Machine) → new.endpoints ≡ e → new.capacity ≡ cap → new.state ≡ record { machines = ns; queues = loads_in q.lanes; sid = suc sid } → new.history ≡ h ++ record { worker = worker; event = event.Start k.name sid all } ∷ [] → new.stopped ≡ stop → all ≡ parts ++ served_parts k.serve (length ms) → HasStarted e k sid (map standing_of ms) parts ns → HasBegunBy worker v k parts new
+  has_begun worker new k parts all ns a t b d z same started =
+      subst (λ (w : NetworkView). HasBegunBy worker w k parts new) is
       (record {
         machines = ns;
         started = started;
@@ -137,8 +138,9 @@ module _ {e : Endpoints} {cap : Option ℕ} (ms : List MachineView) (q : QueuesV
           state = b;
           history =
               d
-              ∙ ap (λ (ps : List (NameId × ℕ)). h ++ record { worker = 0; event = event.Start k.name sid ps } ∷ [])
+              ∙ ap (λ (ps : List (NameId × ℕ)). h ++ record { worker = worker; event = event.Start k.name sid ps } ∷ [])
               (same ∙ ap (λ (i : ℕ). parts ++ served_parts k.serve i) (sym (length-map ms standing_of)));
+          stopped = z;
         };
       })
 
@@ -168,5 +170,5 @@ module _ {e : Endpoints} {cap : Option ℕ} (ms : List MachineView) (q : QueuesV
       subst (λ (w : NetworkView). MovesAlone w.state p n) is
       (record {
         count = ap length put ∙ length-set (map standing_of ms) p (standing_of t);
-        others = λ q other. ap (λ (l : List Machine). slice_get l q) put ∙ get_other (map standing_of ms) p q (standing_of t) other;
+        others = λ q other. ap (λ (l : List Machine). slice_get l q) put ∙ get_set_other (map standing_of ms) p q (standing_of t) other;
       })

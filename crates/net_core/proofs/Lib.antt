@@ -22,3 +22,4 @@ pub mod Anew
 pub mod Taken
 pub mod Becoming
 pub mod Joining
+pub mod Crossing

@@ -81,7 +81,7 @@ takes_maker n p a (Some (s, b)) f x k h = go (queue_of n (s, a, b)) h
     go [] i = absurd (none-some _ i)
     go (l ∷ rest) i = taken l rest (f l) i
 
-node_maker : (cap : Option ℕ) (n : NetworkState) (p : ℕ) (v : ℤ) (vars : Variables) (m : Sessions) (node : CodeNode) (x : Event) (k : NetworkState) → node_makes cap n p v vars m node ≡ Some (Makes x k) → maker_of x ≡ Some p
+pub node_maker : (cap : Option ℕ) (n : NetworkState) (p : ℕ) (v : ℤ) (vars : Variables) (m : Sessions) (node : CodeNode) (x : Event) (k : NetworkState) → node_makes cap n p v vars m node ≡ Some (Makes x k) → maker_of x ≡ Some p
 node_maker cap n p v vars m (Send j b e next) x k h = puts_maker cap _ p b _ _ x k h
 node_maker cap n p v vars m (Pick j b l next) x k h = puts_maker cap _ p b _ _ x k h
 node_maker cap n p v vars m (Throw j b g next) x k h = puts_maker cap _ p b _ _ x k h

@@ -12,7 +12,8 @@ use Rattle.endpoint_machine.specs.declared.head.Head.TheVariants as head
 use Rattle.endpoint_machine.specs.Heads.{head_of}
 use Rattle.endpoint_machine.specs.Views.{MachineView}
 use Rattle.post_office.specs.Lanes.{QueuesView, room_on}
-use Rattle.session_starts.specs.Machines.{is_reserved}
+use Rattle.session_starts.specs.Machines.{standing_of, is_reserved}
+use Rattle.session_starts.specs.Starts.{reserved_in}
 use Rattle.net_core.specs.Machines.{has_queue_room}
 use Rattle.net_core.specs.Views.{has_room}
 use Rattle.net_core.proofs.Turns.{turn}
@@ -59,6 +60,14 @@ room_stays e k l q r m n more queues kept same h =
     queue_stays (Some head.Local) h = refl
     queue_stays (Some head.Ended) h = refl
     queue_stays None h = refl
+
+-- so have all processes where none has less
+pub room_all : (e : Endpoints) (k l : ℕ) (q : QueuesView) (ms ns : List MachineView) → k ≤ l → map standing_of ns ≡ map standing_of ms → ((p : ℕ) → reserved_in e ms p ≡ true → reserved_in e ns p ≡ true)
+    → (p : ℕ) → slice_get (map (has_room e k q) ms) p ≡ Some true → slice_get (map (has_room e l q) ns) p ≡ Some true
+room_all e k l q [] ns le same kept p h = absurd cc
+room_all e k l q (m ∷ ms) [] le same kept p h = absurd cc
+room_all e k l q (m ∷ ms) (n ∷ ns) le same kept zero h = ap Some (room_stays e k l q q m n le (λ t. omega arith) (kept zero) (let f : standing_of n ≡ standing_of m = cc in f) cc)
+room_all e k l q (m ∷ ms) (n ∷ ns) le same kept (suc p) h = room_all e k l q ms ns le (let f : map standing_of ns ≡ map standing_of ms = cc in f) (λ i. kept (suc i)) p h
 
 -- a process has room where the history, the process and its queue have
 pub room_made : (e : Endpoints) (k : ℕ) (q : QueuesView) (m : MachineView) (h : Head) → head_of e m.machine ≡ Some h → 0 < k → is_reserved e m ≡ true → has_queue_room q (Some h) ≡ true → has_room e k q m ≡ true

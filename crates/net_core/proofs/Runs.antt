@@ -22,7 +22,7 @@ use Rattle.endpoint_machine.specs.declared.head.Head.{Head}
 use Rattle.net_core.specs.Heads.{Shows, is_end, steps_at, steps_of, why_at, why_of, ended_at, ended_of}
 use Rattle.net_core.specs.Views.{NetworkView}
 use Rattle.net_core.specs.Steps.{HasStepped, AreFew, FitsMore, HasGrown, most_served}
-use Rattle.net_core.specs.Picks.{Underway, GoesOn, stays, goes, entries_of, HasRun, HasGone, Runs, HasTurned, HasClosed, Turns, IsStuck}
+use Rattle.net_core.specs.Picks.{Underway, GoesOn, stays, goes, entries_of, HasRun, HasGone, Runs, HasTurned, HasClosed, Turns, IsStuck, ClosesSo}
 use Rattle.endpoint_code.proofs.Standing.{none_at}
 use Rattle.net_core.proofs.Leaders.{some_there}
 use Rattle.net_core.proofs.Scopes.{length-standing_all}
@@ -179,8 +179,20 @@ steps_open e cap n p {h} t ended free =
 pub stuck_closes : (hosts : Hosts) (seed steps : ℕ) (v : NetworkView) (r : Picked) → IsStuck v.endpoints v.capacity v.state r → length v.history ≢ steps → none_can_step v.endpoints v.capacity v.state v.state.machines ≡ true → Turns hosts seed steps v (Some r) v
 stuck_closes hosts seed steps v Ended s k none = absurd s
 stuck_closes hosts seed steps v Limit s k none = absurd s
-stuck_closes hosts seed steps v (Stuck p why) s k none = record { same = record { endpoints = refl; capacity = refl; state = refl; history = refl }; closes = close.stuck k none s }
+stuck_closes hosts seed steps v (Stuck p why) s k none = record { same = record { endpoints = refl; capacity = refl; state = refl; history = refl; stopped = refl; room = λ p h. h }; closes = close.stuck k none s }
 stuck_closes hosts seed steps v Memory s k none = absurd s
+
+pub stuck_so : (e : Endpoints) (cap : Option ℕ) (steps : ℕ) (n : NetworkState) (events : ℕ) (r : Picked) → IsStuck e cap n r → events ≢ steps → none_can_step e cap n n.machines ≡ true → ClosesSo e cap steps n events (Some r)
+stuck_so e cap steps n events Ended s k none = absurd s
+stuck_so e cap steps n events Limit s k none = absurd s
+stuck_so e cap steps n events (Stuck p why) s k none = close.stuck k none s
+stuck_so e cap steps n events Memory s k none = absurd s
+
+-- where some process hasn't ended, more events are asked for and some process can step, no run is closed
+pub goes_on_so : (e : Endpoints) (cap : Option ℕ) (steps : ℕ) (n : NetworkState) (events : ℕ) → all_ended e n.machines ≡ false → events ≢ steps → (none_can_step e cap n n.machines ≡ true → ⊥) → ClosesSo e cap steps n events None
+goes_on_so e cap steps n events going before some close.Ended (close.ended over) = true≢false (sym over ∙ going)
+goes_on_so e cap steps n events going before some close.Limit (close.limit open_still count) = before count
+goes_on_so e cap steps n events going before some (close.Stuck p why) (close.stuck more none waits) = some none
 
 goes_more : {e : Endpoints} {hosts : Hosts} {cap : Option ℕ} {seed steps : ℕ} {n m : NetworkState} {k : ℕ} {xs : List Event} → GoesOn e hosts cap seed steps n k xs m → (last : NetworkState) (j p : ℕ) (x : Event) → j ≡ k + length xs → all_ended e m.machines ≡ false → j ≢ steps → picked e cap seed j m ≡ Some p → Chooses e hosts cap m p x last → GoesOn e hosts cap seed steps n k (xs ++ x ∷ []) last
 goes_more {e} {cap = cap} {seed} {steps} {n} {m} {k} stays last j p x h a b c d =

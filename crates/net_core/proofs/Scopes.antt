@@ -1,6 +1,6 @@
 -- What the code at which a process stands tells.
 use Rattle.std.proofs.Common.{◌≡◌, ℕ, suc, ◌<◌, true, false, List, [], ◌∷◌, length, get_or, refl, sym, ap, ◌∙◌, subst, Option, Some, None, arith, ◌^◌}
-use Rattle.std.specs.Prelude.{slice_get, All, map}
+use Rattle.std.specs.Prelude.{slice_get, All, Contains, map}
 use Rattle.std.specs.FinMap as fin
 use Rattle.std.proofs.lemmas.Option.{slice_get-get_or, get_or_from_slice_get, slice_get-map}
 use Rattle.std.proofs.lemmas.List.{length-map}
@@ -9,6 +9,7 @@ use Rattle.chor_base.specs.declared.names.NameId.{NameId}
 use Rattle.chor_base.specs.declared.event.Why.TheVariants.{Empty}
 use Rattle.chor_base.specs.declared.value.Load.{Load}
 use Rattle.chor_base.specs.NameMap.{Variables}
+use Rattle.chor_base.proofs.Members.{at_head, at_tail}
 use Rattle.endpoint_code.specs.declared.code.CodeNode.{CodeNode}
 use Rattle.endpoint_code.specs.declared.code.CodeNode.TheVariants.{Join, Send, Recv, Pick, Branch, Throw, Catch, Set, Show, Host, If, Call, End}
 use Rattle.endpoint_code.specs.declared.endpoints.Endpoints.{Endpoints}
@@ -17,6 +18,7 @@ use Rattle.endpoint_code.specs.Network.{Machine, NetworkState, Sessions, Place, 
 use Rattle.endpoint_code.specs.NetworkRuns.{ends_there, joins_there, node_waits, place_waits, waits_to_send, waits_to_receive, waits_for_first}
 use Rattle.endpoint_code.specs.Scheduled.{listed_at}
 use Rattle.endpoint_code.specs.Faults.{IsFaultless, IsScoped}
+use Rattle.endpoint_code.specs.InBodies.{of_process}
 use Rattle.endpoint_machine.specs.declared.head.Head.{Head}
 use Rattle.endpoint_machine.specs.declared.head.Head.TheVariants as head
 use Rattle.endpoint_machine.specs.Bound.{IsBound}
@@ -242,12 +244,12 @@ each_stands e ms q sid sound p lt =
     stands_at e ms q sid p t.item sound within (sym (get_or_from_slice_get ms p t.item t.item t.there))
 
 -- the processes at their bodies are sound
-pub first_bound : (e : Endpoints) (ps : List Process) → All (λ p. IsScoped e p.body []) ps → All (IsBound e) (standing_all ps)
-first_bound e [] all = All-nil (IsBound e)
-first_bound e (p ∷ ps) all =
+pub first_bound : (e : Endpoints) (ps : List Process) → ((p : Process) → Contains ps p → Contains e.processes p) → All (λ p. IsScoped e p.body []) ps → All (IsBound e) (standing_all ps)
+first_bound e [] there all = All-nil (IsBound e)
+first_bound e (p ∷ ps) there all =
     All-cons (IsBound e) (standing p.body) (standing_all ps)
-    (record { names = []; scoped = All-head (λ p. IsScoped e p.body []) p ps all; bound = λ k h. absurd cc })
-    (first_bound e ps (All-tail (λ p. IsScoped e p.body []) p ps all))
+    (record { in_body = of_process (there p (at_head p ps p refl)) refl; names = []; scoped = All-head (λ p. IsScoped e p.body []) p ps all; bound = λ k h. absurd cc })
+    (first_bound e ps (λ q among. there q (at_tail p ps q among)) (All-tail (λ p. IsScoped e p.body []) p ps all))
 
 pub length-standing_all : (ps : List Process) → length (standing_all ps) ≡ length ps
 length-standing_all [] = refl
@@ -257,6 +259,6 @@ pub first_sound : (e : Endpoints) (ms : List MachineView) → map standing_of ms
 first_sound e ms h counted faultless few = record {
   faultless = faultless;
   few = (let l = length-standing_all e.processes in let k : length (map standing_of ms) ≡ length (standing_all e.processes) = ap length h in let i = length-map ms standing_of in omega arith);
-  bound = subst (All (IsBound e)) (sym h) (first_bound e e.processes faultless.names.process_bodies);
+  bound = subst (All (IsBound e)) (sym h) (first_bound e e.processes (λ p among. among) faultless.names.process_bodies);
   counted = counted;
 }

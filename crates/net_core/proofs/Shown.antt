@@ -3,12 +3,12 @@ use Rattle.std.proofs.Common.{◌≡◌, ◌⊎◌, inl, inr, ℕ, zero, suc, �
 use Rattle.std.specs.Prelude.{slice_get, slice_set, ◌≢◌}
 use Rattle.std.proofs.lemmas.Bool.Decides.{nat_tests}
 use Rattle.std.proofs.lemmas.Option.{slice_get_within, slice_get-get_or}
+use Rattle.chor_base.proofs.Lists.{get_set_other}
 use Rattle.chor_base.specs.Meaning.{Hosts}
 use Rattle.endpoint_code.specs.declared.endpoints.Endpoints.{Endpoints}
 use Rattle.endpoint_code.specs.Network.{NetworkState}
 use Rattle.endpoint_machine.specs.declared.head.Head.{Head}
 use Rattle.waiting_processes.specs.Untouched.{IsAt}
-use Rattle.waiting_processes.proofs.Left.{get_other}
 use Rattle.net_core.specs.Heads.{EachStands, Shows, joins_at_all, is_joining_head}
 use Rattle.net_core.specs.Shown.{ShowsAll, ShowsOthers, MovesAlone}
 use Rattle.net_core.specs.Steps.{HasStepped}
@@ -95,7 +95,7 @@ own_shown e n p heads h lt others shows = record {
         subst (λ (r : ℕ). IsAt e n r k) (sym same) (subst (IsAt e n p) is (stands_there e n p h shows))
     go q k false s i =
         let other : q ≢ p = λ e. let yes : (q == p) ≡ true = grind (arith, nat_tests) in let no : false ≡ true = sym s ∙ yes in cc in
-        others.at q k other (sym (get_other heads p q h other) ∙ i)
+        others.at q k other (sym (get_set_other heads p q h other) ∙ i)
 
 -- a process that doesn't join has stepped: the heads of the others are as they were
 pub stepped_others : (hosts : Hosts) (old new : NetworkView) (p : ℕ) (h : Head) (heads : List Head) → Shows old.endpoints old.state p h → ShowsAll old.endpoints old.state heads → HasStepped hosts old p new

@@ -99,3 +99,11 @@ Turns hosts seed steps old (Some Memory) new = IsSame old new ⊎ HasTurned host
 abbrev pub IsStuck : Endpoints → Option ℕ → NetworkState → Picked → Type 0
 IsStuck e cap n (Stuck p why) = first_waiting e cap n ≡ Some (p, Some why)
 IsStuck e cap n _ = ⊥
+
+-- A state after so many events closes a run of at most so many steps as it is answered; where nothing is answered, it closes none
+abbrev pub ClosesSo : Endpoints → Option ℕ → ℕ → NetworkState → ℕ → Option Picked → Type 0
+ClosesSo e cap steps n events None = (c : Close) → Closes e cap steps n events c → ⊥
+ClosesSo e cap steps n events (Some Ended) = Closes e cap steps n events close.Ended
+ClosesSo e cap steps n events (Some Limit) = Closes e cap steps n events close.Limit
+ClosesSo e cap steps n events (Some (Stuck p why)) = Closes e cap steps n events (close.Stuck p why)
+ClosesSo e cap steps n events (Some Memory) = ⊥

@@ -11,21 +11,29 @@ use Rattle.endpoint_code.specs.declared.endpoints.Endpoints.{Endpoints}
 use Rattle.net_core.specs.declared.answer.Step.{Step}
 use Rattle.net_core.specs.declared.answer.Step.TheVariants.{Did, Waits, Ended, Memory}
 use Rattle.net_core.specs.Heads.{steps_at, why_at, ended_at, joins_at_all}
-use Rattle.net_core.specs.Views.{NetworkView, Becomes, IsSame, IsReserved}
+use Rattle.net_core.specs.Views.{NetworkView, BecomesBy, IsSame, IsReserved}
 use Rattle.session_starts.specs.Starts.{HasStarted}
 
--- a process has made one event, with the least partners where it starts a session
-pub record HasStepped (hosts : Hosts) (old : NetworkView) (p : ℕ) (new : NetworkView) : Type 0 where
+-- a process has made one event, as one of a worker, with the least partners where it starts a session
+pub record HasSteppedBy (worker : ℕ) (hosts : Hosts) (old : NetworkView) (p : ℕ) (new : NetworkView) : Type 0 where
   pub event : Event
   pub state : NetworkState
-  pub becomes : Becomes old new event state
+  pub becomes : BecomesBy worker old new event state
   pub chooses : Chooses old.endpoints hosts old.capacity old.state p event state
 
--- a session has started on a channel with these parts, and with new processes for the service roles
-pub record HasBegun (old : NetworkView) (k : Channel) (parts : List (NameId × ℕ)) (new : NetworkView) : Type 0 where
+-- so it has where there are no workers
+abbrev pub HasStepped : Hosts → NetworkView → ℕ → NetworkView → Type 0
+HasStepped = HasSteppedBy 0
+
+-- a session has started, as an event of a worker, on a channel with these parts, and with new processes for the service roles
+pub record HasBegunBy (worker : ℕ) (old : NetworkView) (k : Channel) (parts : List (NameId × ℕ)) (new : NetworkView) : Type 0 where
   pub machines : List Machine
   pub started : HasStarted old.endpoints k old.state.sid old.state.machines parts machines
-  pub becomes : Becomes old new (event.Start k.name old.state.sid (parts ++ served_parts k.serve (length old.state.machines))) (record old.state { machines = machines; sid = suc old.state.sid })
+  pub becomes : BecomesBy worker old new (event.Start k.name old.state.sid (parts ++ served_parts k.serve (length old.state.machines))) (record old.state { machines = machines; sid = suc old.state.sid })
+
+-- so it has where there are no workers
+abbrev pub HasBegun : NetworkView → Channel → List (NameId × ℕ) → NetworkView → Type 0
+HasBegun = HasBegunBy 0
 
 -- ---- numbers
 
@@ -55,10 +63,14 @@ pub record FitsMore (v : NetworkView) (events : ℕ) : Type 0 where
 
 -- ---- a step
 
--- What a step of a process answers: it did one event; or it waits for this cause; or it has ended; or there was no memory,
+-- What a step of a process answers: it did one event, as one of a worker; or it waits for this cause; or it has ended; or there was no memory,
 -- which never comes where there is room for its event and it doesn't join. Other answers than Did change no more than room
+abbrev pub AnswersBy : ℕ → Hosts → NetworkView → ℕ → Step → NetworkView → Type 0
+AnswersBy worker hosts old p Did new = (steps_at old.endpoints old.capacity old.state p ≡ true) × HasSteppedBy worker hosts old p new × HasGrown old new
+AnswersBy worker hosts old p (Waits why) new = (why_at old.endpoints old.capacity old.state p ≡ Some why) × IsSame old new
+AnswersBy worker hosts old p Ended new = (ended_at old.endpoints old.state p ≡ true) × IsSame old new
+AnswersBy worker hosts old p Memory new = (steps_at old.endpoints old.capacity old.state p ≡ true) × (IsReserved old p → joins_at_all old.endpoints old.state p ≡ true) × IsSame old new
+
+-- so it answers where there are no workers
 abbrev pub Answers : Hosts → NetworkView → ℕ → Step → NetworkView → Type 0
-Answers hosts old p Did new = (steps_at old.endpoints old.capacity old.state p ≡ true) × HasStepped hosts old p new × HasGrown old new
-Answers hosts old p (Waits why) new = (why_at old.endpoints old.capacity old.state p ≡ Some why) × IsSame old new
-Answers hosts old p Ended new = (ended_at old.endpoints old.state p ≡ true) × IsSame old new
-Answers hosts old p Memory new = (steps_at old.endpoints old.capacity old.state p ≡ true) × (IsReserved old p → joins_at_all old.endpoints old.state p ≡ true) × IsSame old new
+Answers = AnswersBy 0

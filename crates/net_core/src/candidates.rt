@@ -248,7 +248,7 @@ impl Kept for Candidates {
             return Some(network.stuck());
         };
         let head = network.head(pid);
-        match network.go(pid, head, hosts) {
+        match network.go(0, pid, head, hosts) {
             Ok(()) => match self.follow(network, Past { pid, head, count }) {
                 Ok(()) => None,
                 Err(_) => Some(Picked::Memory),

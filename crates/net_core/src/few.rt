@@ -139,7 +139,7 @@ impl Kept for Few {
             return Some(network.stuck());
         };
         let head = self.head(pid);
-        match network.go(pid, head, hosts) {
+        match network.go(0, pid, head, hosts) {
             Ok(()) => match self.follow(network, pid, head) {
                 Ok(()) => None,
                 Err(_) => Some(Picked::Memory),

@@ -83,7 +83,7 @@ impl Network<'_> {
     {
         let joining = &parts[..channel.active.as_slice().len()];
         let parts = List::from_slice(self.alloc, joining)?;
-        self.begin(channel, parts)
+        self.begin(0, channel, parts)
     }
 
     /// Follows a start of a session with these parts.

@@ -112,7 +112,7 @@ impl Network<'_> {
         if !self.can_make(pid, hosts, event) {
             return Followed::Unmatched;
         }
-        match self.go(pid, self.head(pid), hosts) {
+        match self.go(0, pid, self.head(pid), hosts) {
             Ok(()) => Followed::Did,
             Err(_) => Followed::Memory,
         }

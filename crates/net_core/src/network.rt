@@ -10,7 +10,7 @@ ghost use Rattle.endpoint_code.specs.Scheduled.{least_joiner};
 ghost use Rattle.endpoint_code.specs.Faults.{IsFaultless, AsksKnown, is_listed};
 ghost use Rattle.endpoint_machine.specs.declared.head.Head.TheVariants as head;
 ghost use Rattle.net_core.specs.Views.{IsSame, IsReserved};
-ghost use Rattle.net_core.specs.Steps.{HasStepped, HasBegun, HasGrown, FitsMore, Answers};
+ghost use Rattle.net_core.specs.Steps.{HasSteppedBy, HasBegunBy, HasGrown, FitsMore, Answers, AnswersBy};
 ghost use Rattle.session_starts.specs.Starts.{AllJoin, AreApart};
 ghost use Rattle.net_core.specs.Starts.{partner_for, IsCast};
 ghost use Rattle.net_core.specs.Shown.{MovesAlone};
@@ -68,6 +68,7 @@ impl<'a> Network<'a> {
         ensures capacity { IfOk result (λ network. network.capacity ≡ capacity) }
         ensures state { IfOk result (λ network. network.state ≡ first_state endpoints.now) }
         ensures history { IfOk result (λ network. network.history ≡ []) }
+        ensures stopped { IfOk result (λ network. network.stopped ≡ false) }
     {
         let machines = standing_all(alloc, &endpoints.processes)?;
         Ok(Network {
@@ -92,8 +93,24 @@ impl<'a> Network<'a> {
         ensures capacity { self.new.capacity ≡ self.old.capacity }
         ensures state { self.new.state ≡ self.old.state }
         ensures history { self.new.history ≡ [] }
+        ensures stopped { self.new.stopped ≡ self.old.stopped }
     {
         self.ledger.history.clear();
+    }
+
+    /// Marks the network as stopped because memory ran out, so that all its workers end.
+    pub fn stop(&mut self)
+        ensures stopped { self.new.stopped ≡ true }
+        ensures others { self.new ≡ record self.old { stopped = true } }
+    {
+        self.ledger.stopped = true;
+    }
+
+    /// Whether the network was stopped because memory ran out.
+    pub fn stopped(&self) -> bool
+        ensures { result ≡ self.now.stopped }
+    {
+        self.ledger.stopped
     }
 
     /// The events so far, of a network that makes no more.
@@ -213,7 +230,6 @@ impl<'a> Network<'a> {
         requires { pid < length self.old.state.machines }
         ensures same { IsSame self.old self.new }
         ensures ok { OnOk result (IsReserved self.new pid) }
-        ensures kept { (p : ℕ) → IsReserved self.old p → IsReserved self.new p }
         ensures succeeds { IsReserved self.old pid → IsOk result }
     {
         self.reserve_for(pid, self.head(pid))
@@ -225,7 +241,6 @@ impl<'a> Network<'a> {
         requires shows { Shows self.old.endpoints self.old.state pid head }
         ensures same { IsSame self.old self.new }
         ensures ok { OnOk result (IsReserved self.new pid) }
-        ensures kept { (p : ℕ) → IsReserved self.old p → IsReserved self.new p }
         ensures succeeds { IsReserved self.old pid → IsOk result }
     {
         let endpoints = self.endpoints;
@@ -234,22 +249,22 @@ impl<'a> Network<'a> {
         reserve(endpoints, machine, head, &mut self.ledger.queues)
     }
 
-    // Makes the event of a process with this head that can step and doesn't join.
-    fn act(&mut self, pid: u32, head: Head, hosts: &HostTable)
+    // Makes the event of a process with this head that can step and doesn't join, as one of a worker.
+    fn act(&mut self, worker: u32, pid: u32, head: Head, hosts: &HostTable)
         requires there { pid < length self.old.state.machines }
         requires shows { Shows self.old.endpoints self.old.state pid head }
         requires hosts { AsksKnown (is_listed (names_of (functions_of hosts.now)) self.old.endpoints) self.old.endpoints }
         requires steps { steps_at self.old.endpoints self.old.capacity self.old.state pid ≡ true }
         requires alone { joins_at_all self.old.endpoints self.old.state pid ≡ false }
         requires room { IsReserved self.old pid }
-        ensures stepped { HasStepped (hosts_in self.old.endpoints.names (functions_of hosts.now)) self.old pid self.new }
+        ensures stepped { HasSteppedBy worker (hosts_in self.old.endpoints.names (functions_of hosts.now)) self.old pid self.new }
         ensures grown { HasGrown self.old self.new }
         ensures alone { MovesAlone self.old.state pid self.new.state }
     {
         let endpoints = self.endpoints;
         let machine = &mut self.machines[pid as usize];
         let event = act(endpoints, hosts, machine, head, &mut self.ledger.queues);
-        append(&mut self.ledger.history, 0, event);
+        append(&mut self.ledger.history, worker, event);
     }
 
     /// One step of a process. A start takes the least process that joins in each other active role.
@@ -259,6 +274,16 @@ impl<'a> Network<'a> {
         requires fits { FitsMore self.old 1 }
         ensures { Answers (hosts_in self.old.endpoints.names (functions_of hosts.now)) self.old pid result self.new }
     {
+        self.step_as(0, pid, hosts)
+    }
+
+    /// The same as an event of a worker.
+    pub fn step_as(&mut self, worker: u32, pid: u32, hosts: &HostTable) -> Step
+        requires there { pid < length self.old.state.machines }
+        requires hosts { AsksKnown (is_listed (names_of (functions_of hosts.now)) self.old.endpoints) self.old.endpoints }
+        requires fits { FitsMore self.old 1 }
+        ensures { AnswersBy worker (hosts_in self.old.endpoints.names (functions_of hosts.now)) self.old pid result self.new }
+    {
         let head = self.head(pid);
         if has_ended(head) {
             return Step::Ended;
@@ -266,30 +291,36 @@ impl<'a> Network<'a> {
         if let Some(why) = self.waiting(pid, head) {
             return Step::Waits(why);
         }
-        match self.go(pid, head, hosts) {
+        match self.go(worker, pid, head, hosts) {
             Ok(()) => Step::Did,
             Err(_) => Step::Memory,
         }
     }
 
-    // The event of a process with this head that can step.
-    pub(crate) fn go(&mut self, pid: u32, head: Head, hosts: &HostTable) -> Result<(), Memory>
+    // The event of a process with this head that can step, as one of a worker.
+    pub(crate) fn go(
+        &mut self,
+        worker: u32,
+        pid: u32,
+        head: Head,
+        hosts: &HostTable,
+    ) -> Result<(), Memory>
         requires there { pid < length self.old.state.machines }
         requires shows { Shows self.old.endpoints self.old.state pid head }
         requires hosts { AsksKnown (is_listed (names_of (functions_of hosts.now)) self.old.endpoints) self.old.endpoints }
         requires fits { FitsMore self.old 1 }
         requires steps { steps_at self.old.endpoints self.old.capacity self.old.state pid ≡ true }
-        ensures ok { OnOk result (HasStepped (hosts_in self.old.endpoints.names (functions_of hosts.now)) self.old pid self.new) }
+        ensures ok { OnOk result (HasSteppedBy worker (hosts_in self.old.endpoints.names (functions_of hosts.now)) self.old pid self.new) }
         ensures grown { OnOk result (HasGrown self.old self.new) }
         ensures alone { OnOk result (joins_at_all self.old.endpoints self.old.state pid ≡ false → MovesAlone self.old.state pid self.new.state) }
         ensures room { OnErr result (IsReserved self.old pid → joins_at_all self.old.endpoints self.old.state pid ≡ true) }
         ensures same { OnErr result (IsSame self.old self.new) }
     {
         if is_joining(head) {
-            return self.start(pid, head);
+            return self.start(worker, pid, head);
         }
         self.reserve_for(pid, head)?;
-        self.act(pid, head, hosts);
+        self.act(worker, pid, head, hosts);
         Ok(())
     }
 
@@ -325,14 +356,15 @@ impl<'a> Network<'a> {
         Ok(parts)
     }
 
-    // Starts a session on the channel that a process with this head joins, with the least partners.
-    fn start(&mut self, pid: u32, head: Head) -> Result<(), Memory>
+    // Starts a session on the channel that a process with this head joins, with the least partners, as
+    // an event of a worker.
+    fn start(&mut self, worker: u32, pid: u32, head: Head) -> Result<(), Memory>
         requires there { pid < length self.old.state.machines }
         requires shows { Shows self.old.endpoints self.old.state pid head }
         requires steps { steps_at self.old.endpoints self.old.capacity self.old.state pid ≡ true }
         requires joins { joins_at_all self.old.endpoints self.old.state pid ≡ true }
         requires fits { FitsMore self.old 1 }
-        ensures ok { OnOk result ((hosts : Hosts) → HasStepped hosts self.old pid self.new) }
+        ensures ok { OnOk result ((hosts : Hosts) → HasSteppedBy worker hosts self.old pid self.new) }
         ensures grown { OnOk result (HasGrown self.old self.new) }
         ensures err { OnErr result (IsSame self.old self.new) }
     {
@@ -344,12 +376,13 @@ impl<'a> Network<'a> {
             unreachable!()
         };
         let parts = self.cast(pid, channel, own, found.active.as_slice())?;
-        self.begin(found, parts)
+        self.begin(worker, found, parts)
     }
 
-    // Starts a session on a channel with these processes.
+    // Starts a session on a channel with these processes, as an event of a worker.
     pub(crate) fn begin(
         &mut self,
+        worker: u32,
         channel: &Channel,
         parts: List<(NameId, u32)>,
     ) -> Result<(), Memory>
@@ -357,7 +390,7 @@ impl<'a> Network<'a> {
         requires joins { AllJoin self.old.endpoints self.old.state.machines channel.now.name parts }
         requires apart { AreApart parts }
         requires fits { FitsMore self.old 1 }
-        ensures ok { OnOk result (HasBegun self.old channel.now parts self.new) }
+        ensures ok { OnOk result (HasBegunBy worker self.old channel.now parts self.new) }
         ensures err { OnErr result (IsSame self.old self.new) }
     {
         self.ledger.history.reserve(1)?;
@@ -369,7 +402,7 @@ impl<'a> Network<'a> {
             sid,
             parts,
         };
-        append(&mut self.ledger.history, 0, event);
+        append(&mut self.ledger.history, worker, event);
         Ok(())
     }
 }

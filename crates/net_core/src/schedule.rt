@@ -7,7 +7,7 @@ ghost use Rattle.endpoint_code.specs.Faults.{AsksKnown, is_listed};
 ghost use Rattle.endpoint_code.specs.NetworkRuns.{all_ended, none_can_step};
 ghost use Rattle.endpoint_code.specs.Scheduled.{listed, picked, first_waiting};
 ghost use Rattle.net_core.specs.Steps.{FitsMore};
-ghost use Rattle.net_core.specs.Picks.{waiting_at, Runs, RunsOrGoesOn, IsStuck};
+ghost use Rattle.net_core.specs.Picks.{waiting_at, Runs, RunsOrGoesOn, IsStuck, ClosesSo};
 
 use crate::answer::Picked;
 use crate::candidates::Candidates;
@@ -99,6 +99,22 @@ impl<'a> Network<'a> {
             unreachable!()
         };
         Picked::Stuck(pid, why)
+    }
+
+    /// How a run that is to make so many events is closed where it has come to, if it is.
+    pub fn closed(&self, steps: u64) -> Option<Picked>
+        ensures { ClosesSo self.now.endpoints self.now.capacity steps self.now.state (length self.now.history) result }
+    {
+        if self.finished() {
+            return Some(Picked::Ended);
+        }
+        if self.events() == steps {
+            return Some(Picked::Limit);
+        }
+        match self.pick(0) {
+            Some(_) => None,
+            None => Some(self.stuck()),
+        }
     }
 
     // Goes on as long as there are few processes. Tells how the run closed, if it did.

@@ -74,6 +74,7 @@ noted_from v w u y x posted noted same =
       hosts = noted.hosts ∙ ap (λ (o : OfficeView). o.hosts) posted.same;
       capacity = noted.capacity ∙ ap (λ (o : OfficeView). o.capacity) posted.same;
       history = noted.history ∙ ap (λ (o : OfficeView). o.history ++ entry ∷ []) posted.same;
+      stopped = noted.stopped ∙ ap (λ (o : OfficeView). o.stopped) posted.same;
       room = omega (arith, room, noted.room);
     } in
     subst (λ (z : Event). HasNoted v 0 z u) same from_first

@@ -43,6 +43,7 @@ noted_same v w u k x same noted = record {
   hosts = noted.hosts ∙ same.hosts;
   capacity = noted.capacity ∙ same.capacity;
   history = noted.history ∙ ap (λ (h : List Entry). h ++ record { worker = k; event = x } ∷ []) same.history;
+  stopped = noted.stopped ∙ same.stopped;
   room = omega (arith, same.room, noted.room);
 }
 

@@ -1,5 +1,5 @@
 -- An office after an event of one process.
-use Rattle.std.proofs.Common.{◌≡◌, ℕ, ◌<◌, ◌^◌, false, List, [], ◌∷◌, ◌++◌, length, sym, ap, ◌∙◌, subst}
+use Rattle.std.proofs.Common.{◌≡◌, ℕ, ◌<◌, ◌^◌, Bool, false, List, [], ◌∷◌, ◌++◌, length, sym, ap, ◌∙◌, subst}
 use Rattle.std.proofs.lemmas.List.{length-set}
 use Rattle.chor_base.specs.declared.event.Entry.{Entry}
 use Rattle.chor_base.specs.declared.event.Event.{Event}
@@ -16,10 +16,10 @@ use Rattle.post_office.proofs.Acting.{after_more, posts_after}
 use Rattle.post_office.proofs.Waiting.{first_stays}
 
 module _ {v : OfficeView} (kept : IsKept v) (x : Event) (p : ℕ) (alone : is_start x ≡ false) (actor : actors_of x ≡ p ∷ []) (can : CanMake v x) where
-  pub acted_kept : FindsRoom v.capacity (loads_in v.queues.lanes) (sends_on x) → (worker : ℕ) (history : List Entry) (queues : QueuesView) (desks : List Desk) (room : ℕ)
+  pub acted_kept : FindsRoom v.capacity (loads_in v.queues.lanes) (sends_on x) → (worker : ℕ) (history : List Entry) (queues : QueuesView) (desks : List Desk) (room : ℕ) (stopped : Bool)
       → history ≡ v.history ++ record { worker = worker; event = x } ∷ [] → loads_in queues.lanes ≡ queues_after x (loads_in v.queues.lanes) → desks ≡ made_busy (p ∷ []) v.desks
-      → IsKept (record { endpoints = v.endpoints; hosts = v.hosts; capacity = v.capacity; history = history; queues = queues; sid = v.sid; desks = desks; room = room })
-  acted_kept place worker history queues desks room more are busy =
+      → IsKept (record { endpoints = v.endpoints; hosts = v.hosts; capacity = v.capacity; history = history; queues = queues; sid = v.sid; desks = desks; room = room; stopped = stopped })
+  acted_kept place worker history queues desks room stopped more are busy =
       let made = can kept.state kept.after in
       let step = step_capped v.capacity x made.0 v.endpoints v.hosts kept.state (subst (λ (qs : List (Triple × List Load)). FindsRoom v.capacity qs (sends_on x)) kept.queues place) made.1 in
       let by = step_alone v.endpoints v.hosts v.capacity kept.state made.0 x p alone actor step in

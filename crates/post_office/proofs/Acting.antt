@@ -3,6 +3,7 @@ use Rattle.std.proofs.Common.{◌≡◌, ◌≢◌, ℕ, zero, suc, ◌==◌, Bo
 use Rattle.std.specs.Prelude.{slice_get, slice_set, not, IfSome}
 use Rattle.std.proofs.lemmas.List.{map-append}
 use Rattle.std.proofs.lemmas.Bool.{eqb-true, eqb-false}
+use Rattle.chor_base.proofs.Lists.{get_set_other}
 use Rattle.chor_base.specs.declared.value.Load.{Load}
 use Rattle.chor_base.specs.declared.names.NameId.{NameId}
 use Rattle.chor_base.specs.declared.event.Why.TheVariants.{Empty, Wrong, Full, Absent}
@@ -20,7 +21,7 @@ use Rattle.post_office.specs.declared.post.Post.TheVariants.{Busy, Joining, Wait
 use Rattle.post_office.specs.Views.{OfficeView, events_of, IsAfter, post_at, joined_at, made_busy}
 use Rattle.post_office.specs.Posts.{holding, IsPostOf, IsTrueIn}
 use Rattle.post_office.specs.Answers.{is_local}
-use Rattle.post_office.proofs.Steps.{ActsAlone, queues_after, is_start, sends_on, FindsRoom, get-set_other}
+use Rattle.post_office.proofs.Steps.{ActsAlone, queues_after, is_start, sends_on, FindsRoom}
 
 -- ---- the run
 
@@ -65,7 +66,7 @@ busy_own (d ∷ ds) zero j = refl
 busy_own (d ∷ ds) (suc p) j = busy_own ds p j
 
 pub post_other : (ds : List Desk) (p q : ℕ) (d : Desk) → q ≢ p → post_at (slice_set ds p d) q ≡ post_at ds q
-post_other ds p q d h = ap (λ o. post_of_desk o) (get-set_other ds p q d h)
+post_other ds p q d h = ap (λ o. post_of_desk o) (get_set_other ds p q d h)
   where
     post_of_desk : Option Desk → Post
     post_of_desk None = Busy

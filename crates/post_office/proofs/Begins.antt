@@ -58,4 +58,4 @@ answers_by old new worker p c own s is h = subst (λ (w : Post). AnswersStartBy 
 
 -- an office is the same as itself
 pub same_as : (v : OfficeView) → IsSame v v
-same_as v = record { endpoints = refl; hosts = refl; capacity = refl; history = refl; queues = refl; sid = refl; desks = refl; room = omega arith; places = λ t. omega arith }
+same_as v = record { endpoints = refl; hosts = refl; capacity = refl; history = refl; queues = refl; sid = refl; desks = refl; stopped = refl; room = omega arith; places = λ t. omega arith }

@@ -105,9 +105,9 @@ module _ (names : List (List ℕ)) (fs : List Function) (i : ℕ) (f : Function)
 
 -- ---- the first office
 
-pub first_kept : (e : Endpoints) (hosts : Hosts) (capacity : Option ℕ) (history : List Entry) (queues : QueuesView) (sid : ℕ) (desks : List Desk) (room : ℕ) → IsFaultless e → length e.processes < 2 ^ 32 → history ≡ [] → queues.lanes ≡ [] → sid ≡ 0 → desks ≡ replicate (length e.processes) idle
-    → IsKept (record { endpoints = e; hosts = hosts; capacity = capacity; history = history; queues = queues; sid = sid; desks = desks; room = room })
-first_kept e hosts capacity history queues sid desks room faultless few no_history no_queues no_session all_idle =
+pub first_kept : (e : Endpoints) (hosts : Hosts) (capacity : Option ℕ) (history : List Entry) (queues : QueuesView) (sid : ℕ) (desks : List Desk) (room : ℕ) (stopped : Bool) → IsFaultless e → length e.processes < 2 ^ 32 → history ≡ [] → queues.lanes ≡ [] → sid ≡ 0 → desks ≡ replicate (length e.processes) idle
+    → IsKept (record { endpoints = e; hosts = hosts; capacity = capacity; history = history; queues = queues; sid = sid; desks = desks; room = room; stopped = stopped })
+first_kept e hosts capacity history queues sid desks room stopped faultless few no_history no_queues no_session all_idle =
     let many : length desks ≡ length e.processes = ap length all_idle ∙ length-replicate (length e.processes) idle in
     record {
       faultless = faultless;

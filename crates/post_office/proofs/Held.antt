@@ -6,6 +6,7 @@ use Rattle.std.specs.Ordering.{nat_cmp, eq_by_cmp}
 use Rattle.std.proofs.lemmas.Cmp.{nat_cmp_total}
 use Rattle.std.proofs.lemmas.Bool.Decides.{nat_tests}
 use Rattle.std.proofs.lemmas.Bool.{eqb-true, eqb-false}
+use Rattle.chor_base.proofs.Lists.{get_set_other}
 use Rattle.chor_base.specs.declared.names.NameId.{NameId}
 use Rattle.chor_base.specs.declared.value.Value.TheVariants.{Part as Endpoint}
 use Rattle.chor_base.specs.declared.value.Load.{Load}
@@ -15,7 +16,6 @@ use Rattle.endpoint_code.specs.Faults.{AreDistinct, one_more, is_among}
 use Rattle.endpoint_code.specs.Network.{Sessions, Machine, NetworkState, queue_of, with_queue, passed, passed_one}
 use Rattle.endpoint_code.proofs.Fifo.{same_triple}
 use Rattle.endpoint_code.proofs.Queues.{loads-same, loads-other}
-use Rattle.post_office.proofs.Steps.{get-set_other}
 
 -- ---- sessions by names
 
@@ -161,7 +161,7 @@ module _ (n : NetworkState) (p : ℕ) (w m : Machine) (there : slice_get n.machi
   held_own k v h = ap (λ (o : Option Machine). held_by o k) (set_own n.machines p m w there) ∙ h
 
   pub other_held : (q k : ℕ) (v : ℕ × NameId) → q ≢ p → held_by (slice_get replaced.machines q) k ≡ Some v → held_by (slice_get n.machines q) k ≡ Some v
-  other_held q k v apart h = sym (ap (λ (o : Option Machine). held_by o k) (get-set_other n.machines p q m apart)) ∙ h
+  other_held q k v apart h = sym (ap (λ (o : Option Machine). held_by o k) (get_set_other n.machines p q m apart)) ∙ h
 
   -- who held it before
   pub was_held : AreFrom m.sessions w.sessions → (v : ℕ × NameId) (l : Holder) → HoldsAt replaced v l → (o : Holder) × HoldsAt n v o

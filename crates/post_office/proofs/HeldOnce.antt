@@ -6,6 +6,7 @@ use Rattle.std.specs.Ordering.{nat_cmp}
 use Rattle.std.proofs.lemmas.Bool.{eq-eqb}
 use Rattle.std.proofs.lemmas.Option.{none-some, same_Some}
 use Rattle.std.proofs.lemmas.List.{append-nil}
+use Rattle.chor_base.proofs.Lists.{get_set_other}
 use Rattle.chor_base.specs.declared.names.NameId.{NameId}
 use Rattle.chor_base.specs.declared.event.Event.{Event}
 use Rattle.chor_base.specs.NameMap.{Variables}
@@ -18,7 +19,6 @@ use Rattle.endpoint_code.specs.declared.endpoints.Endpoints.{Endpoints}
 use Rattle.endpoint_code.specs.Faults.{AreDistinct, one_more, is_among, IsFaultless}
 use Rattle.endpoint_code.specs.Network.{Sessions, Machine, NetworkState, Place, Makes, place_of, moved, place_joins, joins, one_joiner, joiners, with_machines, service_of, served, channel_of, begun, paired, one_pair, starts_with, channel_starts, starts, standing_all, NetworkSteps, acts, begins, first_state}
 use Rattle.endpoint_code.specs.NetworkRuns.{NetworkLeads, IsNetworkRun}
-use Rattle.post_office.proofs.Steps.{get-set_other}
 use Rattle.post_office.proofs.Starting.{NotIn}
 use Rattle.post_office.proofs.Scoped.{IsSomewhere}
 use Rattle.post_office.proofs.Reached.{AreSomewhere, node_joined, made_same, acted_somewhere, started_somewhere, first_somewhere, channel_has}
@@ -112,7 +112,7 @@ Untouched n ms (q ∷ ps) = (slice_get ms q.1 ≡ slice_get n.machines q.1) × U
 untouched_set : (n : NetworkState) (ms : List Machine) (ps : List (NameId × ℕ)) (p : ℕ) (m : Machine) → NotIn p (map (λ q. q.1) ps) → Untouched n ms ps → Untouched n (slice_set ms p m) ps
 unfolding Untouched
 untouched_set n ms [] p m h u = tt
-untouched_set n ms (q ∷ ps) p m h u = (get-set_other ms p q.1 m (λ e. h.0 (sym e)) ∙ u.0, untouched_set n ms ps p m h.1 u.1)
+untouched_set n ms (q ∷ ps) p m h u = (get_set_other ms p q.1 m (λ e. h.0 (sym e)) ∙ u.0, untouched_set n ms ps p m h.1 u.1)
 
 untouched_all : (n : NetworkState) (ps : List (NameId × ℕ)) → Untouched n n.machines ps
 unfolding Untouched

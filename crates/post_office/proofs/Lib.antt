@@ -16,3 +16,5 @@ pub mod HeldOnce
 pub mod Waiting
 pub mod Acted
 pub mod Callers
+pub mod Standings
+pub mod Crossing

@@ -17,9 +17,9 @@ own_post (x ∷ ds) zero d = inl refl
 own_post (x ∷ ds) (suc p) d = own_post ds p d
 
 module _ {v : OfficeView} (kept : IsKept v) (p : ℕ) (post : Post) (can : CanPost v p post) where
-  pub posted_kept : (desks : List Desk) (room : ℕ) → desks ≡ slice_set v.desks p (record { post = post; joined = None })
-      → IsKept (record { endpoints = v.endpoints; hosts = v.hosts; capacity = v.capacity; history = v.history; queues = v.queues; sid = v.sid; desks = desks; room = room })
-  posted_kept desks room is =
+  pub posted_kept : (desks : List Desk) (room : ℕ) (stopped : Bool) → desks ≡ slice_set v.desks p (record { post = post; joined = None })
+      → IsKept (record { endpoints = v.endpoints; hosts = v.hosts; capacity = v.capacity; history = v.history; queues = v.queues; sid = v.sid; desks = desks; room = room; stopped = stopped })
+  posted_kept desks room stopped is =
       let long : length desks ≡ length v.desks = ap length is ∙ length-set v.desks p (record { post = post; joined = None }) in
       record {
         faultless = kept.faultless;

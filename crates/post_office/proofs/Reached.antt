@@ -6,6 +6,7 @@ use Rattle.std.proofs.lemmas.List.Elements.{All-head, All-tail}
 use Rattle.std.proofs.lemmas.Bool.Decides.{nat_tests}
 use Rattle.std.proofs.lemmas.Bool.{eqb-true, eqb-false, and_parts}
 use Rattle.std.proofs.lemmas.Option.{none-some, same_Some}
+use Rattle.chor_base.proofs.Lists.{get_set_other}
 use Rattle.chor_base.specs.declared.names.NameId.{NameId}
 use Rattle.chor_base.specs.declared.value.Value.TheVariants.{Int, Bool as Truth, Text, Part as Endpoint}
 use Rattle.chor_base.specs.declared.value.Load.{Load}
@@ -25,7 +26,6 @@ use Rattle.endpoint_code.specs.Faults.{IsScoped, IsActive, HasNoNameFault, IsFau
 use Rattle.endpoint_code.specs.Network.{Sessions, Machine, NetworkState, Place, Makes, Taking, Goes, arm_at, in_arm, moved, put_if, puts, has_room, queue_of, takes, takes_from, went, takes_value, takes_label, takes_part, node_makes, place_makes, machine_makes, makes, node_joins, place_joins, joins, one_joiner, joiners, with_machines, service_of, served, channel_of, begun, paired, starts_with, channel_starts, starts, place_of, place_at, standing_all, NetworkSteps, acts, begins, first_state}
 use Rattle.endpoint_code.specs.NetworkRuns.{NetworkLeads, IsNetworkRun, joins_there}
 use Rattle.post_office.proofs.Casts.{name_same}
-use Rattle.post_office.proofs.Steps.{get-set_other}
 use Rattle.post_office.proofs.Scoped.{IsSomewhere, IsNext, next_somewhere, is_placed, place_active}
 
 -- ---- a process joins
@@ -173,7 +173,7 @@ module _ (e : Endpoints) where
       go true i =
           let here : slice_get (slice_set ms p m) p ≡ Some w = subst (λ j. slice_get (slice_set ms p m) j ≡ Some w) (eqb-true q p i) h in
           subst (λ (x : Machine). IsSomewhere e x.at) (get-set_own ms p m w here) one
-      go false i = all q w (sym (get-set_other ms p q m (eqb-false q p i)) ∙ h)
+      go false i = all q w (sym (get_set_other ms p q m (eqb-false q p i)) ∙ h)
 
   append_somewhere : (ms ns : List Machine) → AreSomewhere e ms → AreSomewhere e ns → AreSomewhere e (ms ++ ns)
   append_somewhere [] ns a b p m h = b p m h

@@ -4,6 +4,7 @@ use Rattle.std.specs.Prelude.{slice_get, slice_set, unwrap_or, pos}
 use Rattle.std.specs.FinMap as fin
 use Rattle.std.proofs.lemmas.Cmp.{nat_cmp_total}
 use Rattle.std.proofs.lemmas.Bool.{eqb-true, eqb-false, and_parts}
+use Rattle.chor_base.proofs.Lists.{get_set_other}
 use Rattle.chor_base.specs.declared.names.NameId.{NameId}
 use Rattle.chor_base.specs.declared.value.Value.{Value}
 use Rattle.chor_base.specs.declared.value.Value.TheVariants.{Int, Bool as Truth, Text, Part as Endpoint}
@@ -22,7 +23,6 @@ use Rattle.endpoint_code.specs.declared.code.CodeNode.{CodeNode}
 use Rattle.endpoint_code.specs.declared.code.CodeNode.TheVariants.{Join, Send, Recv, Pick, Branch, Throw, Catch, Set, Show, Host, If, Call, End}
 use Rattle.endpoint_code.specs.Kept.{value_there, term_there, node_there}
 use Rattle.endpoint_code.specs.Network.{Sessions, Machine, NetworkState, Makes, Taking, Goes, arm_at, in_arm, moved, with_queue, put_if, puts, part_load, has_room, queue_of, takes, takes_from, went, takes_value, takes_label, takes_part, node_makes}
-use Rattle.post_office.proofs.Steps.{get-set_other}
 use Rattle.post_office.proofs.Reached.{get-set_own}
 use Rattle.post_office.proofs.Held.{keyed, get_bound, get_unbound, AreOnce, AreFrom, Holder, Process, Transit, held_by, HoldsAt, IsUnique, IsNowhere, fewer_unique, added_unique, own_held, held_own, other_held, was_held, replaced_unique, put, put_split, before, taken_before, taken_unique, taken_nowhere}
 
@@ -92,7 +92,7 @@ plain_set ms p m all one q w h = go (q == p) refl
   where
     go : (b : Bool) → (q == p) ≡ b → ArePlain w.vars
     go true e = subst (λ (x : Machine). ArePlain x.vars) (get-set_own ms p m w (subst (λ j. slice_get (slice_set ms p m) j ≡ Some w) (eqb-true q p e) h)) one
-    go false e = all q w (sym (get-set_other ms p q m (eqb-false q p e)) ∙ h)
+    go false e = all q w (sym (get_set_other ms p q m (eqb-false q p e)) ∙ h)
 
 module _ (n : NetworkState) (p : ℕ) (w : Machine) (there : slice_get n.machines p ≡ Some w) (sound : IsSound n) where
   -- a process goes on, with names for sessions that it had
@@ -131,7 +131,7 @@ module _ (n : NetworkState) (p : ℕ) (w : Machine) (there : slice_get n.machine
             let own = own_held n p w without_it there j v (subst (λ x. held_by (slice_get (moved n p at vars (fin.remove ss k)).machines x) j ≡ Some v) (eqb-true q p e) h) in
             subst (λ x. held_by (slice_get (moved n p at vars ss).machines x) j ≡ Some v) (sym (eqb-true q p e)) (held_own n p w with_it there j v (get_unbound ss k j v own).1)
         go false e =
-            ap (λ (o : Option Machine). held_by o j) (get-set_other n.machines p q with_it (eqb-false q p e)) ∙ other_held n p w without_it there q j v (eqb-false q p e) h
+            ap (λ (o : Option Machine). held_by o j) (get_set_other n.machines p q with_it (eqb-false q p e)) ∙ other_held n p w without_it there q j v (eqb-false q p e) h
 
     pub unbound_nowhere : IsNowhere (moved n p at vars (fin.remove ss k)) v
     unbound_nowhere l h =
@@ -191,7 +191,7 @@ bound_split n p w there at vars ss k v u q j h = go (q == p) refl
           | inl x ↦ inl ((let key : j ≡ k = x.0 in cc), x.1)
           | inr x ↦ inr (subst (λ y. held_by (slice_get (moved n p at vars ss).machines y) j ≡ Some u) (sym same) (held_own n p w without_it there j u x.1))
         ]
-    go false e = inr (ap (λ (o : Option Machine). held_by o j) (get-set_other n.machines p q without_it (eqb-false q p e)) ∙ other_held n p w with_it there q j u (eqb-false q p e) h)
+    go false e = inr (ap (λ (o : Option Machine). held_by o j) (get_set_other n.machines p q without_it (eqb-false q p e)) ∙ other_held n p w with_it there q j u (eqb-false q p e) h)
 
 -- ---- what a process does by itself
 

@@ -6,6 +6,7 @@ use Rattle.std.proofs.lemmas.List.{length-set, length-replicate, map-append, tak
 use Rattle.std.proofs.lemmas.List.Elements.{All-head, All-tail}
 use Rattle.std.specs.FinMap as fin
 use Rattle.std.proofs.lemmas.Bool.{eqb-true, eqb-false, and_parts}
+use Rattle.chor_base.proofs.Lists.{get_set_other}
 use Rattle.chor_base.specs.declared.names.NameId.{NameId}
 use Rattle.chor_base.specs.declared.event.Entry.{Entry}
 use Rattle.chor_base.specs.declared.event.Event.{Event}
@@ -26,7 +27,6 @@ use Rattle.post_office.specs.Kept.{IsKept}
 use Rattle.post_office.specs.Starts.{joins_as, AllPosted, most_served}
 use Rattle.post_office.proofs.Acting.{busy_true, post_stays, busy_own, post_other, after_more}
 use Rattle.post_office.proofs.Casts.{name_same, parts_paired}
-use Rattle.post_office.proofs.Steps.{get-set_other}
 
 -- ---- who is posted as joining joins
 
@@ -114,7 +114,7 @@ with_long ms (j ∷ js) = with_long (slice_set ms j.0 j.1) js ∙ length-set ms 
 
 with_other : (ms : List Machine) (js : List (ℕ × Machine)) (q : ℕ) → NotIn q (map (λ j. j.0) js) → slice_get (with_machines ms js) q ≡ slice_get ms q
 with_other ms [] q h = refl
-with_other ms (j ∷ js) q h = with_other (slice_set ms j.0 j.1) js q h.1 ∙ get-set_other ms j.0 q j.1 h.0
+with_other ms (j ∷ js) q h = with_other (slice_set ms j.0 j.1) js q h.1 ∙ get_set_other ms j.0 q j.1 h.0
 
 served_long : (e : Endpoints) (c : NameId) (s : ℕ) (rs : List NameId) → length (served e c s rs) ≡ length rs
 served_long e c s [] = refl
@@ -216,10 +216,10 @@ module _ {v : OfficeView} (kept : IsKept v) (k : Channel) (parts : List (NameId 
             (subst (λ (o : Option Machine). IsPostOf v.endpoints after o (post_at v.desks i)) (sym (kept_machine i b.1 h.1)) (post_stays v.endpoints kept.state after (slice_get kept.state.machines i) (post_at v.desks i) (λ m f s a b l g first. first) (kept.posts i)))
       ]
 
-  pub begun_kept : length v.desks + length k.serve < 2 ^ 32 → (x : Event) (worker sid : ℕ) (history : List Entry) (desks : List Desk) (room : ℕ)
+  pub begun_kept : length v.desks + length k.serve < 2 ^ 32 → (x : Event) (worker sid : ℕ) (history : List Entry) (desks : List Desk) (room : ℕ) (stopped : Bool)
       → x ≡ event.Start k.name v.sid (parts ++ served_parts k.serve (length v.desks)) → history ≡ v.history ++ record { worker = worker; event = x } ∷ [] → sid ≡ v.sid + 1 → desks ≡ desks_after
-      → IsKept (record { endpoints = v.endpoints; hosts = v.hosts; capacity = v.capacity; history = history; queues = v.queues; sid = sid; desks = desks; room = room })
-  begun_kept few x worker sid history desks room is_start more next is =
+      → IsKept (record { endpoints = v.endpoints; hosts = v.hosts; capacity = v.capacity; history = history; queues = v.queues; sid = sid; desks = desks; room = room; stopped = stopped })
+  begun_kept few x worker sid history desks room stopped is_start more next is =
       let same_sid : kept.state.sid ≡ v.sid = kept.sid in
       let many : length kept.state.machines ≡ length v.desks = kept.processes in
       let same : is_made ≡ x = ap (λ i. event.Start k.name i (parts ++ served_parts k.serve (length kept.state.machines))) same_sid ∙ ap (λ i. event.Start k.name v.sid (parts ++ served_parts k.serve i)) many ∙ sym is_start in

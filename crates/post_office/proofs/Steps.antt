@@ -4,6 +4,7 @@ use Rattle.std.specs.Prelude.{slice_get, slice_set}
 use Rattle.std.proofs.lemmas.List.{length-set}
 use Rattle.std.proofs.lemmas.Option.{slice_get_within}
 use Rattle.std.specs.FinMap as fin
+use Rattle.chor_base.proofs.Lists.{get_set_other}
 use Rattle.chor_base.specs.declared.names.NameId.{NameId}
 use Rattle.chor_base.specs.declared.value.Load.{Load}
 use Rattle.chor_base.specs.declared.event.Event.{Event}
@@ -19,13 +20,6 @@ use Rattle.endpoint_code.specs.declared.endpoints.Endpoints.{Endpoints}
 use Rattle.endpoint_code.specs.Network.{Sessions, Machine, NetworkState, Place, Makes, Taking, Goes, loads_for, with_loads, moved, put_if, puts, has_room, queue_of, takes, takes_from, went, node_makes, place_makes, machine_makes, makes, place_of, starts, starts_with, channel_starts, channel_of, begun, joiners, paired, part_load, served_parts, NetworkSteps, acts, begins}
 
 -- ---- lists
-
-pub get-set_other : {X : Type 0} (xs : List X) (i j : ℕ) (x : X) → j ≢ i → slice_get (slice_set xs i x) j ≡ slice_get xs j
-get-set_other [] i j x h = refl
-get-set_other (y ∷ xs) zero zero x h = absurd (h refl)
-get-set_other (y ∷ xs) zero (suc j) x h = refl
-get-set_other (y ∷ xs) (suc i) zero x h = refl
-get-set_other (y ∷ xs) (suc i) (suc j) x h = get-set_other xs i j x (λ e. h (ap suc e))
 
 -- ---- one process
 
@@ -51,7 +45,7 @@ moved_alone n p at vars ss x qs a is = record {
   sid = refl;
   queues = is;
   long = length-set n.machines p (record { at = at; vars = vars; sessions = ss });
-  others = λ q h. get-set_other n.machines p q (record { at = at; vars = vars; sessions = ss }) h;
+  others = λ q h. get_set_other n.machines p q (record { at = at; vars = vars; sessions = ss }) h;
 }
 
 module _ (p : ℕ) (x : Event) (m : NetworkState) where

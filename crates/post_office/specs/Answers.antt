@@ -32,6 +32,7 @@ pub record IsSame (old new : OfficeView) : Type 0 where
   pub queues : loads_in new.queues.lanes ≡ loads_in old.queues.lanes
   pub sid : new.sid ≡ old.sid
   pub desks : new.desks ≡ old.desks
+  pub stopped : new.stopped ≡ old.stopped
   pub room : old.room ≤ new.room
   pub places : (t : Triple) → room_on old.queues t ≤ room_on new.queues t
 
@@ -41,6 +42,7 @@ pub record HasNoted (old : OfficeView) (worker : ℕ) (x : Event) (new : OfficeV
   pub hosts : new.hosts ≡ old.hosts
   pub capacity : new.capacity ≡ old.capacity
   pub history : new.history ≡ old.history ++ record { worker = worker; event = x } ∷ []
+  pub stopped : new.stopped ≡ old.stopped
   pub room : old.room ≤ new.room + 1
 
 -- one event more that starts no session: its process is busy, and the others are as they were

@@ -5,3 +5,5 @@ pub mod Posts
 pub mod Kept
 pub mod Answers
 pub mod Starts
+pub mod Standings
+pub mod Owners

@@ -18,8 +18,8 @@ use Rattle.post_office.specs.declared.post.Post.TheVariants.{Busy}
 use Rattle.post_office.specs.Lanes.{QueuesView, loads_in}
 
 -- Its origin: endpoint programs, host functions by the numbers of their names, and a capacity. Then the events so far, the
--- queues, the next session's number, what was posted of each process and which start it has to take over, and how many events
--- more fit without taking memory. The next process's number is how many processes there are
+-- queues, the next session's number, what was posted of each process and which start it has to take over, how many events
+-- more fit without taking memory, and whether it is marked as stopped. The next process's number is how many processes there are
 pub record OfficeView : Type 0 where
   pub endpoints : Endpoints
   pub hosts : Hosts
@@ -29,6 +29,7 @@ pub record OfficeView : Type 0 where
   pub sid : ℕ
   pub desks : List Desk
   pub room : ℕ
+  pub stopped : Bool
 
 -- how many events more fit without taking memory
 abbrev pub room_in : Vec Entry Global → ℕ
@@ -37,7 +38,7 @@ room_in h = vec_capacity h - vec_len h
 -- an office by its fields
 abbrev pub office_of : Endpoints → Hosts → Ledger → List Desk → OfficeView
 office_of e hosts ledger desks =
-    record { endpoints = e; hosts = hosts; capacity = ledger.capacity; history = ledger.history.items; queues = ledger.queues; sid = ledger.sid; desks = desks; room = room_in ledger.history }
+    record { endpoints = e; hosts = hosts; capacity = ledger.capacity; history = ledger.history.items; queues = ledger.queues; sid = ledger.sid; desks = desks; room = room_in ledger.history; stopped = ledger.stopped }
 
 -- the loads in transit on a triple, the first to be received first
 abbrev pub loads_at : QueuesView → Triple → List Load

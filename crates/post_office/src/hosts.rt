@@ -8,8 +8,8 @@ use chor_base::{Meaning, Memory, NameId, Names};
 use chor_host::HostTable;
 use std::alloc::Global;
 
-// What the functions of a table may answer, by the numbers of their names. A program can't call a
-// function whose name isn't there.
+/// What the functions of a table may answer, by the numbers of their names. A program can't call a
+/// function whose name isn't there.
 pub fn known_hosts(
     alloc: Global,
     names: &Names,

@@ -1,6 +1,6 @@
 //! What is kept of a network beside its processes.
 
-ghost use Rattle.std.specs.Prelude.{◌≡◌, ◌<◌, ◌≤◌, ◌+◌, ◌-◌, ◌++◌, ◌∷◌, [], vec_len, vec_capacity, OnOk, IsOk};
+ghost use Rattle.std.specs.Prelude.{◌≡◌, ◌<◌, ◌≤◌, ◌+◌, ◌-◌, ◌++◌, ◌∷◌, [], vec_len, vec_capacity, OnOk, IsOk, false};
 ghost use Rattle.endpoint_code.specs.Network.{has_room};
 ghost use Rattle.post_office.specs.Views.{loads_at};
 
@@ -20,21 +20,25 @@ pub struct Ledger {
     pub sid: u32,
     /// The events so far, each with the worker that made it.
     pub history: Vec<Entry>,
+    /// Whether a worker ran out of memory, so that all are to end.
+    pub stopped: bool,
 }
 
 impl Ledger {
-    /// Empty queues, no session and no event yet. It takes no memory.
+    /// Empty queues, no session and no event yet, and not stopped. It takes no memory.
     pub fn new(alloc: Global, capacity: Option<u32>) -> Ledger
         ensures queues { result.queues.lanes ≡ [] }
         ensures capacity { result.capacity ≡ capacity }
         ensures sid { result.sid ≡ 0 }
         ensures history { result.history.items ≡ [] }
+        ensures stopped { result.stopped ≡ false }
     {
         Ledger {
             queues: Queues::new(alloc),
             capacity,
             sid: 0,
             history: Vec::new(alloc),
+            stopped: false,
         }
     }
 

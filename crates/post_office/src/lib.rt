@@ -10,8 +10,9 @@ mod parts;
 mod post;
 mod queues;
 
+pub use hosts::known_hosts;
 pub use ledger::{Ledger, append};
 pub use office::Office;
 pub use parts::channel_named;
-pub use post::{Post, Received, Sent, Started};
+pub use post::{Post, Received, Sent, Standing, Started};
 pub use queues::Queues;

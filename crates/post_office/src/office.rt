@@ -1,6 +1,6 @@
 //! The office.
 
-ghost use Rattle.std.specs.Prelude.{◌≡◌, [], IfOk, length};
+ghost use Rattle.std.specs.Prelude.{◌≡◌, [], false, IfOk, length};
 ghost use Rattle.std.proofs.Math.ListN.{replicate};
 ghost use Rattle.chor_host.specs.Functions.{hosts_in};
 ghost use Rattle.chor_host.specs.Tables.{functions_of};
@@ -10,7 +10,9 @@ ghost use Rattle.post_office.specs.Kept.{IsKept};
 
 mod board;
 mod mail;
+mod standing;
 mod starts;
+mod stops;
 
 use crate::desk::Desk;
 use crate::hosts::known_hosts;
@@ -75,6 +77,7 @@ impl<'a> Office<'a> {
         ensures queues { IfOk result (λ office. office.queues.lanes ≡ []) }
         ensures sid { IfOk result (λ office. office.sid ≡ 0) }
         ensures desks { IfOk result (λ office. office.desks ≡ replicate (length endpoints.now.processes) idle) }
+        ensures stopped { IfOk result (λ office. office.stopped ≡ false) }
     {
         let hosts = known_hosts(alloc, &endpoints.names, hosts)?;
         let processes = endpoints.processes.count();

@@ -43,3 +43,14 @@ pub enum Started {
     /// There was no memory for it.
     Memory,
 }
+
+/// How the run of a network stands, by what is posted of its processes.
+#[derive(Clone, Copy)]
+pub enum Standing {
+    /// Some process may go on.
+    Going,
+    /// Every process has ended.
+    Ended,
+    /// None can step. The first process that hasn't ended, and why it can't.
+    Stuck(u32, Why),
+}

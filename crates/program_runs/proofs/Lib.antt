@@ -3,3 +3,5 @@ pub mod TellingOn
 pub mod Alike
 pub mod SameTexts
 pub mod SameTranscripts
+pub mod SameTranscriptsBy
+pub mod Histories

@@ -1,5 +1,5 @@
 -- A run that is told part by part.
-use Rattle.std.proofs.Common.{◌≡◌, ◌+◌, ◌^◌, ◌<◌, ◌≤◌, ℕ, suc, List, [], ◌∷◌, ◌++◌, length, refl, sym, ap, ◌∙◌, subst, Some, None, Option, arith, append_assoc}
+use Rattle.std.proofs.Common.{◌≡◌, ◌+◌, ◌^◌, ◌<◌, ◌≤◌, ℕ, List, [], ◌∷◌, ◌++◌, length, refl, sym, ap, ◌∙◌, subst, Some, None, Option, arith}
 use Rattle.std.proofs.lemmas.List.{length-append}
 use Rattle.chor_base.specs.declared.event.Event.{Event}
 use Rattle.chor_base.specs.Meaning.{Hosts}
@@ -14,25 +14,19 @@ use Rattle.endpoint_runs.specs.Runs.{close_of}
 use Rattle.transcript.specs.declared.lines.Lines.{Lines}
 use Rattle.transcript.specs.Text.{Words, event_text, lines_from}
 use Rattle.transcript.specs.Written.{AreReady}
+use Rattle.transcript.proofs.Parts.{lines_then}
 use Rattle.program_runs.specs.Told.{HasBegun, IsTold}
 use Rattle.program_runs.specs.Transcripts.{closing_text, events_of}
 use Rattle.program_runs.proofs.Transcripts.{events_back}
-
--- the lines of events that come after others
-lines_then : (w : Words) (i : ℕ) (xs ys : List Event) → lines_from w i (xs ++ ys) ≡ lines_from w i xs ++ lines_from w (i + length xs) ys
-lines_then w i [] ys = let same : i ≡ i + 0 = omega arith in ap (λ (n : ℕ). lines_from w n ys) same
-lines_then w i (x ∷ xs) ys =
-    let same : suc i + length xs ≡ i + suc (length xs) = omega arith in
-    ap (λ (l : List ℕ). (event_text w i x ++ 10 ∷ []) ++ l) (lines_then w (suc i) xs ys ∙ ap (λ (n : ℕ). lines_from w (suc i) xs ++ lines_from w n ys) same)
-    ∙ sym (append_assoc (event_text w i x ++ 10 ∷ []) (lines_from w (suc i) xs) (lines_from w (i + suc (length xs)) ys))
 
 -- what holds after some parts: the events so far, and their lines
 pub record Telling (w : Words) (hosts : Hosts) (first now : Run) (lines : Lines) : Type 0 where
   pub events : List Event
   pub endpoints : now.network.endpoints ≡ first.network.endpoints
+  pub queues : now.network.capacity ≡ first.network.capacity
   pub schedule : now.schedule ≡ first.schedule
   pub count : now.before + length now.network.history ≡ length events
-  pub run : GoesOn first.network.endpoints hosts None first.schedule.seed first.schedule.steps first.network.state 0 events now.network.state
+  pub run : GoesOn first.network.endpoints hosts first.network.capacity first.schedule.seed first.schedule.steps first.network.state 0 events now.network.state
   pub text : lines.text.items ≡ lines_from w 1 events
   pub number : lines.count ≡ length events
   pub ready : AreReady w lines
@@ -41,18 +35,19 @@ pub begun : (w : Words) (hosts : Hosts) (first : Run) (lines : Lines) → HasBeg
 begun w hosts first lines b text number ready =
     let none : length first.network.history ≡ 0 = ap length b.none in
     let before : first.before ≡ 0 = b.before in
-    record { events = []; endpoints = refl; schedule = refl; count = omega arith; run = stays; text = text; number = number; ready = ready }
+    record { events = []; endpoints = refl; queues = refl; schedule = refl; count = omega arith; run = stays; text = text; number = number; ready = ready }
 
 module _ (w : Words) (hosts : Hosts) (first now : Run) (lines : Lines) (t : Telling w hosts first now lines) (closed : Option Closed) (next : Run) (c : Continues hosts now closed next) where
   -- how many events there are before the part
   before : next.before ≡ length t.events
   before = c.before ∙ t.count
 
-  leads : Leads first.network.endpoints hosts first.schedule.seed first.schedule.steps now.network.state (length t.events) c.events next.network.state closed
+  leads : Leads first.network.endpoints hosts first.network.capacity first.schedule.seed first.schedule.steps now.network.state (length t.events) c.events next.network.state closed
   leads =
-      let here = subst (λ (k : ℕ). Leads now.network.endpoints hosts now.schedule.seed now.schedule.steps now.network.state k c.events next.network.state closed) before c.leads in
-      let asked = subst (λ (s : Schedule). Leads now.network.endpoints hosts s.seed s.steps now.network.state (length t.events) c.events next.network.state closed) t.schedule here in
-      subst (λ (e : Endpoints). Leads e hosts first.schedule.seed first.schedule.steps now.network.state (length t.events) c.events next.network.state closed) t.endpoints asked
+      let here = subst (λ (k : ℕ). Leads now.network.endpoints hosts now.network.capacity now.schedule.seed now.schedule.steps now.network.state k c.events next.network.state closed) before c.leads in
+      let asked = subst (λ (s : Schedule). Leads now.network.endpoints hosts now.network.capacity s.seed s.steps now.network.state (length t.events) c.events next.network.state closed) t.schedule here in
+      let held = subst (λ (cap : Option ℕ). Leads now.network.endpoints hosts cap first.schedule.seed first.schedule.steps now.network.state (length t.events) c.events next.network.state closed) t.queues asked in
+      subst (λ (e : Endpoints). Leads e hosts first.network.capacity first.schedule.seed first.schedule.steps now.network.state (length t.events) c.events next.network.state closed) t.endpoints held
 
   -- there is a number for each line
   pub numbered : lines.count + length next.network.history < 2 ^ 64
@@ -84,10 +79,11 @@ module _ (w : Words) (hosts : Hosts) (first now : Run) (lines : Lines) (t : Tell
 
     pub told_on : closed ≡ None → AreReady w more → Telling w hosts first next more
     told_on open_still ready =
-        let l = subst (λ (o : Option Closed). Leads first.network.endpoints hosts first.schedule.seed first.schedule.steps now.network.state (length t.events) c.events next.network.state o) open_still leads in
+        let l = subst (λ (o : Option Closed). Leads first.network.endpoints hosts first.network.capacity first.schedule.seed first.schedule.steps now.network.state (length t.events) c.events next.network.state o) open_still leads in
         record {
           events = all;
           endpoints = c.endpoints ∙ t.endpoints;
+          queues = c.capacity ∙ t.queues;
           schedule = c.schedule ∙ t.schedule;
           count = let b = before in let m = many in let n = longer in omega arith;
           run = goes_then t.run next.network.state (length t.events) c.events (omega arith) l.0;
@@ -99,13 +95,13 @@ module _ (w : Words) (hosts : Hosts) (first now : Run) (lines : Lines) (t : Tell
     -- the run gets longer
     pub longer_still : closed ≡ None → now.before + length now.network.history < next.before + length next.network.history
     longer_still open_still =
-        let l = subst (λ (o : Option Closed). Leads first.network.endpoints hosts first.schedule.seed first.schedule.steps now.network.state (length t.events) c.events next.network.state o) open_still leads in
+        let l = subst (λ (o : Option Closed). Leads first.network.endpoints hosts first.network.capacity first.schedule.seed first.schedule.steps now.network.state (length t.events) c.events next.network.state o) open_still leads in
         let some : 1 ≤ length c.events = l.1 in
         let b = c.before in let m = many in omega arith
 
     pub told : (close : Closed) → closed ≡ Some close → (whole : List ℕ) → whole ≡ more.text.items ++ closing_text w more.count (close_of close) ++ 10 ∷ [] → IsTold w hosts first whole (close_of close)
     told close is whole same =
-        let l = subst (λ (o : Option Closed). Leads first.network.endpoints hosts first.schedule.seed first.schedule.steps now.network.state (length t.events) c.events next.network.state o) is leads in
+        let l = subst (λ (o : Option Closed). Leads first.network.endpoints hosts first.network.capacity first.schedule.seed first.schedule.steps now.network.state (length t.events) c.events next.network.state o) is leads in
         record {
           history = all;
           last = next.network.state;

@@ -15,6 +15,7 @@ use Rattle.same_programs.specs.States.{SameClose}
 use Rattle.same_programs.specs.Laws.{Agrees}
 use Rattle.transcript.specs.Text.{transcript}
 use Rattle.program_runs.specs.Transcripts.{book_of, closing_text, IsTranscriptOf}
+use Rattle.program_runs.specs.ByWorkers.{IsTranscriptBy}
 
 -- a run of a file is one of each file that is the same source
 abbrev pub SourcesRunAlike : Type 0
@@ -35,3 +36,9 @@ abbrev pub TranscriptsAgree : Type 0
 TranscriptsAgree =
     (functions : List Function) (e e' : Endpoints) (seed steps : ℕ) (text : List ℕ) (stuck : Bool) → IsCopy e e' → IsTranscriptOf functions e seed steps text stuck
     → IsTranscriptOf functions e' seed steps text stuck
+
+-- and so is one of a run that workers made
+abbrev pub TranscriptsByWorkersAgree : Type 0
+TranscriptsByWorkersAgree =
+    (functions : List Function) (e e' : Endpoints) (steps : ℕ) (text : List ℕ) (stuck : Bool) → IsCopy e e' → IsTranscriptBy functions e steps text stuck
+    → IsTranscriptBy functions e' steps text stuck

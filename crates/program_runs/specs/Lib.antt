@@ -1,4 +1,5 @@
 pub mod Transcripts
 pub mod Told
 pub mod Books
+pub mod ByWorkers
 pub mod Laws

@@ -2,20 +2,17 @@
 use Rattle.std.specs.Prelude.{ℕ, ◌≡◌, Bool, true, false, List, ◌++◌, length, map, None, codes}
 use Rattle.std.specs.Fmt.{decimal}
 use Rattle.chor_base.specs.declared.event.Event.{Event}
-use Rattle.chor_base.specs.declared.event.Entry.{Entry}
 use Rattle.chor_host.specs.Functions.{Function, hosts_in}
 use Rattle.endpoint_code.specs.declared.endpoints.Endpoints.{Endpoints}
 use Rattle.endpoint_code.specs.Network.{NetworkState, first_state}
 use Rattle.endpoint_code.specs.Scheduled.{Close, Ended, Limit, Stuck, IsScheduled}
+pub use Rattle.post_office.specs.Views.{events_of}
 use Rattle.transcript.specs.Text.{Words, transcript}
 use Rattle.transcript.specs.Closing.{stuck_text}
 
 -- what the transcripts of endpoint programs are written with
 abbrev pub book_of : Endpoints → Words
 book_of e = record { names = e.names; texts = e.texts; processes = map (λ p. p.name) e.processes }
-
-abbrev pub events_of : List Entry → List Event
-events_of entries = map (λ entry. entry.event) entries
 
 -- the last line of a run of n events: `end 3`, `limit 10`, `stuck 1 p empty #0 B>A`
 abbrev pub closing_text : Words → ℕ → Close → List ℕ

@@ -1,6 +1,6 @@
 //! What holds of the runs of sources, and of transcripts of programs that are the same.
 
-ghost use Rattle.program_runs.specs.Laws.{SourcesRunAlike, SourcesEndAlike, SameRunsAreWrittenAlike, TranscriptsAgree};
+ghost use Rattle.program_runs.specs.Laws.{SourcesRunAlike, SourcesEndAlike, SameRunsAreWrittenAlike, TranscriptsAgree, TranscriptsByWorkersAgree};
 
 /// Files that are one source have the same runs, and the same runs that have ended, however their nodes
 /// are numbered.
@@ -17,4 +17,9 @@ pub fn same_runs_are_written_alike()
 /// What is a transcript of endpoint programs is one of programs with the same units.
 pub fn transcripts_agree()
     ensures { TranscriptsAgree }
+{}
+
+/// So it is with transcripts of runs that workers made.
+pub fn transcripts_by_workers_agree()
+    ensures { TranscriptsByWorkersAgree }
 {}

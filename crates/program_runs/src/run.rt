@@ -40,7 +40,7 @@ pub fn execute(
     requires few { steps ≤ 1000000 }
     ensures { IfOk result (λ x. IsTranscriptOf (functions_of hosts.now) endpoints.now seed steps x.text.items x.stuck) }
 {
-    let run = Run::new(alloc, endpoints, Schedule { seed, steps })?;
+    let run = Run::new(alloc, endpoints, None, Schedule { seed, steps })?;
     let processes = names_of(alloc, endpoints.processes.as_slice())?;
     let book = Book {
         names: &endpoints.names,
@@ -54,7 +54,7 @@ pub fn execute(
     })
 }
 
-fn is_stuck(closed: Closed) -> bool
+pub(crate) fn is_stuck(closed: Closed) -> bool
     ensures { result ≡ is_stuck (close_of closed) }
 {
     match closed {
@@ -63,7 +63,7 @@ fn is_stuck(closed: Closed) -> bool
     }
 }
 
-fn names_of(alloc: Global, processes: &[Process]) -> Result<List<NameId>, Memory>
+pub(crate) fn names_of(alloc: Global, processes: &[Process]) -> Result<List<NameId>, Memory>
     ensures { IfOk result (λ list. list ≡ map (λ p. p.name) processes.now) }
 {
     let mut list = List::new(alloc);

@@ -11,6 +11,7 @@ mod ToldRuns
 pub mod Checked
 pub mod Books
 pub mod Runs
+pub mod RunsBy
 pub mod Told
 pub mod Lists
 pub mod Scopes

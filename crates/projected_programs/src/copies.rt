@@ -8,7 +8,7 @@ pub fn copies_are_faultless()
     ensures back { CopiesAreMutual }
 {}
 
-/// A copy asks the same host functions, if its table has no nodes that aren't used.
+/// A copy asks the same host functions.
 pub fn copies_ask_known()
     ensures { CopiesAskKnown }
 {}

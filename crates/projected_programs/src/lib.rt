@@ -14,6 +14,7 @@ ghost use Rattle.endpoint_code.specs.declared.endpoints.Endpoints.{Endpoints};
 ghost use Rattle.endpoint_check.specs.Programs.{AreProgramsOf};
 ghost use Rattle.projected_programs.specs.Sizes.{AreLiteralsSized};
 ghost use Rattle.projected_programs.specs.Laws.{AreProgramsOrRefused, RunsAreTold, ShortRunsAreTold, ProjectedTextIsTaken, ProjectedTextRuns, SourceRunsAreTold};
+ghost use Rattle.projected_programs.specs.LawsBy.{ProjectedTextRunsByWorkers};
 
 use chor_host::HostTable;
 pub use copies::{copies_are_faultless, copies_ask_known};
@@ -62,7 +63,22 @@ pub fn projected_text_runs()
     crate::copies_are_faultless();
     program_runs::transcripts_agree();
     accepted_files::asked_functions_answer();
+    accepted_files::projection_is_above();
     accepted_files::scheduled_runs_are_runs();
+}
+
+/// So it is where workers make the run: each transcript is that of a run of the choreography.
+pub fn projected_text_runs_by_workers()
+    ensures { ProjectedTextRunsByWorkers }
+{
+    writable_sources::projection_is_writable();
+    accepted_files::projection_is_faultless();
+    endpoint_laws::text_reads_back();
+    crate::copies_are_faultless();
+    program_runs::transcripts_by_workers_agree();
+    accepted_files::asked_functions_answer();
+    accepted_files::projection_is_above();
+    accepted_files::closed_runs_are_runs();
 }
 
 /// The events of a run of an accepted source's choreography can be told by lines, where there are
@@ -72,6 +88,7 @@ pub fn source_runs_are_told()
 {
     writable_sources::projection_is_writable();
     accepted_files::projection_is_faultless();
+    accepted_files::projection_is_above();
     accepted_files::checked_runs();
     crate::few_told();
 }

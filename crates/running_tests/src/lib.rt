@@ -1,5 +1,5 @@
 //! Tests of what runs and no command shows, by public calls alone: endpoint code, networks whose queues have a capacity,
-//! and offices. They say what no clause says: that the calls succeed where there is memory, and that they answer what was
+//! workers and offices. They say what no clause says: that the calls succeed where there is memory, and that they answer what was
 //! worked out by hand, or what a plainer call answers.
 #![tactic(auto)]
 
@@ -7,6 +7,8 @@
 mod capacities;
 #[cfg(test)]
 mod codes;
+#[cfg(test)]
+mod crews;
 #[cfg(test)]
 mod offices;
 #[cfg(test)]

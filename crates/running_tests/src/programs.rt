@@ -1,16 +1,14 @@
 //! Endpoint programs that are read from a text, and the lines of their events.
 
-ghost use Rattle.std.specs.List.{list_all};
-ghost use Rattle.std.specs.Prelude.{◌≡◌, IfOk};
+ghost use Rattle.std.specs.Prelude.{IfOk};
 ghost use Rattle.chor_host.specs.Functions.{names_of};
 ghost use Rattle.chor_host.specs.Tables.{functions_of};
-ghost use Rattle.endpoint_code.specs.Faults.{IsFaultlessWith, asks_known, is_listed};
+ghost use Rattle.endpoint_code.specs.Faults.{IsFaultlessWith};
 
-use chor_base::{Entry, HostOp, List, Meaning, Memory, Word};
-use chor_host::{HostFn, HostTable, host_max};
+use chor_base::{Entry, List, Memory};
+use chor_host::{HostTable, host_gap, host_max, host_min, program_hosts};
 use endpoint_check::read_programs;
 use endpoint_code::Endpoints;
-use known_functions::{asks_known, host_names};
 use std::alloc::Global;
 use std::process::Abort;
 use std::test::Fail;
@@ -19,12 +17,9 @@ use transcript::{Book, print_events};
 // How many bytes a text has at most: 16 MiB.
 const LONGEST: usize = 16_777_216;
 
-/// The host functions that programs may ask: `max` alone.
-pub fn functions(alloc: Global) -> Result<HostTable, Fail> {
-    let name = Word::from_slice(alloc, b"max".as_slice())?;
-    let mut hosts = HostTable::new(alloc);
-    hosts.add(HostFn::new(name, Meaning::Exact(HostOp::Max), host_max))?;
-    Ok(hosts)
+/// The host functions of the program.
+pub fn functions(alloc: Global) -> Result<HostTable, Memory> {
+    program_hosts(alloc, host_min, host_max, host_gap)
 }
 
 /// The programs that a text is of.
@@ -41,18 +36,7 @@ pub fn read(
         panic!(rt; "it is too long");
     }
     let endpoints = read_programs(alloc, text, hosts)?;
-    if !asks_these(alloc, &endpoints, hosts)? {
-        panic!(rt; "it asks other host functions");
-    }
     Ok(endpoints)
-}
-
-// Whether programs ask no other host functions.
-fn asks_these(alloc: Global, endpoints: &Endpoints, hosts: &HostTable) -> Result<bool, Memory>
-    ensures { IfOk result (λ asks. asks ≡ list_all (asks_known (is_listed (names_of (functions_of hosts.now)) endpoints.now)) endpoints.now.code.nodes) }
-{
-    let known = host_names(alloc, hosts)?;
-    Ok(asks_known(endpoints, known.as_slice()))
 }
 
 /// The lines of events, as they stand in a transcript.

@@ -1,5 +1,6 @@
 pub mod Tests
 pub mod Zips
+pub mod NameLists
 pub mod Maps
 pub mod Values
 pub mod Hosts
@@ -15,3 +16,4 @@ pub mod Steps
 pub mod Waiting
 pub mod Scheduling
 pub mod Selves
+pub mod Asking

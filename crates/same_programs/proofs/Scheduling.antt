@@ -170,12 +170,12 @@ module _ (e e' : Endpoints) (c : IsCopy e e') where
       let r_is : r ≡ p = sym h.0 ∙ number in
       record { because = y; is = λ j. Some (r_is j, Some y); same_why = subst (λ (z : Why). SameWhy (SameName e e') z y) cause h.1 }
 
-  record ClosesToo (cap : Option ℕ) (steps : ℕ) (n' : NetworkState) (events : ℕ) (o : Close) : Type 0 where
-    closed : Close
-    closes : Closes e' cap steps n' events closed
-    same_close : SameClose (SameName e e') o closed
+  pub record ClosesToo (cap : Option ℕ) (steps : ℕ) (n' : NetworkState) (events : ℕ) (o : Close) : Type 0 where
+    pub closed : Close
+    pub closes : Closes e' cap steps n' events closed
+    pub same_close : SameClose (SameName e e') o closed
 
-  closes_same : (cap : Option ℕ) (steps : ℕ) (n n' : NetworkState) → SameState e e' n n' → (events : ℕ) (o : Close) → Closes e cap steps n events o → ClosesToo cap steps n' events o
+  pub closes_same : (cap : Option ℕ) (steps : ℕ) (n n' : NetworkState) → SameState e e' n n' → (events : ℕ) (o : Close) → Closes e cap steps n events o → ClosesToo cap steps n' events o
   closes_same cap steps n n' same events o (close.ended h) =
       record { closed = close.Ended; closes = close.ended (sym (all_same e e' c n.machines n'.machines same.machines) ∙ h); same_close = closing.ended }
   closes_same cap steps n n' same events o (close.limit h i) =

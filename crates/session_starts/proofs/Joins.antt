@@ -5,6 +5,7 @@ use Rattle.std.proofs.lemmas.List.{drop_more, drop_all, map-set, length-map}
 use Rattle.std.proofs.lemmas.Option.{slice_get_within}
 use Rattle.std.proofs.lemmas.List.Elements.{All-set, All-head, All-tail, All-more, All-weaker}
 use Rattle.std.proofs.lemmas.Bool.{and_parts}
+use Rattle.chor_base.proofs.Lists.{get_set_other}
 use Rattle.chor_base.specs.declared.names.NameId.{NameId}
 use Rattle.endpoint_code.specs.declared.code.CodeNode.{CodeNode}
 use Rattle.endpoint_code.specs.declared.code.CodeNode.TheVariants.{Join, Send, Recv, Pick, Branch, Throw, Catch, Set, Show, Host, If, Call, End}
@@ -94,18 +95,11 @@ one_bound e ms p n all bound = subst (All (IsBound e)) (sym (map-set standing_of
 
 -- ---- all processes of a start
 
-slice_get_other : {X : Type 0} (xs : List X) (p q : ℕ) (y : X) → q ≢ p → slice_get (slice_set xs p y) q ≡ slice_get xs q
-slice_get_other [] p q y h = refl
-slice_get_other (x ∷ xs) zero zero y h = absurd (h refl)
-slice_get_other (x ∷ xs) zero (suc q) y h = refl
-slice_get_other (x ∷ xs) (suc p) zero y h = refl
-slice_get_other (x ∷ xs) (suc p) (suc q) y h = slice_get_other xs p q y (λ e. h (ap suc e))
-
 -- joiners are read alike where one process that isn't among them has changed
 joiners_apart : (e : Endpoints) (ms : List Machine) (c : NameId) (s p : ℕ) (m : Machine) (qs : List (NameId × ℕ)) → All (λ q. q.1 ≢ p) qs → joiners e (machines_alone (slice_set ms p m)) c s qs ≡ joiners e (machines_alone ms) c s qs
 joiners_apart e ms c s p m [] h = refl
 joiners_apart e ms c s p m (q ∷ qs) h =
-    ap (λ (o : Option Machine). one_joiner q.1 (net.joins e o c q.0 s) (joiners e (machines_alone (slice_set ms p m)) c s qs)) (slice_get_other ms p q.1 m (All-head (λ (q : NameId × ℕ). q.1 ≢ p) q qs h))
+    ap (λ (o : Option Machine). one_joiner q.1 (net.joins e o c q.0 s) (joiners e (machines_alone (slice_set ms p m)) c s qs)) (get_set_other ms p q.1 m (All-head (λ (q : NameId × ℕ). q.1 ≢ p) q qs h))
     ∙ ap (one_joiner q.1 (net.joins e (slice_get ms q.1) c q.0 s)) (joiners_apart e ms c s p m qs (All-tail (λ (q : NameId × ℕ). q.1 ≢ p) q qs h))
 
 pub apart_head : (x : NameId × ℕ) (xs : List (NameId × ℕ)) → AreApart (x ∷ xs) → All (λ q. q.1 ≢ x.1) xs
@@ -129,11 +123,11 @@ joined_more e c s old new q qs last one others rest =
 
 joins_still : (e : Endpoints) (c : NameId) (old : List Machine) (p : ℕ) (m : Machine) (qs : List (NameId × ℕ)) → All (λ q. q.1 ≢ p) qs → AllJoin e old c qs → AllJoin e (slice_set old p m) c qs
 joins_still e c old p m qs others all k d lt =
-    ap (λ (o : Option Machine). joins_there (place_at e o) c (get_or qs k d).0) (slice_get_other old p (get_or qs k d).1 m (others k d lt)) ∙ all k d lt
+    ap (λ (o : Option Machine). joins_there (place_at e o) c (get_or qs k d).0) (get_set_other old p (get_or qs k d).1 m (others k d lt)) ∙ all k d lt
 
 room_still : (e : Endpoints) (old : List MachineView) (p : ℕ) (m : MachineView) (qs : List (NameId × ℕ)) → All (λ q. q.1 ≢ p) qs → All (λ q. reserved_in e old q.1 ≡ true) qs → All (λ q. reserved_in e (slice_set old p m) q.1 ≡ true) qs
 room_still e old p m qs others all k d lt =
-    subst (λ (o : Option MachineView). reserved_of e o ≡ true) (sym (slice_get_other old p (get_or qs k d).1 m (others k d lt))) (all k d lt)
+    subst (λ (o : Option MachineView). reserved_of e o ≡ true) (sym (get_set_other old p (get_or qs k d).1 m (others k d lt))) (all k d lt)
 
 -- what holds before each turn of the loop over the parts
 pub record ToJoin (e : Endpoints) (c : NameId) (s : ℕ) (first : List Machine) (parts : List (NameId × ℕ)) (ms : List MachineView) (left : List (NameId × ℕ)) : Type 0 where

@@ -2,18 +2,20 @@
 use Rattle.std.proofs.Common.{◌≡◌, ℕ, suc, ◌+◌, ◌<◌, ◌≤◌, ◌==◌, ◌&&◌, ◌||◌, Bool, true, false, cond, List, [], ◌∷◌, ◌++◌, length, map, drop, get_or, refl, sym, ap, ◌∙◌, subst, Some, arith, append_assoc}
 use Rattle.std.proofs.Math.Seq.{drop-cons}
 use Rattle.std.proofs.lemmas.List.{append-nil, drop_all, map-append}
-use Rattle.std.specs.Prelude.{All}
+use Rattle.std.specs.Prelude.{All, Contains}
 use Rattle.std.specs.FinMap as fin
 use Rattle.std.proofs.lemmas.Bool.{and_parts}
 use Rattle.std.proofs.lemmas.Bool.Decides.{nat_tests}
 use Rattle.std.proofs.lemmas.List.Elements.{All-head, All-tail, All-cons, All-nil}
 use Rattle.chor_base.specs.declared.names.NameId.{NameId}
+use Rattle.chor_base.proofs.Members.{at_head, at_tail}
 use Rattle.endpoint_code.specs.declared.code.CodeId.{CodeId}
 use Rattle.endpoint_code.specs.declared.endpoints.Channel.{Channel}
 use Rattle.endpoint_code.specs.declared.endpoints.ServiceCode.{ServiceCode}
 use Rattle.endpoint_code.specs.declared.endpoints.Endpoints.{Endpoints}
 use Rattle.endpoint_code.specs.Network.{Machine, service_of, served, served_parts, channel_of}
 use Rattle.endpoint_code.specs.Faults.{IsFaultless, IsScoped, has_service}
+use Rattle.endpoint_code.specs.InBodies.{of_service}
 use Rattle.endpoint_machine.specs.Bound.{IsBound, AreBound}
 use Rattle.endpoint_machine.specs.Views.{MachineView}
 use Rattle.endpoint_machine.proofs.Scopes.{bound_put}
@@ -62,6 +64,20 @@ channel_has P (x ∷ ks) c k all h = go (x.name.0 == c.0) refl (λ i. channel_ha
 pub provided : (e : Endpoints) (c : NameId) (k : Channel) → IsFaultless e → channel_of e.channels c ≡ Some k → All (λ r. has_service k.name r e.services ≡ true) k.serve
 provided e c k faultless found = channel_has (λ (x : Channel). All (λ r. has_service x.name r e.services ≡ true) x.serve) e.channels c k faultless.names.provided found
 
+-- the code of a service is that of one in the list
+service_there : (ss : List ServiceCode) (c r : NameId) → has_service c r ss ≡ true → (s : ServiceCode) × Contains ss s × (s.body ≡ service_of ss c r)
+service_there [] c r h = absurd cc
+service_there (s ∷ ss) c r h = go ((s.channel.0 == c.0) && (s.role.0 == r.0)) ((c.0 == s.channel.0) && (r.0 == s.role.0)) (turned s) h (service_there ss c r)
+  where
+    turned : (s : ServiceCode) → ((c.0 == s.channel.0) && (r.0 == s.role.0)) ≡ ((s.channel.0 == c.0) && (s.role.0 == r.0))
+    turned s = (λ i. eq_sym c.0 s.channel.0 i && eq_sym r.0 s.role.0 i)
+
+    go : (t u : Bool) → u ≡ t → (u || has_service c r ss) ≡ true → (has_service c r ss ≡ true → (s : ServiceCode) × Contains ss s × (s.body ≡ service_of ss c r))
+        → (x : ServiceCode) × Contains (s ∷ ss) x × (x.body ≡ cond t s.body (service_of ss c r))
+    go true u e h before = (s, at_head s ss s refl, refl)
+    go false true e h before = absurd cc
+    go false false e h before = let b = before h in (b.0, at_tail s ss b.0 b.1, b.2)
+
 none_bound : AreBound fin.empty []
 none_bound k h = absurd cc
 
@@ -70,7 +86,9 @@ pub served_bound : (e : Endpoints) (c : NameId) (s : ℕ) (rs : List NameId) →
 served_bound e c s [] faultless all = All-nil (IsBound e)
 served_bound e c s (r ∷ rs) faultless all =
     All-cons (IsBound e) (record { at = service_of e.services c r; vars = fin.empty; sessions = fin.insert fin.empty c.0 (s, r) }) (served e c s rs)
-    (record {
+    (let here = service_there e.services c r (All-head (λ (x : NameId). has_service c x e.services ≡ true) r rs all) in
+    record {
+      in_body = of_service here.1 here.2;
       names = c ∷ [];
       scoped = service_scoped e e.services c r faultless.names.service_bodies (All-head (λ (x : NameId). has_service c x e.services ≡ true) r rs all);
       bound = bound_put fin.empty [] c (s, r) none_bound;

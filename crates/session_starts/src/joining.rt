@@ -1,6 +1,6 @@
 //! Starts of sessions.
 
-ghost use Rattle.std.specs.Prelude.{◌≡◌, ◌<◌, map, All, length, OnOk, true, slice_get};
+ghost use Rattle.std.specs.Prelude.{ℕ, ◌≡◌, ◌<◌, map, All, length, OnOk, true, slice_get};
 ghost use Rattle.endpoint_code.specs.Network.{place_at};
 ghost use Rattle.endpoint_code.specs.NetworkRuns.{joins_there};
 ghost use Rattle.endpoint_code.specs.Faults.{IsFaultless};
@@ -24,6 +24,7 @@ pub fn reserve_sessions(
     requires within { All (λ q. q.1 < length machines.old) parts.now }
     ensures standing { map standing_of machines.new ≡ map standing_of machines.old }
     ensures numbers { map number_of machines.new ≡ map number_of machines.old }
+    ensures kept { (p : ℕ) → reserved_in endpoints.now machines.old p ≡ true → reserved_in endpoints.now machines.new p ≡ true }
     ensures ok { OnOk result (All (λ q. reserved_in endpoints.now machines.new q.1 ≡ true) parts.now) }
 {
     for part in parts {

@@ -1,11 +1,11 @@
 //! A start.
 
-ghost use Rattle.std.specs.Prelude.{◌≡◌, ◌<◌, ◌+◌, ◌^◌, ◌++◌, map, All, length, IfOk, OnOk, OnErr, Some};
+ghost use Rattle.std.specs.Prelude.{ℕ, true, ◌≡◌, ◌<◌, ◌+◌, ◌^◌, ◌++◌, map, All, length, IfOk, OnOk, OnErr, Some};
 ghost use Rattle.endpoint_code.specs.Network.{channel_of, served_parts};
 ghost use Rattle.endpoint_code.specs.Faults.{IsFaultless};
 ghost use Rattle.endpoint_machine.specs.Bound.{IsBound};
 ghost use Rattle.session_starts.specs.Machines.{standing_of, AreCounted};
-ghost use Rattle.session_starts.specs.Starts.{AllJoin, AreApart, HasStarted};
+ghost use Rattle.session_starts.specs.Starts.{AllJoin, AreApart, HasStarted, reserved_in};
 
 use crate::joining::{join_all, reserve_sessions};
 use crate::services::{add_served, serve};
@@ -14,7 +14,8 @@ use endpoint_code::{Channel, Endpoints};
 use endpoint_machine::Machine;
 
 /// Starts a session on a channel with these processes, one for each active role. Each service role
-/// gets a new process with the next number. Answers all parts, those of the service roles last.
+/// gets a new process with the next number. Answers all parts, those of the service roles last. After
+/// an error no process has lost room.
 pub fn start_session(
     endpoints: &Endpoints,
     machines: &mut Vec<Machine>,
@@ -32,6 +33,7 @@ pub fn start_session(
     ensures parts { IfOk result (λ all. all ≡ parts ++ served_parts channel.now.serve (length machines.old.items)) }
     ensures started { OnOk result (HasStarted endpoints.now channel.now sid (map standing_of machines.old.items) parts (map standing_of machines.new.items)) }
     ensures same { OnErr result (map standing_of machines.new.items ≡ map standing_of machines.old.items) }
+    ensures room { OnErr result ((p : ℕ) → reserved_in endpoints.now machines.old.items p ≡ true → reserved_in endpoints.now machines.new.items p ≡ true) }
     ensures bound { All (IsBound endpoints.now) (map standing_of machines.new.items) }
     ensures counted { AreCounted machines.new.items }
     ensures few { length machines.new.items < 2 ^ 32 }

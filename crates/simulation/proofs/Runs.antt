@@ -1,5 +1,5 @@
 -- The run of a network of an accepted file's endpoint programs.
-use Rattle.std.proofs.Common.{◌≡◌, ℕ, true, false, List, length, None, inl, inr, subst}
+use Rattle.std.proofs.Common.{◌≡◌, ℕ, true, false, List, [], length, None, refl, inl, inr, subst}
 use Rattle.chor_base.specs.declared.event.Event.{Event}
 use Rattle.chor_base.specs.declared.event.Entry.{Entry}
 use Rattle.chor_base.specs.Meaning.{Hosts}
@@ -14,6 +14,7 @@ use Rattle.endpoint_runs.specs.declared.parts.Schedule.{Schedule}
 use Rattle.endpoint_runs.specs.declared.run.Closed.{Closed}
 use Rattle.endpoint_runs.specs.declared.run.Closed.TheVariants.{Ended, Limit, Stuck}
 use Rattle.endpoint_runs.specs.Runs.{IsRun, close_of as closing_of}
+use Rattle.accepted_files.specs.AboveProjection.{ProjectionIsAbove}
 use Rattle.accepted_files.specs.Runs.{IsChecked, IsRunOf, ScheduledRunsAreRuns}
 use Rattle.transcript.specs.Text.{Words, transcript}
 use Rattle.program_runs.specs.Transcripts.{closing_text}
@@ -32,16 +33,16 @@ checked words f e fine a = record {
 -- ---- the run
 
 module _ (f : File) (words : List (List ℕ)) (e : Endpoints) (ok : IsChecked f words) (a : IsAccepted f e) (functions : List Function) (answered : IsAnswered f (hosts_in f.names functions))
-    (running : ScheduledRunsAreRuns) where
+    (above : ProjectionIsAbove) (running : ScheduledRunsAreRuns) where
   abbrev hosts : Hosts
   hosts = hosts_in f.names functions
 
   -- a scheduled run of an accepted file's endpoint programs is one of the file
   pub run_of : (seed steps : ℕ) (history : List Event) (last : NetworkState) (close : Close) → IsScheduled e (hosts_in e.names functions) None seed steps (first_state e) 0 history last close
-      → (programs : Endpoints) → e ≡ programs → IsRunOf f programs hosts seed steps history close
+      → (programs : Endpoints) → e ≡ programs → IsRunOf f programs hosts None seed steps history close
   run_of seed steps history last close run programs e-is =
       let asked = subst (λ (names : List (List ℕ)). IsScheduled e (hosts_in names functions) None seed steps (first_state e) 0 history last close) a.projects.names run in
-      subst (λ (x : Endpoints). IsRunOf f x hosts seed steps history close) e-is (running f words ok e a.projects hosts answered seed steps history last close asked)
+      subst (λ (x : Endpoints). IsRunOf f x hosts None seed steps history close) e-is (running f words ok e (above f e a.projects) hosts answered None refl [] (first_state e) refl seed steps history last close asked)
 
   -- an accepted file's run, which is closed so, with its endpoint programs under another name
   pub outcome_of : (seed steps : ℕ) (entries : List Entry) (closed is : Closed) → IsRun e (hosts_in e.names functions) seed steps entries (closing_of closed) → closed ≡ is
@@ -54,8 +55,8 @@ module _ (f : File) (words : List (List ℕ)) (e : Endpoints) (ok : IsChecked f 
 
 -- where the run of an accepted file isn't stuck, its transcript ends with how it is closed
 pub told_of : (w : Words) (a : AcceptedView) (functions : List Function) (s : Schedule) (closed : Closed) (history : List Event) (text : List ℕ)
-    → IsRunOf a.typed.file a.endpoints (hosts_in a.typed.file.names functions) s.seed s.steps history (closing_of closed)
+    → IsRunOf a.typed.file a.endpoints (hosts_in a.typed.file.names functions) None s.seed s.steps history (closing_of closed)
     → text ≡ transcript w history (closing_text w (length history) (closing_of closed)) → IsToldOf w a functions s text
 told_of w a functions s Ended history text run is = record { history = history; ended = true; run = run; text_is = is }
 told_of w a functions s Limit history text run is = record { history = history; ended = false; run = run; text_is = is }
-told_of w a functions s (Stuck p why) history text run is = absurd run.closes
+told_of w a functions s (Stuck p why) history text run is = absurd run.closed.closes

@@ -1,5 +1,5 @@
 -- Runs of an accepted file.
-use Rattle.std.specs.Prelude.{ℕ, ◌≡◌, Bool, true, false, List}
+use Rattle.std.specs.Prelude.{ℕ, ◌≡◌, Bool, true, false, List, None}
 use Rattle.chor_base.specs.declared.event.Event.{Event}
 use Rattle.chor_base.specs.declared.event.Entry.{Entry}
 use Rattle.chor_base.specs.Meaning.{Hosts}
@@ -7,7 +7,7 @@ use Rattle.chor_tree.specs.declared.file.File.{File}
 use Rattle.endpoint_code.specs.declared.endpoints.Endpoints.{Endpoints}
 use Rattle.endpoint_code.specs.Scheduled.{Close, Ended, Limit}
 use Rattle.net_core.specs.Picks.{entries_of}
-pub use Rattle.accepted_files.specs.Scheduled.{ClosesWell}
+pub use Rattle.accepted_files.specs.Closing.{ClosesWell}
 pub use Rattle.accepted_files.specs.Runs.{IsRunOf}
 use Rattle.chor_host.specs.Functions.{Function, hosts_in}
 use Rattle.simulation.specs.declared.running.Outcome.{Outcome}
@@ -22,7 +22,7 @@ close_of false = Limit
 pub record IsOutcome (f : File) (e : Endpoints) (hosts : Hosts) (seed steps : ℕ) (entries : List Entry) (close : Close) : Type 0 where
   pub history : List Event
   pub entries_are : entries ≡ entries_of history
-  pub run : IsRunOf f e hosts seed steps history close
+  pub run : IsRunOf f e hosts None seed steps history close
 
 -- so it is with what is answered for an accepted file, where these host functions are there
 abbrev pub IsOutcomeOf : AcceptedView → List Function → ℕ → ℕ → Outcome → Type 0

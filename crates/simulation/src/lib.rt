@@ -3,8 +3,12 @@
 
 mod accepted;
 mod running;
+mod running_by;
 mod telling;
+mod telling_by;
 
 pub use accepted::{Accepted, accept};
 pub use running::{Outcome, run_accepted};
+pub use running_by::run_accepted_by;
 pub use telling::tell_accepted;
+pub use telling_by::tell_accepted_by;

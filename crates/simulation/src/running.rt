@@ -4,7 +4,8 @@ ghost use Rattle.std.specs.Prelude.{◌≡◌, ◌<◌, ◌≤◌, ◌^◌, IfOk
 ghost use Rattle.chor_host.specs.Functions.{names_of, hosts_in};
 ghost use Rattle.chor_host.specs.Tables.{functions_of};
 ghost use Rattle.well_formed.specs.Asked.{IsAnswered};
-ghost use Rattle.accepted_files.specs.FaultlessLaws.{ProjectionIsFaultless};
+ghost use Rattle.accepted_files.specs.FaultlessLaws.{ProjectionAsksKnown, ProjectionIsFaultless};
+ghost use Rattle.accepted_files.specs.AboveProjection.{ProjectionIsAbove};
 ghost use Rattle.accepted_files.specs.Runs.{ScheduledRunsAreRuns};
 ghost use Rattle.simulation.specs.Runs.{IsOutcomeOf};
 
@@ -12,7 +13,6 @@ use crate::accepted::Accepted;
 use chor_base::{Entry, List, Memory};
 use chor_host::HostTable;
 use endpoint_runs::{Closed, run_endpoints};
-use known_functions::asks_known;
 use std::alloc::Global;
 
 /// The events of a run.
@@ -41,9 +41,6 @@ pub fn run_accepted(
     laws();
     functions_answer(accepted, hosts);
     let endpoints = accepted.endpoints();
-    if !asks_known(endpoints, accepted.typed().hosts().as_slice()) {
-        return Err(Memory);
-    }
     let ran = run_endpoints(alloc, endpoints, hosts, seed, steps)?;
     match ran.closed {
         Closed::Ended => Ok(Outcome {
@@ -61,9 +58,13 @@ pub fn run_accepted(
 // What is proved of each accepted file and its runs.
 pub(crate) fn laws()
     ensures faultless { ProjectionIsFaultless }
+    ensures asks { ProjectionAsksKnown }
+    ensures above { ProjectionIsAbove }
     ensures runs { ScheduledRunsAreRuns }
 {
     accepted_files::projection_is_faultless();
+    accepted_files::projection_asks_known();
+    accepted_files::projection_is_above();
     accepted_files::scheduled_runs_are_runs();
 }
 

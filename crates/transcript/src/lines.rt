@@ -62,11 +62,20 @@ impl Lines {
         ensures count { IfOk result (λ lines. lines.count ≡ 0) }
         ensures ready { IfOk result (λ lines. (w : Words) → AreReady w lines) }
     {
+        Lines::after(alloc, 0)
+    }
+
+    /// No lines yet. So many stand elsewhere, and the next one is numbered on from them.
+    pub fn after(alloc: Global, count: u64) -> Result<Lines, Memory>
+        ensures text { IfOk result (λ lines. lines.text.items ≡ []) }
+        ensures count { IfOk result (λ lines. lines.count ≡ count) }
+        ensures ready { IfOk result (λ lines. (w : Words) → AreReady w lines) }
+    {
         let mut digits = Vec::new(alloc);
-        put_number(&mut digits, alloc, 0)?;
+        put_number(&mut digits, alloc, count)?;
         Ok(Lines {
             text: Vec::new(alloc),
-            count: 0,
+            count,
             digits,
             phrases: Phrases::new(alloc, 0)?,
         })

@@ -141,6 +141,7 @@ impl Known {
         let (from, to) = (message.from.process.name, message.to.process.name);
         self.owners
             .pass(given.process.name, given.role.name, from, to)
+            .map_err(OwnFault::Rule)
     }
 
     // The rule on an endpoint that is handed over, where the session allows one of this type.

@@ -3,6 +3,7 @@ use Rattle.std.proofs.Common.{◌≡◌, ℕ, zero, suc, ◌<◌, ◌==◌, ◌&
 use Rattle.std.specs.Prelude.{slice_get, slice_set, ◌≢◌}
 use Rattle.std.proofs.lemmas.Bool.{eqb-true, and_parts}
 use Rattle.std.specs.FinMap as fin
+use Rattle.chor_base.proofs.Lists.{get_set_other, get_append_left}
 use Rattle.chor_base.specs.declared.names.NameId.{NameId}
 use Rattle.chor_base.specs.declared.value.Load.{Load}
 use Rattle.chor_base.specs.declared.event.Event.{Event}
@@ -26,19 +27,6 @@ use Rattle.waiting_processes.specs.Waits.{touched_by, awaited_of, awaited_in, aw
 use Rattle.waiting_processes.specs.Untouched.{IsAt, IsUnmoved, LeavesOthers}
 
 -- ---- lists
-
-pub get_other : {X : Type 0} (xs : List X) (i j : ℕ) (x : X) → j ≢ i → slice_get (slice_set xs i x) j ≡ slice_get xs j
-get_other [] i j x h = refl
-get_other (y ∷ xs) zero zero x h = absurd (h refl)
-get_other (y ∷ xs) zero (suc j) x h = refl
-get_other (y ∷ xs) (suc i) zero x h = refl
-get_other (y ∷ xs) (suc i) (suc j) x h = get_other xs i j x (λ e. h (ap suc e))
-
--- more items behind
-get_before : {X : Type 0} (xs ys : List X) (j : ℕ) → j < length xs → slice_get (xs ++ ys) j ≡ slice_get xs j
-get_before [] ys j lt = absurd (omega arith)
-get_before (x ∷ xs) ys zero lt = refl
-get_before (x ∷ xs) ys (suc j) lt = get_before xs ys j (omega arith)
 
 length_set : {X : Type 0} (xs : List X) (i : ℕ) (x : X) → length (slice_set xs i x) ≡ length xs
 length_set [] i x = refl
@@ -70,14 +58,14 @@ module _ (n : NetworkState) (p : ℕ) (h : Head) (x : Event) (m : NetworkState) 
 
   moves : (at : CodeId) (vars : Variables) (ss : Sessions) (y : Event) → Some (Makes y (moved n p at vars ss)) ≡ Some (Makes x m) → Alone
   moves at vars ss y i = subst (λ (k : NetworkState). MovesAlone n p h k) (made_state i) (record {
-    machines = λ q other. get_other n.machines p q (record { at = at; vars = vars; sessions = ss }) other;
+    machines = λ q other. get_set_other n.machines p q (record { at = at; vars = vars; sessions = ss }) other;
     queues = λ t apart. refl;
   })
 
   changes : (at : CodeId) (vars : Variables) (ss : Sessions) (u : Triple) (ls : List Load) (y : Event) → touched_by h ≡ Some (Queue u.0 u.1 u.2)
       → Some (Makes y (record (moved n p at vars ss) { queues = with_loads n.queues u ls })) ≡ Some (Makes x m) → Alone
   changes at vars ss u ls y is i = subst (λ (k : NetworkState). MovesAlone n p h k) (made_state i) (record {
-    machines = λ q other. get_other n.machines p q (record { at = at; vars = vars; sessions = ss }) other;
+    machines = λ q other. get_set_other n.machines p q (record { at = at; vars = vars; sessions = ss }) other;
     queues = λ t apart. with_other n u ls h is t apart;
   })
 
@@ -180,7 +168,7 @@ joined_length ms (j ∷ js) = joined_length (slice_set ms j.0 j.1) js ∙ length
 
 joined_other : (ms : List Machine) (js : List (ℕ × Machine)) (q : ℕ) → AreOff q js → slice_get (with_machines ms js) q ≡ slice_get ms q
 joined_other ms [] q off = refl
-joined_other ms (j ∷ js) q off = joined_other (slice_set ms j.0 j.1) js q off.1 ∙ get_other ms j.0 q j.1 off.0
+joined_other ms (j ∷ js) q off = joined_other (slice_set ms j.0 j.1) js q off.1 ∙ get_set_other ms j.0 q j.1 off.0
 
 -- who doesn't join the channel hasn't moved, and no queue has changed
 record MovesJoiners (e : Endpoints) (cap : Option ℕ) (n : NetworkState) (c : NameId) (m : NetworkState) : Type 0 where
@@ -196,7 +184,7 @@ module _ (e : Endpoints) (cap : Option ℕ) (n : NetworkState) (c : NameId) (x :
   at_joiners k ps (Some js) i h = subst (λ (w : NetworkState). MovesJoiners e cap n c w) (made_state h) (record {
     machines = λ q lt apart.
         let within : q < length (with_machines n.machines js) = subst (λ l. q < l) (sym (joined_length n.machines js)) lt in
-        get_before (with_machines n.machines js) (served e c n.sid k.serve) q within ∙ joined_other n.machines js q (joiners_off e cap n c n.sid q apart ps js i);
+        get_append_left (with_machines n.machines js) (served e c n.sid k.serve) q within ∙ joined_other n.machines js q (joiners_off e cap n c n.sid q apart ps js i);
     queues = λ t. refl;
   })
 

@@ -9,7 +9,7 @@ _chor() {
   case $command in
     run | exec)
       if [[ $word == -* ]]; then
-        mapfile -t COMPREPLY < <(compgen -W '--seed --steps' -- "$word")
+        mapfile -t COMPREPLY < <(compgen -W '--workers --seed --steps' -- "$word")
         return
       fi
       ;;

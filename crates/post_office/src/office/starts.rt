@@ -39,7 +39,13 @@ impl Office<'_> {
     }
 
     // The first of these roles, other than a process's own, in which nobody is posted as joining.
-    fn absent(&self, pid: u32, channel: NameId, own: NameId, roles: &[NameId]) -> Option<NameId>
+    pub(crate) fn absent(
+        &self,
+        pid: u32,
+        channel: NameId,
+        own: NameId,
+        roles: &[NameId],
+    ) -> Option<NameId>
         ensures { result ≡ first_absent self.now.desks channel pid own roles.now }
     {
         for role in roles {

@@ -1,8 +1,7 @@
-use Rattle.std.proofs.Common.{ℕ, List, sym, ap, ◌∙◌, subst}
+use Rattle.std.proofs.Common.{ℕ, List, ap, ◌∙◌, subst}
 use Rattle.chor_host.specs.Tables.{functions_of}
 use Rattle.endpoint_code.specs.Faults.{AsksKnown, is_listed}
 use Rattle.type_check.specs.declared.typed.Typed.{Typed}
-use Rattle.known_functions.proofs.Asked.{asked}
 use Rattle.simulation.proofs.Runs.{checked}
 use Rattle.program_runs.specs.Books.{book_of}
 use Rattle.accepted_replays.proofs.Runs.{on_source}
@@ -14,10 +13,9 @@ replay_on-requires-clause-faultless g c =
     let e = c.endpoints-endpoints.result.now in
     let a = c.endpoints-endpoints.ensures.accepted in
     let ok = checked typed.hosts typed.file e typed.fine a in
-    let known = asked (is_listed c.as_slice.result.now e) e (sym c.asks_known.ensures ∙ search) in
     record {
       faultless = c.laws.ensures.faultless typed.file typed.hosts ok.accepted ok.guarded e a.projects;
-      hosts = subst (λ (words : List (List ℕ)). AsksKnown (is_listed words e) e) (c.as_slice.ensures ∙ c.hosts.ensures ∙ ap (λ (t : Typed). t.hosts) c.typed-typed.ensures ∙ c.requires.hosts) known;
+      hosts = subst (λ (words : List (List ℕ)). AsksKnown (is_listed words e) e) c.requires.hosts (c.laws.ensures.asks typed.file typed.hosts ok.accepted.names e a.projects);
     }
 
 pub returns : goal.returns
@@ -28,4 +26,4 @@ returns g c =
     let ok = checked typed.hosts typed.file e typed.fine a in
     let functions = functions_of c.args.hosts.now in
     let same = c.file.ensures.file ∙ ap (λ (t : Typed). t.file) c.typed-typed.ensures in
-    on_source typed.file typed.hosts ok e a.projects c.laws.ensures.to c.laws.ensures.back c.laws.ensures.end functions (book_of c.file.result.now) (ap book_of same) c.args.bytes.now c.replay_on.result c.replay_on.ensures
+    on_source typed.file typed.hosts ok e a.projects (c.laws.ensures.above typed.file e a.projects) c.laws.ensures.to c.laws.ensures.back c.laws.ensures.end functions c.args.capacity (book_of c.file.result.now) (ap book_of same) c.args.bytes.now c.replay_on.result c.replay_on.ensures

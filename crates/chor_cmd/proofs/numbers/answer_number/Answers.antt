@@ -2,7 +2,7 @@ use Rattle.std.proofs.Common.{refl, []}
 use Rattle.chor_host.specs.Tables.{functions_of}
 use Rattle.chor_cmd.specs.Outputs.{IsGenerated, of_number}
 use Rattle.command_words.specs.declared.words.Command.TheVariants.{Gen}
-use Rattle.chor_cmd.specs.Endings.{done}
+use Rattle.chor_cmd.proofs.Ways.{done}
 use Rattle.chor_cmd.proofs.Answered.{ok_so}
 use Rattle.chor_cmd.proofs.Fetched.{form_is}
 use Rattle.chor_cmd.proofs.numbers.answer_number.Goals as goal

@@ -1,7 +1,8 @@
 use Rattle.std.proofs.Common.{◌≤◌, ◌<◌, ℕ, List, [], length, sym, subst}
 use Rattle.chor_host.specs.Tables.{functions_of}
 use Rattle.chor_cmd.specs.Readings.{reading_of, limit_of}
-use Rattle.chor_cmd.specs.Endings.{MayTell, too_large}
+use Rattle.chor_cmd.specs.Endings.{MayTell}
+use Rattle.chor_cmd.proofs.Ways.{too_large}
 use Rattle.chor_cmd.proofs.Asked.{may_ask, may_exceed}
 use Rattle.chor_cmd.proofs.Fetched.{form_is, names_first, ends_unread}
 use Rattle.chor_cmd.proofs.one_file.answer_file.Goals as goal

@@ -2,7 +2,8 @@ use Rattle.std.proofs.Common.{subst}
 use Rattle.chor_host.specs.Tables.{functions_of}
 use Rattle.endpoint_check.specs.Programs.{IsDenialOfPrograms}
 use Rattle.command_words.specs.declared.words.Command.TheVariants.{Exec}
-use Rattle.chor_cmd.specs.Endings.{host_names, refused}
+use Rattle.chor_cmd.specs.Endings.{host_names}
+use Rattle.chor_cmd.proofs.Ways.{refused}
 use Rattle.chor_cmd.proofs.Executed.{ended_so}
 use Rattle.chor_cmd.proofs.Fetched.{asked_form, ends_denied}
 use Rattle.chor_cmd.proofs.one_file.answer_programs.Goals as goal

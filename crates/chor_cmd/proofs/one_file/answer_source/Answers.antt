@@ -3,7 +3,8 @@ use Rattle.chor_host.specs.Tables.{functions_of}
 use Rattle.chor_cmd.specs.declared.status.Status.TheVariants.{Done}
 use Rattle.chor_cmd.specs.Readings.{reading_of}
 use Rattle.chor_cmd.specs.Outputs.{IsDenied}
-use Rattle.chor_cmd.specs.Endings.{Ends, host_names, refused, done}
+use Rattle.chor_cmd.specs.Endings.{Ends, host_names}
+use Rattle.chor_cmd.proofs.Ways.{refused, done}
 use Rattle.chor_cmd.proofs.Fetched.{asked_form, ends_denied}
 use Rattle.chor_cmd.proofs.one_file.answer_source.Goals as goal
 

@@ -1,7 +1,8 @@
 use Rattle.std.proofs.Common.{◌≤◌, ℕ, List, [], ◌∷◌, length, sym, subst}
 use Rattle.chor_host.specs.Tables.{functions_of}
 use Rattle.command_words.specs.declared.words.Command.TheVariants.{Replay}
-use Rattle.chor_cmd.specs.Endings.{Told, MayTell, too_large}
+use Rattle.chor_cmd.specs.Endings.{Told, MayTell}
+use Rattle.chor_cmd.proofs.Ways.{too_large}
 use Rattle.chor_cmd.proofs.Asked.{may_ask_events, may_exceed_events}
 use Rattle.chor_cmd.proofs.Fetched.{form_is, names_second, ends_unread, unread_since}
 use Rattle.chor_cmd.proofs.replays.answer_events.Goals as goal

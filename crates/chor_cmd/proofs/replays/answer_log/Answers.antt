@@ -1,4 +1,4 @@
-use Rattle.std.proofs.Common.{◌≡◌, ◌∙◌, ℕ, List, [], ◌∷◌, refl, sym, ap, subst}
+use Rattle.std.proofs.Common.{◌≡◌, ◌∙◌, ℕ, List, [], ◌∷◌, None, refl, sym, ap, subst}
 use Rattle.std.specs.Prelude.{Result, Err}
 use Rattle.chor_host.specs.Functions.{hosts_in}
 use Rattle.replay.specs.declared.answer.Replayed.{Replayed}
@@ -8,7 +8,8 @@ use Rattle.chor_host.specs.Tables.{functions_of}
 use Rattle.command_words.specs.declared.words.Command.TheVariants.{Replay}
 use Rattle.chor_cmd.specs.declared.status.Status.TheVariants.{Done, Unmatched}
 use Rattle.chor_cmd.specs.Outputs.{of_replay, replayed_line, unmatched_line}
-use Rattle.chor_cmd.specs.Endings.{Ends, done, unmatched}
+use Rattle.chor_cmd.specs.Endings.{Ends}
+use Rattle.chor_cmd.proofs.Ways.{done, unmatched}
 use Rattle.chor_cmd.proofs.Answered.{ok_so}
 use Rattle.chor_cmd.proofs.Fetched.{asked_form}
 use Rattle.chor_cmd.proofs.replays.answer_log.Goals as goal
@@ -30,7 +31,7 @@ returns-in-Err-Unmatched g c = λ words before after read.
     let f = c.args.accepted.now.typed.file in
     let log = c.args.events.now in
     let i = c.in-Err-Unmatched.line in
-    let told = subst (λ (r : Result Replayed ReplayFault). ReplaysSource f (hosts_in f.names functions) log r) (c.in-Err-Unmatched.is ∙ ap Err c.in-Err-Unmatched.field-0-is) c.replay_accepted.ensures in
+    let told = subst (λ (r : Result Replayed ReplayFault). ReplaysSource f (hosts_in f.names functions) None log r) (c.in-Err-Unmatched.is ∙ ap Err c.in-Err-Unmatched.field-0-is) c.replay_accepted.ensures in
     let e = unmatched 1 2 read.bytes log i read.asks (record { file = f; accepted = read.accepted; replays = told }) in
     c.finish_line-in-Err-Unmatched.ensures functions words before after (asked_form read.asks)
     (ok_so (λ l. l.items ≡ unmatched_line i) _ (λ l is. subst (λ (t : List ℕ). Ends functions words before after Unmatched t) (sym is) e) c.unmatched_line.result c.unmatched_line.ensures)

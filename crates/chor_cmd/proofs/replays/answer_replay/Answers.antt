@@ -3,7 +3,8 @@ use Rattle.chor_host.specs.Tables.{functions_of}
 use Rattle.source_check.specs.declared.rules.Rules.TheVariants.{All}
 use Rattle.source_check.specs.Source.{IsDenialOf}
 use Rattle.command_words.specs.declared.words.Command.TheVariants.{Replay}
-use Rattle.chor_cmd.specs.Endings.{MayTell, host_names, too_large, refused}
+use Rattle.chor_cmd.specs.Endings.{MayTell, host_names}
+use Rattle.chor_cmd.proofs.Ways.{too_large, refused}
 use Rattle.chor_cmd.proofs.Asked.{may_ask_source, may_exceed_source}
 use Rattle.chor_cmd.proofs.Fetched.{form_is, names_first, ends_unread, ends_denied, no_fall, touches_both}
 use Rattle.chor_cmd.proofs.replays.answer_replay.Goals as goal

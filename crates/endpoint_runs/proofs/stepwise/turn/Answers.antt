@@ -5,11 +5,11 @@ use Rattle.endpoint_runs.proofs.StepByStep.{stuck_turns}
 use Rattle.endpoint_runs.proofs.stepwise.turn.Goals as goal
 
 pub returns-then-finished : goal.returns-then-finished
-returns-then-finished g c = record { same = record { endpoints = refl; capacity = refl; state = refl; history = refl }; closes = ended (sym c.finished.ensures ∙ c.if-finished.true) }
+returns-then-finished g c = record { same = record { endpoints = refl; capacity = refl; state = refl; history = refl; stopped = refl; room = λ p h. h }; closes = ended (sym c.finished.ensures ∙ c.if-finished.true) }
 
 pub returns-then-history-schedule : goal.returns-then-history-schedule
 returns-then-history-schedule g c = record {
-  same = record { endpoints = refl; capacity = refl; state = refl; history = refl };
+  same = record { endpoints = refl; capacity = refl; state = refl; history = refl; stopped = refl; room = λ p h. h };
   closes = limit (sym c.finished.ensures ∙ c.if-finished.false) (sym (ap length c.history.ensures) ∙ c.if-history-schedule.true);
 }
 

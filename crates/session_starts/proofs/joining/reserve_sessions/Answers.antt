@@ -40,6 +40,17 @@ returns-in_err-reserve-clause-numbers c =
     let within : q.1 < length ms = subst (λ (n : ℕ). q.1 < n) (sym c.loop-part.auto.machines) (c.requires.within i (record { 0 = 0 }, 0) c.loop-part-test.true) in
     mapped_get number_of ms q.1 d c.reserve.new.self within c.reserve.ensures.number ∙ c.loop-part.invariant.numbers
 
+pub returns-in_err-reserve-clause-kept : goal.returns-in_err-reserve-clause-kept
+returns-in_err-reserve-clause-kept c =
+    let i = c.loop-part.part-index in
+    let parts = c.args.parts.now in
+    let ms = c.loop-part.machines in
+    let q = get_or parts i (record { 0 = 0 }, 0) in
+    let d = c.index-machines-part.result in
+    let within : q.1 < length ms = subst (λ (n : ℕ). q.1 < n) (sym c.loop-part.auto.machines) (c.requires.within i (record { 0 = 0 }, 0) c.loop-part-test.true) in
+    let e = c.args.endpoints.now in
+    λ p r. reserved_stays e ms q.1 d c.reserve.new.self p within (λ h. is_room e c.reserve.new.self (c.reserve.ensures.kept (reserved_is e (get_or ms q.1 d) h))) (c.loop-part.invariant.kept p r)
+
 pub loop-part-preserved : goal.loop-part-preserved
 loop-part-preserved c =
     let i = c.loop-part.part-index in
@@ -52,6 +63,8 @@ loop-part-preserved c =
     record {
       standing = mapped_get standing_of ms q.1 d c.reserve.new.self within c.reserve.ensures.machine ∙ c.loop-part.invariant.standing;
       numbers = mapped_get number_of ms q.1 d c.reserve.new.self within c.reserve.ensures.number ∙ c.loop-part.invariant.numbers;
+      kept = λ p r.
+          reserved_stays e ms q.1 d c.reserve.new.self p within (λ h. is_room e c.reserve.new.self (c.reserve.ensures.kept (reserved_is e (get_or ms q.1 d) h))) (c.loop-part.invariant.kept p r);
       room =
           room_taken e ms _ parts i (record { 0 = 0 }, 0) c.loop-part-test.true
           (λ p. reserved_stays e ms q.1 d c.reserve.new.self p within (λ r. is_room e c.reserve.new.self (c.reserve.ensures.kept (reserved_is e (get_or ms q.1 d) r))))

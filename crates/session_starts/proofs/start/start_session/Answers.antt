@@ -5,6 +5,7 @@ use Rattle.std.specs.Result.{OnErr}
 use Rattle.std.proofs.lemmas.List.{with_items_is, map-append}
 use Rattle.std.proofs.Math.Seq.{take-append_seam}
 use Rattle.chor_base.specs.declared.names.NameId.{NameId}
+use Rattle.endpoint_code.specs.declared.endpoints.Endpoints.{Endpoints}
 use Rattle.endpoint_code.specs.Network.{Machine, served_parts}
 use Rattle.endpoint_machine.specs.Bound.{IsBound}
 use Rattle.endpoint_machine.specs.Views.{MachineView}
@@ -183,3 +184,25 @@ returns-in_err-reserve-clause-counted c = subst AreCounted (sym c.in_err-reserve
 
 pub returns-in_err-reserve-clause-few : goal.returns-in_err-reserve-clause-few
 returns-in_err-reserve-clause-few c = few_among (length c.args.machines.now.items) (length c.args.channel.now.serve) _ (ap length c.in_err-reserve.ensures.items) c.requires.fits
+
+-- as many processes in the same places have room where the list is the same
+stays : (e : Endpoints) (ms ns : List MachineView) → ns ≡ ms → (p : ℕ) → reserved_in e ms p ≡ true → reserved_in e ns p ≡ true
+stays e ms ns same p h = subst (λ (l : List MachineView). reserved_in e l p ≡ true) (sym same) h
+
+pub returns-in_err-add_served-clause-room : goal.returns-in_err-add_served-clause-room
+returns-in_err-add_served-clause-room c = on_err c.from_residual.result (λ p h. h)
+
+pub returns-in_err-new-clause-room : goal.returns-in_err-new-clause-room
+returns-in_err-new-clause-room c = on_err c.from_residual-in_err-new.result (λ p h. h)
+
+pub returns-in_err-reserve-clause-room : goal.returns-in_err-reserve-clause-room
+returns-in_err-reserve-clause-room c = on_err c.from_residual-in_err-reserve.result (stays c.args.endpoints.now c.args.machines.now.items c.reserve.new.self.items c.in_err-reserve.ensures.items)
+
+pub returns-in_err-reserve_sessions-clause-room : goal.returns-in_err-reserve_sessions-clause-room
+returns-in_err-reserve_sessions-clause-room c =
+    let here : List MachineView = c.args.machines.now.items in
+    let first = c.reserve_sessions.new.machines in
+    let after = with_items_is c.reserve.new.self first (c.reserve_sessions.auto.machines ∙ c.as_mut_slice.ensures.len) in
+    let items : c.as_mut_slice.result.now ≡ here = c.as_mut_slice.ensures.value ∙ c.in_ok-reserve.ensures.items in
+    on_err c.from_residual-in_err-reserve_sessions.result
+    (λ p h. stays c.args.endpoints.now first (with_items c.reserve.new.self first).items after p (c.in_err-reserve_sessions.ensures.kept p (stays c.args.endpoints.now here c.as_mut_slice.result.now items p h)))

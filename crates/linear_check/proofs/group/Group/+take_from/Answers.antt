@@ -1,4 +1,4 @@
-use Rattle.std.proofs.Common.{◌≡◌, false, ◌<◌, ◌∷◌, [], refl, sym, ap, ◌∙◌, subst, arith}
+use Rattle.std.proofs.Common.{◌≡◌, true, false, ◌<◌, ◌∷◌, [], refl, sym, ap, ◌∙◌, subst, arith}
 use Rattle.std.specs.Prelude.{Contains, option_copied}
 use Rattle.std.proofs.lemmas.Result.{IfOk-weaker, on_ok_weaker}
 use Rattle.chor_tree.specs.Source.{body_of}
@@ -6,7 +6,9 @@ use Rattle.linear_check.specs.Tracks.{Tracks}
 use Rattle.linear_check.specs.Takes.{TakesAway}
 use Rattle.chor_base.proofs.Members.{at_head, at_tail}
 use Rattle.chor_tree.proofs.Nodes.{child_below}
+use Rattle.linear_check.specs.Weights.{form_weight, weight_of, IsNoHeavier}
 use Rattle.linear_check.proofs.PassedOn.{neither}
+use Rattle.linear_check.proofs.Weights.{falls_twice, no_heavier_twice, no_heavier_same, no_more, falls, ok_both}
 use Rattle.linear_check.proofs.WalksOn.{begins, goes_on, tail_away, past_away, branches_away}
 use Rattle.linear_check.proofs.group.Group.+take_from.Goals as goal
 
@@ -102,3 +104,38 @@ returns-clause-taken t c = λ m tracks.
 
 pub returns-clause-same : goal.returns-clause-same
 returns-clause-same t c = λ e. c.loop-node.invariant.same
+
+pub returns-in-Nothing-clause-lighter : goal.returns-in-Nothing-clause-lighter
+returns-in-Nothing-clause-lighter t c =
+    let new = c.take_at.new.sets in
+    on_ok_weaker c.take_at.result (λ h. subst (λ s. IsNoHeavier new s) c.loop-node.invariant.same h) c.take_at.ensures.lighter
+
+pub returns-in-Nothing-clause-falls : goal.returns-in-Nothing-clause-falls
+returns-in-Nothing-clause-falls t c =
+    let nodes = c.args.self.now.file.now.tree.nodes in
+    let new = c.take_at.new.sets in
+    let old = c.loop-node.sets in
+    let n = c.in-Some.node.now in
+    ok_both c.take_at.result (λ b. b ≡ true → form_weight new n.form < form_weight old n.form) (λ b. b ≡ true → weight_of new nodes < weight_of c.args.sets.now nodes) (IsNoHeavier new old)
+    (λ b less h e. subst (λ s. weight_of new nodes < weight_of s nodes) c.loop-node.invariant.same (falls old new h nodes c.loop-node.at.0 n (sym c.in-Some.ensures) (less e)))
+    c.take_at.ensures.falls c.take_at.ensures.lighter
+
+pub returns-in-Either-clause-lighter : goal.returns-in-Either-clause-lighter
+returns-in-Either-clause-lighter t c =
+    let middle = c.take_from.new.sets in
+    let first = subst (λ s. IsNoHeavier middle s) c.loop-node.invariant.same c.in_ok-first-in-Either.ensures.lighter in
+    no_heavier_twice c.args.sets.now middle c.take_from-in-Either.new.sets first c.in_ok-second-in-Either.ensures.lighter
+
+pub returns-in-Either-clause-falls : goal.returns-in-Either-clause-falls
+returns-in-Either-clause-falls t c =
+    let nodes = c.args.self.now.file.now.tree.nodes in
+    let old = c.args.sets.now in
+    let middle = c.take_from.new.sets in
+    let new = c.take_from-in-Either.new.sets in
+    let first : IsNoHeavier middle old = subst (λ s. IsNoHeavier middle s) c.loop-node.invariant.same c.in_ok-first-in-Either.ensures.lighter in
+    falls_twice c.in_ok-first-in-Either.first c.in_ok-second-in-Either.second (weight_of old nodes) (weight_of middle nodes) (weight_of new nodes)
+    (λ e. subst (λ s. weight_of middle nodes < weight_of s nodes) c.loop-node.invariant.same (c.in_ok-first-in-Either.ensures.falls e))
+    c.in_ok-second-in-Either.ensures.falls (no_more old middle first nodes) (no_more middle new c.in_ok-second-in-Either.ensures.lighter nodes)
+
+pub returns-clause-lighter : goal.returns-clause-lighter
+returns-clause-lighter t c = no_heavier_same c.args.sets.now c.loop-node.sets c.loop-node.invariant.same

@@ -3,7 +3,9 @@ use Rattle.well_formed.specs.Linear.{everyone}
 use Rattle.chor_tree.specs.Source.{body_of}
 use Rattle.linear_check.specs.Takes.{TakesAway}
 use Rattle.linear_check.specs.Greatest.{TakesIn, AreAllGreatest}
+use Rattle.linear_check.specs.Weights.{weight_of}
 use Rattle.linear_check.proofs.PassedOn.{neither}
+use Rattle.linear_check.proofs.Weights.{falls_twice, no_heavier_twice, no_more}
 use Rattle.linear_check.proofs.Settled.{upper_turn, upper_end, settled_turn, all_settled, item_at, item_among}
 use Rattle.linear_check.proofs.group.Group.take_in_all.Goals as goal
 
@@ -20,6 +22,11 @@ loop-procedure-preserved c =
           upper_turn f cs h old new (item_among _ f.procs c.loop-procedure.procedure-index h c.as_slice-procedure-items.ensures c.loop-procedure-test.true c.procedure-item.is)
           c.in_ok-taken.ensures.taken (c.loop-procedure.invariant.upper u);
       same = λ e. let both = neither c.loop-procedure.changed c.in_ok-taken.taken e in c.in_ok-taken.ensures.same both.1 ∙ c.loop-procedure.invariant.same both.0;
+      lighter = no_heavier_twice whole old new c.loop-procedure.invariant.lighter c.in_ok-taken.ensures.lighter;
+      falls =
+          let nodes = f.tree.nodes in
+          falls_twice c.loop-procedure.changed c.in_ok-taken.taken (weight_of whole nodes) (weight_of old nodes) (weight_of new nodes) c.loop-procedure.invariant.falls c.in_ok-taken.ensures.falls
+          (no_more whole old c.loop-procedure.invariant.lighter nodes) (no_more old new c.in_ok-taken.ensures.lighter nodes);
       settled = λ e.
           let both = neither c.loop-procedure.changed c.in_ok-taken.taken e in
           let first : old ≡ whole = c.loop-procedure.invariant.same both.0 in
@@ -51,3 +58,12 @@ returns-clause-settled c = λ e u.
     let settled = all_settled f cs whole c.loop-procedure.procedure-index le (c.loop-procedure.invariant.settled both.0)
     (subst (λ s. TakesAway cs (λ n. everyone) (body_of f f.body) whole s) last (subst (λ s. TakesAway cs (λ n. everyone) (body_of f f.body) s new) first walk)) u in
     subst (AreAllGreatest f cs) (sym last) settled
+
+pub returns-clause-falls : goal.returns-clause-falls
+returns-clause-falls c =
+    let nodes = c.args.self.now.file.now.tree.nodes in
+    let whole = c.args.sets.now in
+    let old = c.loop-procedure.sets in
+    let new = c.take_from.new.sets in
+    falls_twice c.loop-procedure.changed c.in_ok-last.last (weight_of whole nodes) (weight_of old nodes) (weight_of new nodes) c.loop-procedure.invariant.falls c.in_ok-last.ensures.falls
+    (no_more whole old c.loop-procedure.invariant.lighter nodes) (no_more old new c.in_ok-last.ensures.lighter nodes)

@@ -11,4 +11,4 @@ returns c = λ n x.
     let k = is_marked c.args.marks n in
     let has : List (NameId × Marks) → Bool = λ l. list_any (λ e. (e.0.0 == x) && is_marked e.1 n) l in
     let entries : has c.in_ok-entries.entries ≡ (has c.args.self.now.entries && k) = c.in_ok-entries.ensures n x ∙ ap (λ l. has l && k) c.as_slice.ensures in
-    (λ i. c.and-self.ensures n i || entries i) ∙ distributed (is_marked c.args.self.now.all n) (has c.args.self.now.entries) k
+    (λ i. c.and-self.ensures.both n i || entries i) ∙ distributed (is_marked c.args.self.now.all n) (has c.args.self.now.entries) k

@@ -14,7 +14,7 @@ pub returns-then-have_ended : goal.returns-then-have_ended
 returns-then-have_ended g c =
     let v = c.args.network.now in
     record {
-      turns = record { same = record { endpoints = refl; capacity = refl; state = refl; history = refl }; closes = ended (sym (c.have_ended.ensures v.endpoints v.capacity v.state c.requires.kept) ∙ c.if-have_ended.true) };
+      turns = record { same = record { endpoints = refl; capacity = refl; state = refl; history = refl; stopped = refl; room = λ p h. h }; closes = ended (sym (c.have_ended.ensures v.endpoints v.capacity v.state c.requires.kept) ∙ c.if-have_ended.true) };
       kept = λ i. absurd (none-some _ (sym i));
     }
 
@@ -23,7 +23,7 @@ returns-then-events-steps g c =
     let v = c.args.network.now in
     record {
       turns = record {
-        same = record { endpoints = refl; capacity = refl; state = refl; history = refl };
+        same = record { endpoints = refl; capacity = refl; state = refl; history = refl; stopped = refl; room = λ p h. h };
         closes = limit (sym (c.have_ended.ensures v.endpoints v.capacity v.state c.requires.kept) ∙ c.if-have_ended.false) (sym c.events.ensures.events ∙ c.if-events-steps.true);
       };
       kept = λ i. absurd (none-some _ (sym i));

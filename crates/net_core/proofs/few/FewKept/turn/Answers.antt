@@ -27,18 +27,18 @@ still_there : (p k m : ℕ) → p < k → k ≤ m → p < m
 still_there p k m lt le = omega arith
 
 pub returns-in_default : goal.returns-in_default
-returns-in_default g c = record { turns = inl (record { endpoints = refl; capacity = refl; state = refl; history = refl }); kept = λ i. absurd (none-some _ (sym i)) }
+returns-in_default g c = record { turns = inl (record { endpoints = refl; capacity = refl; state = refl; history = refl; stopped = refl; room = λ p h. h }); kept = λ i. absurd (none-some _ (sym i)) }
 
 pub returns-then-ended : goal.returns-then-ended
 returns-then-ended g c = record {
-  turns = record { same = record { endpoints = refl; capacity = refl; state = refl; history = refl }; closes = ended (sym c.in-Ok.ensures.ended ∙ c.if-ended.true) };
+  turns = record { same = record { endpoints = refl; capacity = refl; state = refl; history = refl; stopped = refl; room = λ p h. h }; closes = ended (sym c.in-Ok.ensures.ended ∙ c.if-ended.true) };
   kept = λ i. absurd (none-some _ (sym i));
 }
 
 pub returns-then-events-steps : goal.returns-then-events-steps
 returns-then-events-steps g c = record {
   turns = record {
-    same = record { endpoints = refl; capacity = refl; state = refl; history = refl };
+    same = record { endpoints = refl; capacity = refl; state = refl; history = refl; stopped = refl; room = λ p h. h };
     closes = limit (sym c.in-Ok.ensures.ended ∙ c.if-ended.false) (sym c.events.ensures.events ∙ c.if-events-steps.true);
   };
   kept = λ i. absurd (none-some _ (sym i));

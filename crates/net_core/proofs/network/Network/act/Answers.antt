@@ -58,7 +58,7 @@ returns-clause-stepped g c =
     let i = c.self.inside in
     let p = c.args.pid in
     let hosts = hosts_in c.args.self.now.endpoints.names (functions_of c.args.hosts.now) in
-    stepped i.machines.items i.ledger.queues c.self.view_is hosts _ p c.act-event.result _ refl refl refl c.append.ensures.items
+    stepped i.machines.items i.ledger.queues c.self.view_is c.args.worker hosts _ p c.act-event.result _ refl refl refl c.append.ensures.items refl
     (alone_chooses i.endpoints.now hosts i.ledger.capacity i.machines.items i.ledger.queues c.act-event.new.queues i.ledger.sid p c.index_mut-machine.result.now c.act-event.new.machine c.args.head c.act-event.result
     (shows_in i.machines.items i.ledger.queues c.self.view_is p c.args.head c.requires.shows) c.self.invariant.counted
     (within i.machines.items i.ledger.queues c.self.view_is p c.requires.there) c.index_mut-machine.ensures.value

@@ -11,7 +11,7 @@ pub returns-then-not-can_make : goal.returns-then-not-can_make
 returns-then-not-can_make g c =
     let v = c.args.self.now in
     let hosts = hosts_in v.endpoints.names (functions_of c.args.hosts.now) in
-    (no_step v.endpoints hosts v.capacity v.state c.args.pid c.args.event.now c.requires.maker (λ may. let yes : c.can_make.result ≡ true = c.can_make.ensures.1 may in let no : c.can_make.result ≡ false = c.if-not-can_make.true in true≢false (sym yes ∙ no)), record { endpoints = refl; capacity = refl; state = refl; history = refl })
+    (no_step v.endpoints hosts v.capacity v.state c.args.pid c.args.event.now c.requires.maker (λ may. let yes : c.can_make.result ≡ true = c.can_make.ensures.1 may in let no : c.can_make.result ≡ false = c.if-not-can_make.true in true≢false (sym yes ∙ no)), record { endpoints = refl; capacity = refl; state = refl; history = refl; stopped = refl; room = λ p h. h })
 
 pub go-requires-clause-there : goal.go-requires-clause-there
 go-requires-clause-there g c =

@@ -20,7 +20,7 @@ returns-in_default c = λ hosts.
     ap option_copied (sym c.in_default.is) ∙ c.channel_named.ensures ∙ ap (λ (ks : List Channel). channel_of ks c.args.channel) c.as_slice.ensures ∙ ap (λ (w : NetworkView). channel_of w.endpoints.channels c.args.channel) c.self.view_is
     in (
       λ step. let r = step_casting v.endpoints hosts v.capacity v.state c.args.channel c.args.sid c.args.parts.now step in none-some r.0 (none ∙ r.1),
-      record { endpoints = refl; capacity = refl; state = refl; history = refl },
+      record { endpoints = refl; capacity = refl; state = refl; history = refl; stopped = refl; room = λ p h. h },
     )
 
 pub may_start-requires : goal.may_start-requires
@@ -38,7 +38,7 @@ pub returns-then-sid-self : goal.returns-then-sid-self
 returns-then-sid-self c = λ hosts.
     let v = c.args.self.now in (
       λ step. let r = step_casting v.endpoints hosts v.capacity v.state c.args.channel c.args.sid c.args.parts.now step in c.if-sid-self.true (r.2 ∙ ap (λ (w : NetworkView). w.state.sid) (sym c.self.view_is)),
-      record { endpoints = refl; capacity = refl; state = refl; history = refl },
+      record { endpoints = refl; capacity = refl; state = refl; history = refl; stopped = refl; room = λ p h. h },
     )
 
 pub returns-then-not-may_start : goal.returns-then-not-may_start
@@ -55,7 +55,7 @@ returns-then-not-may_start c = λ hosts.
           let yes : c.may_start.result ≡ true = c.may_start.ensures.1 (subst (λ (x : Channel). IsCasting v.endpoints v.state.machines x c.args.parts.now) same r.3) in
           let no : c.may_start.result ≡ false = c.if-not-may_start.true in
           true≢false (sym yes ∙ no),
-      record { endpoints = refl; capacity = refl; state = refl; history = refl },
+      record { endpoints = refl; capacity = refl; state = refl; history = refl; stopped = refl; room = λ p h. h },
     )
 
 pub begin_with-requires-clause-channel : goal.begin_with-requires-clause-channel
@@ -79,7 +79,7 @@ returns-in-Ok c = λ hosts.
     let cast = c.may_start.ensures.0 c.if-not-may_start.false in
     let number = c.if-sid-self.false ∙ ap (λ (w : NetworkView). w.state.sid) c.self.view_is in (
       started_step hosts v c.begin_with.new.self k c.args.channel c.args.sid c.args.parts.now here cast named number c.in-Ok.ensures.ok,
-      grown_begun v k (take (length k.active) c.args.parts.now) c.begin_with.new.self here c.in-Ok.ensures.ok,
+      grown_begun 0 v k (take (length k.active) c.args.parts.now) c.begin_with.new.self here c.in-Ok.ensures.ok,
     )
 
 pub returns-in-Err : goal.returns-in-Err

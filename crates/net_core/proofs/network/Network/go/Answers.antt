@@ -10,7 +10,7 @@ use Rattle.endpoint_code.specs.Network.{NetworkState}
 use Rattle.net_core.specs.Heads.{Shows, steps_at, joins_at_all}
 use Rattle.std.proofs.lemmas.Bool.{true≢false}
 use Rattle.net_core.specs.Shown.{MovesAlone}
-use Rattle.net_core.specs.Steps.{HasGrown, HasStepped}
+use Rattle.net_core.specs.Steps.{HasGrown, HasSteppedBy}
 use Rattle.net_core.proofs.Answered.{on_ok, on_err}
 use Rattle.net_core.proofs.Fields.{stepped_after, grown_after}
 use Rattle.net_core.proofs.network.Network.go.Goals as goal
@@ -43,7 +43,7 @@ act-requires g c =
     }
 
 pub returns-then-is_joining-clause-ok : goal.returns-then-is_joining-clause-ok
-returns-then-is_joining-clause-ok g c = on_ok c.start.result (λ (h : (hosts : Hosts) → HasStepped hosts c.args.self.now c.args.pid c.start.new.self). h (hosts_in c.args.self.now.endpoints.names (functions_of c.args.hosts.now))) c.start.ensures.ok
+returns-then-is_joining-clause-ok g c = on_ok c.start.result (λ (h : (hosts : Hosts) → HasSteppedBy c.args.worker hosts c.args.self.now c.args.pid c.start.new.self). h (hosts_in c.args.self.now.endpoints.names (functions_of c.args.hosts.now))) c.start.ensures.ok
 
 pub returns-then-is_joining-clause-grown : goal.returns-then-is_joining-clause-grown
 returns-then-is_joining-clause-grown g c = c.start.ensures.grown
@@ -81,7 +81,7 @@ pub returns-in_err-reserve_for-clause-same : goal.returns-in_err-reserve_for-cla
 returns-in_err-reserve_for-clause-same g c = on_err c.from_residual.result c.in_err-reserve_for.ensures.same
 
 pub returns-clause-ok : goal.returns-clause-ok
-returns-clause-ok g c = stepped_after (λ e. hosts_in e.names (functions_of c.args.hosts.now)) c.args.self.now c.reserve_for.new.self c.act.new.self c.args.pid c.in_ok-reserve_for.ensures.same c.act.ensures.stepped
+returns-clause-ok g c = stepped_after c.args.worker (λ e. hosts_in e.names (functions_of c.args.hosts.now)) c.args.self.now c.reserve_for.new.self c.act.new.self c.args.pid c.in_ok-reserve_for.ensures.same c.act.ensures.stepped
 
 pub returns-clause-grown : goal.returns-clause-grown
 returns-clause-grown g c = grown_after c.args.self.now c.reserve_for.new.self c.act.new.self c.in_ok-reserve_for.ensures.same c.act.ensures.grown

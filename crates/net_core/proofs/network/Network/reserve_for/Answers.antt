@@ -52,6 +52,18 @@ returns-clause-same c =
     (ap (λ (ms : List Machine). let n : NetworkState = record { machines = ms; queues = loads_in c.reserve-2.new.queues.lanes; sid = i.ledger.sid } in n) machines
     ∙ ap (λ (qs : List (Triple × List Load)). let n : NetworkState = record { machines = map standing_of i.machines.items; queues = qs; sid = i.ledger.sid } in n) c.reserve-2.ensures.loads)
     c.reserve.ensures.items
+    refl
+    (λ j h.
+    let e = i.endpoints.now in
+    let k = vec_capacity i.ledger.history - vec_len i.ledger.history in
+    let l = vec_capacity c.reserve.new.self - vec_len c.reserve.new.self in
+    let q = c.reserve-2.new.queues in
+    let more : k ≤ l = let a = c.in_ok-reserve.ensures.capacity in let b = c.in_ok-reserve.ensures.len in omega arith in
+    kept_after (has_room e k i.ledger.queues) (has_room e l q) i.machines.items p c.index_mut-machine.result.now c.reserve-2.new.machine
+    (within i.machines.items i.ledger.queues c.self.view_is p c.requires.there) c.index_mut-machine.ensures.value
+    (λ m. room_stays e k l i.ledger.queues q m m more c.reserve-2.ensures.queues (λ r. r) refl)
+    (room_stays e k l i.ledger.queues q c.index_mut-machine.result.now c.reserve-2.new.machine more c.reserve-2.ensures.queues c.reserve-2.ensures.kept c.reserve-2.ensures.machine)
+    j h)
 
 pub returns-clause-ok : goal.returns-clause-ok
 returns-clause-ok c =
@@ -71,21 +83,6 @@ returns-clause-ok c =
     set_mapped_at (has_room e k c.reserve-2.new.queues) i.machines.items p m in_it
     ∙ ap Some (room_made e k c.reserve-2.new.queues m c.args.head shown more room queue))
     c.reserve-2.ensures.ok c.reserve-2.ensures.queue
-
-pub returns-clause-kept : goal.returns-clause-kept
-returns-clause-kept c = λ j h.
-    let i = c.self.inside in
-    let p = c.args.pid in
-    let e = i.endpoints.now in
-    let k = vec_capacity i.ledger.history - vec_len i.ledger.history in
-    let l = vec_capacity c.reserve.new.self - vec_len c.reserve.new.self in
-    let q = c.reserve-2.new.queues in
-    let more : k ≤ l = let a = c.in_ok-reserve.ensures.capacity in let b = c.in_ok-reserve.ensures.len in omega arith in
-    kept_after (has_room e k i.ledger.queues) (has_room e l q) i.machines.items p c.index_mut-machine.result.now c.reserve-2.new.machine
-    (within i.machines.items i.ledger.queues c.self.view_is p c.requires.there) c.index_mut-machine.ensures.value
-    (λ m. room_stays e k l i.ledger.queues q m m more c.reserve-2.ensures.queues (λ r. r) refl)
-    (room_stays e k l i.ledger.queues q c.index_mut-machine.result.now c.reserve-2.new.machine more c.reserve-2.ensures.queues c.reserve-2.ensures.kept c.reserve-2.ensures.machine)
-    j (subst (λ (v : NetworkView). slice_get v.reserved j ≡ Some true) (sym c.self.view_is) h)
 
 pub returns-clause-succeeds : goal.returns-clause-succeeds
 returns-clause-succeeds c = λ h.

@@ -9,7 +9,7 @@ use Rattle.session_starts.specs.Starts.{AllJoin}
 use Rattle.net_core.specs.Heads.{Shows}
 use Rattle.net_core.specs.Starts.{IsCast}
 use Rattle.net_core.specs.Views.{NetworkView}
-use Rattle.net_core.specs.Steps.{HasBegun}
+use Rattle.net_core.specs.Steps.{HasBegunBy}
 use Rattle.net_core.proofs.Answered.{on_ok}
 use Rattle.net_core.proofs.Fields.{grown_begun}
 use Rattle.net_core.proofs.Casts.{cast_joins, cast_apart}
@@ -60,7 +60,7 @@ returns-clause-ok c =
     subst (λ (rs : List NameId). IsCast v.endpoints v.state.machines c.in-Join.channel c.args.pid c.in-Join.own rs c.in_ok-parts.parts) c.as_slice-2.ensures c.in_ok-parts.ensures
     in
     on_ok c.begin.result
-    (λ (h : HasBegun c.args.self.now k c.in_ok-parts.parts c.begin.new.self) (hosts : Hosts).
+    (λ (h : HasBegunBy c.args.worker c.args.self.now k c.in_ok-parts.parts c.begin.new.self) (hosts : Hosts).
     record {
       event = _;
       state = _;
@@ -77,4 +77,4 @@ returns-clause-grown c =
     sym (c.in-Some.ensures ∙ ap (λ (ks : List Channel). channel_of ks c.in-Join.channel) c.as_slice.ensures ∙ ap (λ (w : NetworkView). channel_of w.endpoints.channels c.in-Join.channel) c.self.view_is)
     in
     let here : channel_of v.endpoints.channels k.name ≡ Some k = subst (λ (x : NameId). channel_of v.endpoints.channels x ≡ Some k) (sym (channel_named v.endpoints.channels c.in-Join.channel k found)) found in
-    on_ok c.begin.result (grown_begun c.args.self.now k c.in_ok-parts.parts c.begin.new.self here) c.begin.ensures.ok
+    on_ok c.begin.result (grown_begun c.args.worker c.args.self.now k c.in_ok-parts.parts c.begin.new.self here) c.begin.ensures.ok

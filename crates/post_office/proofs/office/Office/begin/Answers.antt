@@ -39,4 +39,4 @@ invariant_of-self-2 c =
     let desks = c.join_all.ensures ∙ ap (λ (ps : List (NameId × ℕ)). all_joined s ps c.resize.new.self.items) (c.as_slice-2.ensures ∙ parts)
     ∙ ap (λ (ds : List Desk). all_joined s (c.args.parts ++ served_parts k.serve (length c.self.inside.desks.items)) ds) all in
     let history = c.append.ensures.items ∙ ap (λ (es : List Entry). es ++ record { worker = c.args.worker; event = event.Start k.name s c.add_served.new.parts } ∷ []) c.reserve_entries.ensures.items in
-    begun_kept c.self.invariant k c.args.parts found posted c.requires.roles c.requires.some few _ c.args.worker (s + 1) c.append.new.history.items c.join_all.new.desks.items _ is history refl desks
+    begun_kept c.self.invariant k c.args.parts found posted c.requires.roles c.requires.some few _ c.args.worker (s + 1) c.append.new.history.items c.join_all.new.desks.items _ _ is history refl desks

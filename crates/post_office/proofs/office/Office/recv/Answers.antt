@@ -11,7 +11,7 @@ invariant_of-self c =
     let t : Triple = (c.args.sid, c.args.from, c.args.to) in
     let x = event.Recv c.args.pid c.args.sid c.args.from c.args.to c.in-Some.load in
     let can = subst (λ (v : OfficeView). CanReceive v c.args.pid t) (sym c.self.view_is) c.requires.stands in
-    acted_kept c.self.invariant x c.args.pid refl refl (can c.in-Some.load (sym c.in-Some.ensures)) tt c.args.worker c.append.new.history.items c.take.new.self c.make_busy.new.desks.items _
+    acted_kept c.self.invariant x c.args.pid refl refl (can c.in-Some.load (sym c.in-Some.ensures)) tt c.args.worker c.append.new.history.items c.take.new.self c.make_busy.new.desks.items _ _
     c.append.ensures.items (of_some c.take.result c.in-Some.load (c.take.ensures.first ∙ sym c.in-Some.ensures) c.take.ensures.rest) c.make_busy.ensures
 
 pub returns-in_default : goal.returns-in_default

@@ -12,5 +12,5 @@ invariant_of-self c =
     let t : Triple = (c.args.sid, c.args.from, c.args.to) in
     let room : is_full c.args.self.now t ≡ false = sym c.if-full.ensures in
     acted_kept c.self.invariant x c.args.pid refl refl (subst (λ (v : OfficeView). CanMake v x) (sym c.self.view_is) c.requires.stands)
-    (not_full c.self.inside.ledger.capacity (loads_at c.self.inside.ledger.queues t) (subst (λ (v : OfficeView). is_full v t ≡ false) (sym c.self.view_is) room)) c.args.worker c.append.new.history.items c.put.new.self c.make_busy.new.desks.items _
+    (not_full c.self.inside.ledger.capacity (loads_at c.self.inside.ledger.queues t) (subst (λ (v : OfficeView). is_full v t ≡ false) (sym c.self.view_is) room)) c.args.worker c.append.new.history.items c.put.new.self c.make_busy.new.desks.items _ _
     c.append.ensures.items c.put.ensures.loads c.make_busy.ensures

@@ -1,0 +1,4 @@
+pub mod Indexing
+pub mod Scanning
+pub mod Reaching
+pub mod Marked

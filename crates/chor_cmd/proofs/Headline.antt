@@ -1,0 +1,123 @@
+-- The headline's sentences follow from how the rows go.
+use Rattle.std.proofs.Common.{◌≡◌, ◌≤◌, inl, inr, ℕ, zero, suc, Bool, true, false, List, [], ◌∷◌, length, refl, sym, ap, ◌∙◌, subst, arith}
+use Rattle.std.specs.Prelude.{Result, Ok, Err, None}
+use Rattle.chor_base.specs.declared.rule.Refusal.{Refusal}
+use Rattle.chor_tree.specs.declared.file.File.{File}
+use Rattle.chor_base.specs.declared.event.Event.{Event}
+use Rattle.chor_base.specs.Meaning.{Hosts}
+use Rattle.chor_host.specs.Functions.{Function, hosts_in, names_of}
+use Rattle.replay.specs.declared.answer.Replayed.{Replayed}
+use Rattle.replay.specs.declared.answer.ReplayFault.{ReplayFault}
+use Rattle.replay.specs.declared.answer.ReplayFault.TheVariants.{Unmatched as unlike, Memory as NoMemory}
+use Rattle.command_words.specs.declared.words.Command.TheVariants.{Run, Exec, Replay}
+use Rattle.command_words.specs.declared.options.Options.{Options}
+use Rattle.endpoint_code.specs.declared.endpoints.Endpoints.{Endpoints}
+use Rattle.endpoint_code.specs.Network.{NetworkState}
+use Rattle.endpoint_code.specs.Scheduled.{Close, Ended, Limit, Stuck as Stands}
+use Rattle.endpoint_check.specs.Programs.{AreProgramsOf, ViolatesPrograms}
+use Rattle.endpoint_text.specs.Text.{endpoints_text}
+use Rattle.transcript.specs.Text.{transcript}
+use Rattle.program_runs.specs.Transcripts.{closing_text}
+use Rattle.program_runs.specs.Books.{book_of}
+use Rattle.accepted_files.specs.Closing.{ClosesWell}
+use Rattle.projected_programs.specs.Laws.{AreExact, AreProjected, ProjectedTextIsTaken, ProjectedTextRuns}
+use Rattle.projected_programs.specs.LawsBy.{ProjectedTextRunsByWorkers}
+use Rattle.chor_cmd.specs.declared.status.Status.{Status}
+use Rattle.chor_cmd.specs.declared.status.Status.TheVariants.{Done}
+use Rattle.chor_cmd.specs.Readings.{events_limit}
+use Rattle.chor_cmd.specs.Status.{status_of}
+use Rattle.chor_cmd.specs.Runs.{IsAskedRun, TranscriptBy}
+use Rattle.chor_cmd.proofs.AskedRuns.{scheduled_asked, closed_asked}
+use Rattle.chor_cmd.specs.Outputs.{IsRunText, IsReplayOf, replayed_line, unmatched_line}
+use Rattle.chor_cmd.specs.Endings.{MayTell, Tells, Goes}
+use Rattle.chor_cmd.specs.Rows.{Row, Reads, Judges, Closes, IsRefused, programs_limit, Executes, executes, Replays, replays, misses, row_of}
+use Rattle.chor_cmd.specs.Calls.{Call, Must, Comes, HasEnded, IsSettled, ReplaySays, IsBrokenFirst, IsBrokenNext, RunsSource, RunsProjected, AcceptsRuns, RefusesBroken}
+use Rattle.chor_cmd.proofs.Replayed.{one_answer}
+use Rattle.chor_cmd.proofs.Settles.{same_bytes, grows, by_table}
+
+-- ---- the text of a projection
+
+module _ (functions : List Function) (options : Options) (source : List ℕ) (f : File) (e : Endpoints) (p : AreProjected functions source f e) (runs : ProjectedTextRuns) (runs_by : ProjectedTextRunsByWorkers) where
+  abbrev hosts : Hosts
+  hosts = hosts_in f.names functions
+
+  -- a run as the options ask for it, which isn't stuck, and its transcript
+  run_text : (text : List ℕ) (h : List Event) (c : Close) (last : NetworkState) → ClosesWell f e hosts None options.steps h last c → IsAskedRun f e hosts options h c → text ≡ transcript (book_of f) h (closing_text (book_of f) (length h) c) → IsRunText functions f options text
+  run_text text h Ended last well run text_is = record { endpoints = e; history = h; ended = true; run = run; text_is = text_is }
+  run_text text h Limit last well run text_is = record { endpoints = e; history = h; ended = false; run = run; text_is = text_is }
+  run_text text h (Stands q why) last well run text_is = absurd well
+
+  module _ (programs : Endpoints) (read : AreProgramsOf (names_of functions) (endpoints_text e) programs) (text : List ℕ) (stuck : Bool) where
+    by_workers : (n : ℕ) → options.workers ≡ n → TranscriptBy n functions programs options text stuck → (stuck ≡ false) × IsRunText functions f options text
+    by_workers zero none x =
+        let r = runs functions source f e p programs read options.seed options.steps text stuck x in
+        let run = r.0.run in
+        (r.1, run_text text r.0.history r.0.close run.closed.last run.closed.closes (scheduled_asked f e hosts options r.0.history r.0.close run) r.0.text_is)
+    by_workers (suc n) some x =
+        let r = runs_by functions source f e p programs read options.steps text stuck x in
+        let run = r.0.run in
+        (r.1, run_text text r.0.history r.0.close run.last run.closes (closed_asked f e hosts options r.0.history r.0.close (λ none. let bad : suc n ≡ 0 = sym some ∙ none in absurd cc) run) r.0.text_is)
+
+  as_run : (bytes : List ℕ) → bytes ≡ endpoints_text e → (s : Status) (t : List ℕ) → Executes functions options bytes s t → (s ≡ Done) × IsRunText functions f options t
+  as_run bytes is s t (executes {text = text} stuck x) =
+      let r = by_workers x.programs (subst (λ (y : List ℕ). AreProgramsOf (names_of functions) y x.programs) is x.are) text stuck options.workers refl x.run in
+      (ap status_of r.0, r.1)
+
+module _ (call : Call) where
+  pub runs_projected : AreExact call.functions → ProjectedTextIsTaken → ProjectedTextRuns → ProjectedTextRunsByWorkers → HasEnded call → RunsProjected call
+  runs_projected exact taken runs runs_by ended = λ word options name source f e accepted projects form told few.
+      grows call (Goes (MayTell call.shelf.files) (name ∷ []) (row_of call.functions (Exec word options))) (λ s t. (s ≡ Done) × IsRunText call.functions f options t)
+      (by_way word options name source f e (record { exact = exact; accepted = accepted; projects = projects }) told few) (by_table call ended (Exec word options) (name ∷ []) form)
+    where
+      by_way : (word : ℕ) (options : Options) (name source : List ℕ) (f : File) (e : Endpoints) → AreProjected call.functions source f e → Tells call.shelf.files name (endpoints_text e) → length (endpoints_text e) ≤ programs_limit
+          → (s : Status) (t : List ℕ) → Goes (MayTell call.shelf.files) (name ∷ []) (row_of call.functions (Exec word options)) s t → (s ≡ Done) × IsRunText call.functions f options t
+      by_way word options name source f e p told few s t (b, may, inl (long, is)) =
+          absurd (let same = same_bytes call.shelf.files name b (endpoints_text e) may told in omega (arith, ap length same, few, long))
+      by_way word options name source f e p told few s t (b, may, inr (less, inl (r, v, is))) =
+          absurd (taken call.functions source f e p r (subst (λ (y : List ℕ). ViolatesPrograms (names_of call.functions) y r) (same_bytes call.shelf.files name b (endpoints_text e) may told) v))
+      by_way word options name source f e p told few s t (b, may, inr (less, inr (fine, x))) =
+          as_run call.functions options source f e p runs runs_by b (same_bytes call.shelf.files name b (endpoints_text e) may told) s t x
+
+  module _ (settled : IsSettled call) where
+    pub runs_source : RunsSource call
+    runs_source = λ word options name bytes f form told few accepted.
+        let m = settled (Run word options) (name ∷ []) form bytes told in
+        let next = m.1 few in
+        next.1 (f, accepted)
+
+    -- ---- `replay`
+
+    as_answer : (bytes log : List ℕ) (answer : Result Replayed ReplayFault) → length log ≤ events_limit → IsReplayOf call.functions bytes log answer → (s : Status) (t : List ℕ) → Replays call.functions bytes log s t → ReplaySays answer s t
+    as_answer bytes log (Ok r) few told s t (replays q p) =
+        let same : Ok q ≡ Ok r = one_answer call.functions bytes log (Ok q) (Ok r) few p told tt tt in
+        let alike : q ≡ r = cc in
+        (refl, ap replayed_line alike)
+    as_answer bytes log (Ok r) few told s t (misses i p) = absurd (let same : Err (unlike i) ≡ Ok r = one_answer call.functions bytes log (Err (unlike i)) (Ok r) few p told tt tt in cc)
+    as_answer bytes log (Err (unlike n)) few told s t (replays q p) = absurd (let same : Ok q ≡ Err (unlike n) = one_answer call.functions bytes log (Ok q) (Err (unlike n)) few p told tt tt in cc)
+    as_answer bytes log (Err (unlike n)) few told s t (misses i p) =
+        let same : Err (unlike i) ≡ Err (unlike n) = one_answer call.functions bytes log (Err (unlike i)) (Err (unlike n)) few p told tt tt in
+        let alike : i ≡ n = cc in
+        (refl, ap unmatched_line alike)
+    as_answer bytes log (Err NoMemory) few told s t x = tt
+
+    pub accepts_runs : AcceptsRuns call
+    accepts_runs = λ file events name log_name bytes log answer form told few told_log few_log is.
+        let m = settled (Replay file events) (name ∷ log_name ∷ []) form bytes told in
+        let judged = m.1 few in
+        let n = judged.1 (is.file, is.accepted) log told_log in
+        grows call (Replays call.functions bytes log) (ReplaySays answer) (as_answer bytes log answer few_log is) (n.1 few_log)
+
+    -- ---- refusals
+
+    refused_by : (row : Row) (name : List ℕ) (names : List (List ℕ)) (bytes : List ℕ) (r : Refusal) → Tells call.shelf.files name bytes → IsBrokenFirst row bytes r → Must (Tells call.shelf.files) (Comes call) (name ∷ names) row → Comes call (IsRefused r)
+    refused_by (Closes Says) name names bytes r told b m = absurd b
+    refused_by (Judges Fine Broken next) name names bytes r told b m = absurd b
+    refused_by (Reads limit next) name names bytes r told b m = let n = m bytes told in go (next bytes) b.1 (n.1 b.0)
+      where
+        go : (row : Row) → IsBrokenNext row r → Must (Tells call.shelf.files) (Comes call) names row → Comes call (IsRefused r)
+        go (Judges Fine Broken more) broken m = m.0 r broken
+        go (Reads limit next) broken m = absurd broken
+        go (Closes Says) broken m = absurd broken
+
+    pub refuses_broken : RefusesBroken call
+    refuses_broken = λ command name names bytes r form told broken. refused_by (row_of call.functions command) name names bytes r told broken (settled command (name ∷ names) form)

@@ -1,0 +1,87 @@
+-- What each command makes of its files: one row for each (this project's own).
+use Rattle.std.specs.Prelude.{ℕ, ◌≡◌, Bool, List, Ok, Err, codes}
+use Rattle.chor_base.specs.declared.rule.Refusal.{Refusal}
+use Rattle.chor_tree.specs.declared.file.File.{File}
+use Rattle.chor_host.specs.Functions.{Function, names_of}
+use Rattle.chor_print.specs.Text.{canonical_text}
+use Rattle.local_types.specs.Texts.{IsTypesText}
+use Rattle.replay.specs.declared.answer.Replayed.{Replayed}
+use Rattle.replay.specs.declared.answer.ReplayFault.TheVariants.{Unmatched as unlike}
+use Rattle.command_words.specs.declared.words.Command.{Command}
+use Rattle.command_words.specs.declared.words.Command.TheVariants.{Check, Fmt, Types, Project, Run, Exec, Replay, Gen}
+use Rattle.command_words.specs.declared.options.Options.{Options}
+use Rattle.source_check.specs.declared.rules.Rules.{Rules}
+use Rattle.source_check.specs.declared.rules.Rules.TheVariants.{All, Grammar, Views}
+use Rattle.source_check.specs.Source.{IsAccepted, Violates}
+use Rattle.endpoint_code.specs.declared.endpoints.Endpoints.{Endpoints}
+use Rattle.endpoint_check.specs.Programs.{AreProgramsOf, ViolatesPrograms}
+use Rattle.chor_cmd.specs.declared.status.Status.{Status}
+use Rattle.chor_cmd.specs.declared.status.Status.TheVariants.{Done, Refused, Unmatched}
+use Rattle.chor_cmd.specs.Status.{status_of}
+use Rattle.chor_cmd.specs.Readings.{events_limit}
+use Rattle.chor_cmd.specs.Outputs.{IsProjectionText, IsRunText, IsExecution, IsReplayOf, IsGenerated, refused_line, replayed_line, unmatched_line}
+
+-- ---- rows
+
+-- How a call goes on: it reads its next file, which has at most so many bytes; or what was read is judged, and it goes on where
+-- that is fine and is refused where it is broken; or it ends, with a status and a text of which this is said
+pub data Row : Type 1 where
+  Reads : (limit : ℕ) (next : List ℕ → Row) → Row
+  Judges : (Fine : Type 0) (Broken : Refusal → Type 0) (next : Row) → Row
+  Closes : (Says : Status → List ℕ → Type 0) → Row
+
+-- exactly this status and this text
+abbrev pub Exactly : Status → List ℕ → Status → List ℕ → Type 0
+Exactly s t status text = (status ≡ s) × (text ≡ t)
+
+-- the line of a refusal
+abbrev pub IsRefused : Refusal → Status → List ℕ → Type 0
+IsRefused r = Exactly Refused (refused_line r)
+
+-- the command is done, with such a text
+abbrev pub Writes : (List ℕ → Type 0) → Row
+Writes Says = Closes (λ status text. (status ≡ Done) × Says text)
+
+-- how many bytes a source has at most, and how many endpoint programs
+abbrev pub source_limit : ℕ
+source_limit = 1048576
+
+abbrev pub programs_limit : ℕ
+programs_limit = 16777216
+
+module _ (functions : List Function) where
+  -- the bytes are a source, which is judged by these rules
+  abbrev pub judged : Rules → List ℕ → Row → Row
+  judged rules bytes next = Judges ((f : File) × IsAccepted rules (names_of functions) bytes f) (Violates rules (names_of functions) bytes) next
+
+  -- the bytes are endpoint programs
+  abbrev pub judged_programs : List ℕ → Row → Row
+  judged_programs bytes next = Judges ((e : Endpoints) × AreProgramsOf (names_of functions) bytes e) (ViolatesPrograms (names_of functions) bytes) next
+
+  -- what is written for a source that violates none of these rules
+  abbrev pub OfSource : Rules → (File → List ℕ → Type 0) → List ℕ → List ℕ → Type 0
+  OfSource rules Says bytes text = (f : File) × IsAccepted rules (names_of functions) bytes f × Says f text
+
+  -- a command on one source
+  abbrev pub on_source : Rules → (File → List ℕ → Type 0) → Row
+  on_source rules Says = Reads source_limit (λ bytes. judged rules bytes (Writes (OfSource rules Says bytes)))
+
+  -- a run of endpoint programs is done, or is stuck
+  pub data Executes (options : Options) (bytes : List ℕ) : Status → List ℕ → Type 0 where
+    executes : {text : List ℕ} (stuck : Bool) → IsExecution functions options bytes text stuck → Executes options bytes (status_of stuck) text
+
+  -- a replay is done, or comes to a line that doesn't match
+  pub data Replays (bytes log : List ℕ) : Status → List ℕ → Type 0 where
+    replays : (r : Replayed) → IsReplayOf functions bytes log (Ok r) → Replays bytes log Done (replayed_line r)
+    misses : (i : ℕ) → IsReplayOf functions bytes log (Err (unlike i)) → Replays bytes log Unmatched (unmatched_line i)
+
+  -- THE TABLE, where these host functions are there
+  abbrev pub row_of : Command → Row
+  row_of (Check file) = on_source All (λ f text. text ≡ codes "ok\n")
+  row_of (Fmt file) = on_source Grammar (λ f text. text ≡ canonical_text f)
+  row_of (Types file) = on_source Views IsTypesText
+  row_of (Project file) = on_source All IsProjectionText
+  row_of (Run file options) = on_source All (λ f. IsRunText functions f options)
+  row_of (Exec file options) = Reads programs_limit (λ bytes. judged_programs bytes (Closes (Executes options bytes)))
+  row_of (Replay file events) = Reads source_limit (λ bytes. judged All bytes (Reads events_limit (λ log. Closes (Replays bytes log))))
+  row_of (Gen n whole) = Writes (IsGenerated functions n whole)

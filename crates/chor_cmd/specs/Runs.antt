@@ -1,0 +1,45 @@
+-- Which runs the options of `run` and `exec` ask for: without workers the scheduled run, with workers any closed run (this project's
+-- own).
+use Rattle.std.specs.Prelude.{ℕ, zero, suc, ◌≡◌, Bool, List, None}
+use Rattle.chor_base.specs.declared.event.Event.{Event}
+use Rattle.chor_base.specs.Meaning.{Hosts}
+use Rattle.chor_host.specs.Functions.{Function}
+use Rattle.chor_tree.specs.declared.file.File.{File}
+use Rattle.command_words.specs.declared.options.Options.{Options}
+use Rattle.command_words.specs.declared.words.Words.{Words}
+use Rattle.command_words.specs.declared.words.Command.{Command}
+use Rattle.command_words.specs.declared.words.Command.TheVariants.{Run, Exec}
+use Rattle.command_words.specs.Words.{IsForm}
+use Rattle.endpoint_code.specs.declared.endpoints.Endpoints.{Endpoints}
+use Rattle.endpoint_code.specs.Scheduled.{Close}
+use Rattle.accepted_files.specs.ClosedRuns.{IsClosedRunOf}
+use Rattle.simulation.specs.Runs.{IsRunOf}
+use Rattle.program_runs.specs.Transcripts.{IsTranscriptOf}
+use Rattle.program_runs.specs.ByWorkers.{IsTranscriptBy}
+
+abbrev pub RunBy : ℕ → File → Endpoints → Hosts → Options → List Event → Close → Type 0
+RunBy zero f e hosts options h close = IsRunOf f e hosts None options.seed options.steps h close
+RunBy (suc n) f e hosts options h close = IsClosedRunOf f e hosts None options.steps h close
+
+-- These events are a run of the network of the file's endpoint programs, as the options ask for it, which closes so: the scheduled
+-- run where they ask for no workers, else any closed run
+abbrev pub IsAskedRun : File → Endpoints → Hosts → Options → List Event → Close → Type 0
+IsAskedRun f e hosts options h close = RunBy options.workers f e hosts options h close
+
+abbrev pub TranscriptBy : ℕ → List Function → Endpoints → Options → List ℕ → Bool → Type 0
+TranscriptBy zero functions e options text stuck = IsTranscriptOf functions e options.seed options.steps text stuck
+TranscriptBy (suc n) functions e options text stuck = IsTranscriptBy functions e options.steps text stuck
+
+-- The text is the transcript of such a run of endpoint programs, which is stuck or not
+abbrev pub IsAskedTranscript : List Function → Endpoints → Options → List ℕ → Bool → Type 0
+IsAskedTranscript functions e options text stuck = TranscriptBy options.workers functions e options text stuck
+
+-- how many workers a command asks for
+abbrev pub workers_of : Command → ℕ
+workers_of (Run file options) = options.workers
+workers_of (Exec file options) = options.workers
+workers_of _ = 0
+
+-- the words ask for no workers
+abbrev pub AsksNoWorkers : Words → Type 0
+AsksNoWorkers words = (command : Command) (names : List (List ℕ)) → IsForm words command names → workers_of command ≡ 0

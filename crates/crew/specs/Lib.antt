@@ -1,0 +1,4 @@
+pub mod Crews
+pub mod Ahead
+pub mod Starts
+pub mod Turns

@@ -1,0 +1,32 @@
+use Rattle.std.proofs.Common.{◌≤◌, length, subst, arith}
+use Rattle.endpoint_link.specs.Linked.{ReplacesProcedure, SuitsProcedure}
+use Rattle.endpoint_link.specs.Judged.{IsVerdict}
+use Rattle.endpoint_link.specs.InTables.{ReplacesProcedureIn, SuitsProcedureIn}
+use Rattle.endpoint_link.proofs.Alike.{procedure_judged}
+use Rattle.endpoint_link.proofs.Firsts.{found_among, fit_more, fit_all, found_first}
+use Rattle.endpoint_link.proofs.joined.Joined.first_procedure.Goals as goal
+
+pub returns-in-Some : goal.returns-in-Some
+returns-in-Some c =
+    let e = c.args.base.now in
+    let g = c.args.given.now in
+    let x = c.at.result.now in
+    found_first (ReplacesProcedure e g) (SuitsProcedure e g) e.procedures g.procedures c.loop-place.place x c.in_ok-rule.field-0 c.in-Some.rule c.at.ensures c.loop-place.invariant
+    (procedure_judged e g c.args.self.now c.requires x (found_among g.procedures c.loop-place.place x c.at.ensures) c.in_ok-rule.field-0
+    (subst (λ us. IsVerdict (ReplacesProcedureIn c.args.self.now) (SuitsProcedureIn c.args.self.now) us x c.in_ok-rule.field-0) c.as_slice.ensures c.in_ok-rule.ensures)) c.in-Some.is
+
+pub loop-place-preserved : goal.loop-place-preserved
+loop-place-preserved c =
+    let e = c.args.base.now in
+    let g = c.args.given.now in
+    let x = c.at.result.now in
+    fit_more (ReplacesProcedure e g) (SuitsProcedure e g) e.procedures g.procedures c.loop-place.place x c.in_ok-rule.field-0 c.at.ensures c.loop-place.invariant
+    (procedure_judged e g c.args.self.now c.requires x (found_among g.procedures c.loop-place.place x c.at.ensures) c.in_ok-rule.field-0
+    (subst (λ us. IsVerdict (ReplacesProcedureIn c.args.self.now) (SuitsProcedureIn c.args.self.now) us x c.in_ok-rule.field-0) c.as_slice.ensures c.in_ok-rule.ensures)) c.in_default.not-Some
+
+pub returns : goal.returns
+returns c =
+    let e = c.args.base.now in
+    let g = c.args.given.now in
+    let l : length g.procedures ≤ c.loop-place.place = omega (arith, c.loop-place-test.false, c.count-place-end.ensures) in
+    fit_all (ReplacesProcedure e g) (SuitsProcedure e g) e.procedures g.procedures c.loop-place.place l c.loop-place.invariant

@@ -1,0 +1,9 @@
+pub mod EventKinds
+pub mod Holders
+pub mod Commute
+pub mod Orders
+pub mod HappensBefore
+pub mod CausalPast
+pub mod Causes
+pub mod Laws
+pub mod SameEvents

@@ -1,0 +1,4 @@
+pub mod Turns
+pub mod Views
+pub mod Runs
+pub mod Desks

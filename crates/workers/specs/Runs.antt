@@ -1,0 +1,20 @@
+-- Runs that workers make.
+use Rattle.std.specs.Prelude.{ℕ, ◌≡◌, ◌≤◌, List, map, length, Option, All}
+use Rattle.chor_base.specs.declared.event.Event.{Event}
+use Rattle.chor_base.specs.declared.event.Entry.{Entry}
+use Rattle.chor_base.specs.Meaning.{Hosts}
+use Rattle.endpoint_code.specs.declared.endpoints.Endpoints.{Endpoints}
+use Rattle.endpoint_code.specs.Network.{NetworkState}
+use Rattle.endpoint_code.specs.NetworkRuns.{IsNetworkRun}
+use Rattle.endpoint_code.specs.Scheduled.{Close, Closes}
+use Rattle.post_office.specs.Views.{events_of}
+use Rattle.post_office.specs.Owners.{IsMadeByOwner}
+
+-- The entries are a run of the programs from their first state, where queues have this capacity, of at most so many events, each
+-- made by the worker that owns a process which makes it; the state after it closes the run so
+pub record IsRunBy (workers steps : ℕ) (capacity : Option ℕ) (e : Endpoints) (hosts : Hosts) (entries : List Entry) (close : Close) : Type 0 where
+  pub last : NetworkState
+  pub run : IsNetworkRun e hosts capacity (events_of entries) last
+  pub within : length entries ≤ steps
+  pub owned : All (IsMadeByOwner workers e) entries
+  pub closes : Closes e capacity steps last (length entries) close
