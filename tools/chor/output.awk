@@ -1,6 +1,6 @@
 # How reasons are written: the sections of docs/RULES.md, templates with words filled in, lines with a caret, wrapped text.
 
-# The title, the message, what helps and the table of slips of a rule's section.
+# The title, the message, what helps (with protocols too, where a section has that) and the table of slips of a rule's section.
 function read_section(path, rule,   line, inside, cells) {
   while ((getline line < path) > 0) {
     if (line ~ /^## /) inside = index(line, "## " rule ":") == 1
@@ -8,6 +8,7 @@ function read_section(path, rule,   line, inside, cells) {
     if (line ~ /^## /) title = substr(line, length("## " rule ": ") + 1)
     if (line ~ /^- Message: /) message = substr(line, 12)
     if (line ~ /^- Help: /) help = substr(line, 9)
+    if (line ~ /^- Help with protocols: /) other_help = substr(line, 24)
     if (line ~ /^\| .* \| .* \|$/) {
       split(line, cells, / \| /)
       sub(/^\| /, "", cells[1])
