@@ -1,6 +1,7 @@
 """A chart as a picture in SVG. Each event has a row, so that an arrow that slants shows how long a message was in its queue."""
 from lib.chart import places
 from lib.measure import shortened
+from lib.order_svg import OrderPicture
 from lib.svg import ALARM, FAINT, INK, Picture, width_of
 
 ROW, TAB, TOP, HEAD = 26, 22, 16, 40
@@ -8,8 +9,9 @@ LONGEST = 48
 
 
 class ChartPicture:
-    def __init__(self, chart):
+    def __init__(self, chart, causes=None):
         self.chart = chart
+        self.causes = causes
         self.picture = Picture()
         self.place = {each.process: place for place, each in enumerate(chart.participants)}
         self.margin = width_of(str(max((event.number for event in chart.events), default=0))) + 16
@@ -60,6 +62,8 @@ class ChartPicture:
         for participant in self.chart.participants:
             self.heading(participant)
         width, height = self.close()
+        if self.causes:
+            width = OrderPicture(self.picture, self.chart, self.causes, self.rows, width).draw(TOP + HEAD - 8)
         return self.picture.document(width, height, f"A run of {len(self.chart.events)} events")
 
     def frame(self, session, slot):
@@ -191,5 +195,6 @@ def label(message):
     return shortened(message.label(), LONGEST)
 
 
-def chart_svg(chart):
-    return ChartPicture(chart).draw()
+def chart_svg(chart, causes=None):
+    """The picture; with the causes of each event the order is drawn beside it."""
+    return ChartPicture(chart, causes).draw()

@@ -1,6 +1,7 @@
 """A chart for a terminal. A message is one line, at the event that receives it."""
 from lib.chart import places
 from lib.measure import cells, shortened
+from lib.order import said
 
 LONGEST = 48
 
@@ -35,14 +36,15 @@ class Row:
 
 
 class TextChart:
-    def __init__(self, chart):
+    def __init__(self, chart, causes=None):
         self.chart = chart
+        self.causes = causes
         self.place = {each.process: place for place, each in enumerate(chart.participants)}
         self.items = chart.items()
         self.positions = places(len(self.place), list(self.spans()), 12, 4)[0]
         # The left column holds the numbers of two events.
         self.margin = 2 * len(str(max((event.number for event, _ in self.items), default=0))) + 2
-        self.lines = []
+        self.lines, self.numbers = [], []
 
     def columns(self, processes):
         return sorted(self.place[process] for process in processes)
@@ -73,6 +75,7 @@ class TextChart:
         return Row(self.positions)
 
     def add(self, row, *numbers):
+        self.numbers.append(numbers)
         self.lines.append(f"{', '.join(map(str, numbers)):>{self.margin}}  {row.text()}".rstrip())
 
     def draw(self):
@@ -95,7 +98,16 @@ class TextChart:
             if session and last[event.session] is event:
                 self.border(session, "─")
         self.close()
+        if self.causes:
+            self.add_order()
         return "".join(f"{line}\n" for line in self.lines)
+
+    def add_order(self):
+        """Says right of each line what its events wait for."""
+        width = max(map(cells, self.lines)) + 4
+        for place, (line, numbers) in enumerate(zip(self.lines, self.numbers)):
+            order = "   ".join(said(number, self.causes) for number in numbers)
+            self.lines[place] = f"{line}{' ' * (width - cells(line))}{order}".rstrip()
 
     def border(self, session, line, start=None):
         """The upper or lower border of a session's box, with dots at those that start it."""
@@ -157,5 +169,6 @@ def local(event):
     return f"[{shortened(event.short(), LONGEST)}]"
 
 
-def chart_text(chart):
-    return TextChart(chart).draw()
+def chart_text(chart, causes=None):
+    """The chart; with the causes of each event they are written beside it."""
+    return TextChart(chart, causes).draw()
