@@ -12,9 +12,12 @@ BEGIN {
   facts = rule == "K2" ? nearest_unit(unit) : first_difference(unit, at, theirs[unit])
   printf "%s:%d:%d: %s: %s\n", ENVIRON["CHOR_NAME"], row[at], column[at], rule, filled(message)
   show_line(row[at], column[at])
-  if (rule == "K1") printf "    asked: %s\n    given: %s\n", asked, given
+  if (rule == "K1") printf "    asked: %s\n    given: %s\n", cut(asked), cut(given)
   print_wrapped(facts (facts == "" ? "" : " ") filled(help) " " quoted("chor explain " rule) " has the rule.")
 }
+
+# At most 150 bytes of a text.
+function cut(said) { said = printable(said); return length(said) > 150 ? substr(said, 1, 148) ".." : said }
 
 # Reads two endpoint files; the tokens of the first come after those of the second. Answers the number of the last token of that.
 function read_both(first, second,   i, n, m, words, kinds, rows, columns) {

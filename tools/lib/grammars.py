@@ -69,7 +69,8 @@ def languages(manual):
     marks = found_in(manual, r"\n\| mark \| `([^\n]+)` \|", "the marks").replace(r"\|", "|").split()
     nodes = once(re.findall(r'"([a-z]+)"', found_in(manual, r'\n(file +(?== "endpoints").*?)\n```', "the words of endpoint files")))
     events = once(re.findall(r"`[0-9]+ ([a-z]+) ", found_in(manual, r"\| Event \| Line \|\n(.*?)\n\n", "the events")))
-    lasts = once(re.findall(r"`([a-z]+) N(?: PROCESS WHY)?`", manual))
+    runs = [found_in(manual, rf"\n#+ {title}\n(.*?)\n#", "the last lines") for title in ("Runs and transcripts", "The run of an endpoint file")]
+    lasts = once(re.findall(r"`([a-z]+) N(?: PROCESS WHY)?`", "".join(runs)))
     numbers, values = pattern("Number", "<[0-9]+>", r"\b[0-9]+\b"), words("Value", VALUES)
     keywords = [word for word in reserved if word not in SORTS + VALUES]
     source = [words("Keyword", keywords), words("Sort", SORTS), values, numbers, signs(marks)]
