@@ -9,7 +9,7 @@ use Rattle.endpoint_code.specs.NetworkRuns.{NetworkLeads, IsNetworkRun}
 use Rattle.event_orders.specs.Holders.{KeepsRolesExclusive}
 use Rattle.event_orders.specs.Orders.{IsPermutationBelow, IsBefore, permuted}
 use Rattle.event_orders.specs.HappensBefore.{IsDirectlyBefore, program_order, HappensBefore, directly, through, IsLinearExtension, IsRearrangement}
-use Rattle.event_orders.specs.CausalPast.{IsCausalPast, IsRunByItself}
+use Rattle.event_orders.specs.CausalPast.{IsCausalPast, IsRunByItself, BeginsExtension}
 use Rattle.event_orders.proofs.Listed.{IsListed, IsAscending, listed_contains, contains_listed, increasing_ascends}
 use Rattle.event_orders.proofs.Numbers.{listed_occurs, occurs_listed, occurs, occurs-append, occurs_self, occurs_other, member_occurs, member_at, order_once, order_has, before_from, before_in}
 use Rattle.event_orders.proofs.Counting.{permuted-append, leads_cut}
@@ -182,8 +182,12 @@ module _ (e : Endpoints) (hosts : Hosts) (cap : Option ℕ) (h : List Event) (ex
   length_of i j (directly p) = runs_less i j p
   length_of i j (through k a b) = let f = length_of i k a in let g = length_of k j b in omega arith
 
-  pub lead_runs : (j : ℕ) → j < length h → (d : List ℕ) → IsCausalPast h cap j d → IsRunByItself e hosts cap h d
-  lead_runs j lt d is = (cut_z.0, cut_z.1)
+  -- the causal past of j and then the others, in ascending order, are a linear extension; and the past is a run by itself
+  past_first : (j : ℕ) → j < length h → (d : List ℕ) → IsCausalPast h cap j d → BeginsExtension h cap d × IsRunByItself e hosts cap h d
+  past_first j lt d is = (
+    (whole.rest, record { whole = whole.order; extends = closed_extends e hosts cap h exclusive last run (d ++ whole.rest) whole.order closed_whole }),
+    (cut_z.0, cut_z.1),
+  )
     where
       ascends : IsAscending d
       ascends = increasing_ascends d is.ascends
@@ -227,8 +231,17 @@ module _ (e : Endpoints) (hosts : Hosts) (cap : Option ℕ) (h : List Event) (ex
       whole : Completed (length h) d
       whole = complete (length h) d part
 
+      closed_whole : IsClosed h cap (d ++ whole.rest)
+      closed_whole = completed_closed e hosts cap h exclusive last run (length h) d closed whole
+
       by : PermutedRun e hosts cap h exclusive last run last (d ++ whole.rest)
-      by = whole_permuted_run e hosts cap h exclusive last run (d ++ whole.rest) whole.order (completed_closed e hosts cap h exclusive last run (length h) d closed whole)
+      by = whole_permuted_run e hosts cap h exclusive last run (d ++ whole.rest) whole.order closed_whole
 
       cut_z : (mid : NetworkState) × IsNetworkRun e hosts cap (permuted h d) mid × NetworkLeads e hosts cap mid (permuted h whole.rest) by.state
       cut_z = leads_cut e hosts cap (permuted h d) (permuted h whole.rest) (first_state e) by.state (subst (λ (z : List Event). NetworkLeads e hosts cap (first_state e) z by.state) (permuted-append h d whole.rest) by.leads)
+
+  pub lead_runs : (j : ℕ) → j < length h → (d : List ℕ) → IsCausalPast h cap j d → IsRunByItself e hosts cap h d
+  lead_runs j lt d is = (past_first j lt d is).1
+
+  pub lead_begins : (j : ℕ) → j < length h → (d : List ℕ) → IsCausalPast h cap j d → BeginsExtension h cap d
+  lead_begins j lt d is = (past_first j lt d is).0

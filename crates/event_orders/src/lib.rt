@@ -2,7 +2,7 @@
 #![tactic(auto)]
 
 ghost use Rattle.event_orders.specs.Causes.{CausesGenerateHappensBefore};
-ghost use Rattle.event_orders.specs.CausalPast.{CausalPastsAreRuns};
+ghost use Rattle.event_orders.specs.CausalPast.{CausalPastsAreRuns, CausalPastsBeginExtensions};
 ghost use Rattle.event_orders.specs.Commute.{IndependentStepsCommute, QueueEndsHaveOneUser, SameStatesHaveSameRuns};
 ghost use Rattle.event_orders.specs.Holders.{RolesHaveOneHolder};
 ghost use Rattle.event_orders.specs.Laws.{LinearExtensionsAreRuns, RearrangementsShareHappensBefore, UnorderedAreReversed};
@@ -62,4 +62,9 @@ pub fn causes_generate_happens_before()
 /// An event and all that happens before it are a run by themselves.
 pub fn causal_pasts_are_runs()
     ensures { CausalPastsAreRuns }
+{}
+
+/// An event and all that happens before it come first in some linear extension.
+pub fn causal_pasts_begin_extensions()
+    ensures { CausalPastsBeginExtensions }
 {}
