@@ -1,3 +1,5 @@
 pub mod Ends
 pub mod Books
 pub mod Runs
+pub mod Programs
+pub mod SourceEvents

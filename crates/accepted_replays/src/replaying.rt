@@ -49,7 +49,7 @@ pub fn replay_accepted(
 }
 
 // What is proved of each accepted file and its runs.
-fn laws()
+pub fn laws()
     ensures faultless { ProjectionIsFaultless }
     ensures asks { ProjectionAsksKnown }
     ensures to { NetworkRunsAreRuns }
@@ -88,7 +88,7 @@ fn replay_on(
 }
 
 // The book of a typed file tells its names, texts and processes apart, where its names are words.
-fn tells_apart(typed: &Typed)
+pub fn tells_apart(typed: &Typed)
     requires { AreWords typed.now.file.names }
     ensures { IsBook (book_of typed.now.file) }
 {
@@ -98,7 +98,7 @@ fn tells_apart(typed: &Typed)
     let _texts = file.texts.len();
 }
 
-fn names_of(alloc: Global, written: &[Named]) -> Result<List<NameId>, Memory>
+pub fn names_of(alloc: Global, written: &[Named]) -> Result<List<NameId>, Memory>
     ensures { IfOk result (λ list. list ≡ names_in written.now) }
 {
     let mut list = List::new(alloc);

@@ -6,6 +6,7 @@ use Rattle.transcript.specs.Text.{Words}
 use Rattle.replay.specs.declared.answer.Replayed.{Replayed}
 use Rattle.replay.specs.declared.answer.ReplayFault.{ReplayFault}
 use Rattle.replay.specs.declared.answer.ReplayFault.TheVariants.{Unmatched, Memory}
+use Rattle.event_files.specs.Events.{TellsEvents}
 use Rattle.event_files.specs.Files.{Closes, at_end, at_limit, Matches, goes_on, closes, IsClosedBy, ReplaysFile}
 
 closes_too : (E F : List Event → Type 0) → ((h : List Event) → E h → F h) → (h : List Event) (line : List ℕ) → Closes E h line → Closes F h line
@@ -43,3 +44,10 @@ replays_too w R S E F runs ends bytes (Err (Unmatched i)) a = record {
   none = λ m. a.none (matches_too w S R F E (λ h. (runs h).1) (λ h. (ends h).1) a.history a.line a.rest m);
 }
 replays_too w R S E F runs ends bytes (Err Memory) a = tt
+
+-- and so it is with the events that are told
+pub tells_too : (w : Words) (R S E F : List Event → Type 0) → ((h : List Event) → R h ↔ S h) → ((h : List Event) → E h ↔ F h) → (bytes : List ℕ) (r : Result (List Event) ReplayFault) → TellsEvents w R E bytes r → TellsEvents w S F bytes r
+unfolding replays_too
+tells_too w R S E F runs ends bytes (Ok events) a = record { told = a.told; replayed = replays_too w R S E F runs ends bytes (Ok a.told) a.replayed; events_are = a.events_are }
+tells_too w R S E F runs ends bytes (Err (Unmatched i)) a = replays_too w R S E F runs ends bytes (Err (Unmatched i)) a
+tells_too w R S E F runs ends bytes (Err Memory) a = tt

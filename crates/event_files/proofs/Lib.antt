@@ -7,3 +7,4 @@ pub mod ReadLines
 pub mod NetworkRuns
 pub mod Replaying
 pub mod Following
+pub mod ReadEvents

@@ -1,3 +1,4 @@
 pub mod Files
 pub mod Networks
 pub mod Fronts
+pub mod Events

@@ -2,9 +2,11 @@
 #![tactic(auto)]
 
 mod closing;
+mod events;
 mod file;
 mod laws;
 mod reading;
 
+pub use events::replayed_events;
 pub use file::replay_file;
 pub use laws::one_answer;
