@@ -8,3 +8,4 @@ pub mod NetworkRuns
 pub mod Replaying
 pub mod Following
 pub mod ReadEvents
+pub mod Skipped

@@ -2,3 +2,4 @@ pub mod Files
 pub mod Networks
 pub mod Fronts
 pub mod Events
+pub mod FewLines

@@ -1,3 +1,4 @@
 pub mod LineCuts
 pub mod FeedFree
 pub mod Histories
+pub mod WholeLines

@@ -1,3 +1,4 @@
 pub mod Lines
 pub mod Last
 pub mod Split
+pub mod Whole
