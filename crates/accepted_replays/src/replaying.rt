@@ -4,9 +4,8 @@ ghost use Rattle.std.specs.Prelude.{◌≡◌, ◌≤◌, ◌^◌, IfOk, length}
 ghost use Rattle.chor_host.specs.Functions.{names_of as host_names, hosts_in};
 ghost use Rattle.chor_host.specs.Tables.{functions_of};
 ghost use Rattle.chor_tree.specs.Names.{names_in};
-ghost use Rattle.accepted_files.specs.AboveProjection.{ProjectionIsAbove};
 ghost use Rattle.accepted_files.specs.Accepted.{NetworkRunsAreRuns, RunsAreNetworkRuns};
-ghost use Rattle.accepted_files.specs.FaultlessLaws.{ProjectionAsksKnown, ProjectionIsFaultless};
+ghost use Rattle.accepted_files.specs.MoreNames.{RunsAskAlike};
 ghost use Rattle.endpoint_code.specs.Faults.{IsFaultlessWith};
 ghost use Rattle.event_files.specs.Networks.{ReplaysNetwork};
 ghost use Rattle.event_reader.specs.Known.{AreWords, IsBook};
@@ -43,6 +42,8 @@ pub fn replay_accepted(
 {
     laws();
     let endpoints = accepted.endpoints();
+    // that no name stands twice
+    let _count = endpoints.names.len();
     let typed = accepted.typed();
     tells_apart(typed);
     replay_on(alloc, typed.file(), endpoints, hosts, capacity, bytes)
@@ -50,17 +51,13 @@ pub fn replay_accepted(
 
 // What is proved of each accepted file and its runs.
 pub fn laws()
-    ensures faultless { ProjectionIsFaultless }
-    ensures asks { ProjectionAsksKnown }
     ensures to { NetworkRunsAreRuns }
     ensures back { RunsAreNetworkRuns }
-    ensures above { ProjectionIsAbove }
+    ensures alike { RunsAskAlike }
     ensures end { RunsEndTogether }
 {
-    accepted_files::projection_is_faultless();
-    accepted_files::projection_asks_known();
-    accepted_files::projection_is_above();
     accepted_files::checked_runs();
+    accepted_files::runs_ask_alike();
     crate::laws::runs_end_together();
 }
 

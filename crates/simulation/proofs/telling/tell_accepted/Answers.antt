@@ -12,21 +12,13 @@ use Rattle.simulation.proofs.Runs.{checked, run_of, told_of}
 use Rattle.simulation.proofs.telling.tell_accepted.Goals as goal
 
 pub new-requires-clause-faultless : goal.new-requires-clause-faultless
-new-requires-clause-faultless g c =
-    let typed = c.args.accepted.now.typed in
-    let e = c.endpoints-endpoints.result.now in
-    let a = c.endpoints-endpoints.ensures.accepted in
-    let ok = checked typed.hosts typed.file e typed.fine a in
-    c.laws.ensures.faultless typed.file typed.hosts ok.accepted ok.guarded e a.projects
+new-requires-clause-faultless g c = c.endpoints-endpoints.ensures.accepted.faultless.faultless
 
 pub tell_run-requires-clause-hosts : goal.tell_run-requires-clause-hosts
 tell_run-requires-clause-hosts g c =
     let e = c.endpoints-endpoints.result.now in
     let fs = functions_of c.args.hosts.now in
-    let typed = c.args.accepted.now.typed in
-    let a = c.endpoints-endpoints.ensures.accepted in
-    let ok = checked typed.hosts typed.file e typed.fine a in
-    let here = subst (λ (words : List (List ℕ)). AsksKnown (is_listed words e) e) c.requires.hosts (c.laws.ensures.asks typed.file typed.hosts ok.accepted.names e a.projects) in
+    let here = subst (λ (words : List (List ℕ)). AsksKnown (is_listed words e) e) c.requires.hosts c.endpoints-endpoints.ensures.accepted.faultless.hosts in
     subst (λ (x : Endpoints). AsksKnown (is_listed (names_of fs) x) x) (sym c.in_ok-run.ensures.endpoints) here
 
 pub returns : goal.returns
@@ -45,5 +37,5 @@ returns g c =
     let first = subst (λ (n : NetworkState). IsScheduled run.network.endpoints (hosts_in run.network.endpoints.names fs) None run.schedule.seed run.schedule.steps n 0 told.history told.last close) begun.state free in
     let asked_for = subst (λ (s : Schedule). IsScheduled run.network.endpoints (hosts_in run.network.endpoints.names fs) None s.seed s.steps (first_state e) 0 told.history told.last close) begun.schedule first in
     let scheduled = subst (λ (x : Endpoints). IsScheduled x (hosts_in x.names fs) None c.args.schedule.seed c.args.schedule.steps (first_state e) 0 told.history told.last close) begun.endpoints asked_for in
-    let of_file = run_of typed.file typed.hosts e ok a fs c.functions_answer.ensures c.laws.ensures.above c.laws.ensures.runs c.args.schedule.seed c.args.schedule.steps told.history told.last close scheduled accepted.endpoints c.endpoints-endpoints.ensures.endpoints in
+    let of_file = run_of typed.file typed.hosts e ok a c.len-count.ensures.distinct fs c.functions_answer.ensures c.laws.ensures.alike c.laws.ensures.runs c.args.schedule.seed c.args.schedule.steps told.history told.last close scheduled accepted.endpoints c.endpoints-endpoints.ensures.endpoints in
     told_of (words c.args.book.now) accepted fs c.args.schedule c.in_ok-told.told.closed told.history c.in_ok-told.told.text.items of_file told.text_is
