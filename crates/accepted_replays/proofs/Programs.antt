@@ -2,11 +2,11 @@
 use Rattle.std.proofs.Common.{◌≡◌, ℕ, List}
 use Rattle.chor_tree.specs.declared.file.File.{File}
 use Rattle.endpoint_code.specs.declared.endpoints.Endpoints.{Endpoints}
-use Rattle.endpoint_code.specs.Faults.{IsFaultless, IsFaultlessWith, AsksKnown, is_listed}
+use Rattle.chor_base.specs.Words.{AllDistinct}
 use Rattle.type_check.specs.Typed.{IsFine}
 use Rattle.accepted_files.specs.Accepted.{IsChecked}
-use Rattle.accepted_files.specs.AboveProjection.{IsAboveProjection, ProjectionIsAbove}
-use Rattle.accepted_files.specs.FaultlessLaws.{ProjectionAsksKnown, ProjectionIsFaultless}
+use Rattle.accepted_files.specs.AboveProjection.{IsAboveProjection}
+use Rattle.accepted_files.specs.MoreNames.{RunsAskAlike}
 use Rattle.simulation.specs.Accepted.{IsAccepted}
 use Rattle.simulation.proofs.Runs.{checked}
 
@@ -14,15 +14,12 @@ use Rattle.simulation.proofs.Runs.{checked}
 pub record AreSound (words : List (List ℕ)) (f : File) (e : Endpoints) : Type 0 where
   pub checked : IsChecked f words
   pub above : IsAboveProjection f e
-  pub names : e.names ≡ f.names
-  pub faultless : IsFaultlessWith words e
+  pub distinct : AllDistinct e.names
+  pub alike : RunsAskAlike
 
-pub sound : (words : List (List ℕ)) (f : File) (e : Endpoints) → IsFine words f → IsAccepted f e → ProjectionIsFaultless → ProjectionAsksKnown → ProjectionIsAbove → AreSound words f e
-sound words f e fine a faultless asks above =
-    let ok = checked words f e fine a in
-    record {
-      checked = ok;
-      above = above f e a.projects;
-      names = a.projects.names;
-      faultless = record { faultless = faultless f words ok.accepted ok.guarded e a.projects; hosts = asks f words ok.accepted.names e a.projects };
-    }
+-- they are above the file's projection
+pub above_projection : (words : List (List ℕ)) (f : File) (e : Endpoints) → IsAccepted words f e → IsAboveProjection f e
+above_projection words f e a = a.above
+
+pub sound : (words : List (List ℕ)) (f : File) (e : Endpoints) → IsFine words f → IsAccepted words f e → AllDistinct e.names → RunsAskAlike → AreSound words f e
+sound words f e fine a distinct alike = record { checked = checked words f e fine a; above = a.above; distinct = distinct; alike = alike }

@@ -35,6 +35,8 @@ pub fn accepted_events(
 {
     laws();
     let endpoints = accepted.endpoints();
+    // that no name stands twice
+    let _count = endpoints.names.len();
     let typed = accepted.typed();
     tells_apart(typed);
     events_on(alloc, typed.file(), endpoints, hosts, capacity, bytes)
