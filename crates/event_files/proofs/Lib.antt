@@ -9,3 +9,4 @@ pub mod Replaying
 pub mod Following
 pub mod ReadEvents
 pub mod Skipped
+pub mod FewEvents

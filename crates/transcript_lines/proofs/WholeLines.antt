@@ -1,5 +1,5 @@
 -- Where whole lines end.
-use Rattle.std.proofs.Common.{◌≡◌, ◌∙◌, ◌==◌, ◌-◌, ◌+◌, ◌≤◌, ℕ, Bool, true, false, List, [], ◌∷◌, ◌++◌, length, take, get_or, refl, sym, ap, arith}
+use Rattle.std.proofs.Common.{◌≡◌, ◌∙◌, ◌==◌, ◌-◌, ◌+◌, ◌≤◌, ℕ, suc, Bool, true, false, List, [], ◌∷◌, ◌++◌, length, take, get_or, refl, sym, ap, arith}
 use Rattle.std.proofs.lemmas.Bool.Decides.{nat_tests}
 use Rattle.std.specs.Prelude.{if◌then◌else◌}
 use Rattle.std.proofs.Math.Seq.{take-length}
@@ -35,3 +35,16 @@ torn_at xs some other = ap whole_lines (cut_last xs some) ∙ torn (take (length
 
 pub ended_at : (xs : List ℕ) → 1 ≤ length xs → get_or xs (length xs - 1) 0 ≡ 10 → whole_lines xs ≡ xs
 ended_at xs some feed = ap whole_lines (cut_last xs some) ∙ ended (take (length xs - 1) xs) (get_or xs (length xs - 1) 0) feed ∙ sym (cut_last xs some)
+
+-- there are no more bytes than before
+pub whole_shorter : (bs : List ℕ) → length (whole_lines bs) ≤ length bs
+whole_shorter [] = omega arith
+whole_shorter (b ∷ bs) = go (whole_lines bs) (whole_shorter bs)
+  where
+    torn_or : (t : Bool) → length (if t then b ∷ [] else []) ≤ suc (length bs)
+    torn_or true = omega arith
+    torn_or false = omega arith
+
+    go : (ws : List ℕ) → length ws ≤ length bs → length (before_whole b ws) ≤ suc (length bs)
+    go [] le = torn_or (b == 10)
+    go (c ∷ cs) le = omega (arith, le)
