@@ -17,6 +17,7 @@ use Rattle.endpoint_runs.specs.declared.run.Ran.{Ran}
 use Rattle.endpoint_runs.specs.Runs.{close_of as closing_of}
 use Rattle.well_formed.specs.Asked.{IsAnswered}
 use Rattle.accepted_files.specs.Accepted.{RunsAreNetworkRuns}
+use Rattle.accepted_files.specs.MoreNames.{ScheduledRunsAskAlike}
 use Rattle.accepted_files.specs.Runs.{IsContinued, ScheduledRunsAreRuns}
 use Rattle.net_core.specs.Picks.{entries_of}
 use Rattle.replay.specs.Replays as network
@@ -55,23 +56,25 @@ never_stops P e hosts plan xs run Memory u none (Err x) is = subst P (sym is) no
 
 -- a run of the source is one of its endpoint programs
 pub run_of_programs : (words : List (List ℕ)) (f : File) (e : Endpoints) → AreSound words f e → RunsAreNetworkRuns → (functions : List Function) (cap : Option ℕ) (h : List Event) → IsRun f (hosts_in f.names functions) cap h → network.IsRun e (hosts_in e.names functions) cap h
-run_of_programs words f e s back functions cap h run = subst (λ (names : List (List ℕ)). network.IsRun e (hosts_in names functions) cap h) (sym s.names) (back f words s.checked e s.above (hosts_in f.names functions) cap h run)
+run_of_programs words f e s back functions cap h run =
+    let there = back f words s.checked e s.above (hosts_in f.names functions) cap h run in
+    (there.0, (s.alike f words s.checked e s.above s.distinct functions cap h there.0).1 there.1)
 
 -- ---- the run
 
 -- what the pick rule gives in a source's endpoint programs is a run of the source
-continued : (words : List (List ℕ)) (f : File) (e : Endpoints) → AreSound words f e → ScheduledRunsAreRuns → (functions : List Function) → IsAnswered f (hosts_in f.names functions) → (cap : Option ℕ) → has_room cap [] ≡ true
+continued : (words : List (List ℕ)) (f : File) (e : Endpoints) → AreSound words f e → ScheduledRunsAskAlike → ScheduledRunsAreRuns → (functions : List Function) → IsAnswered f (hosts_in f.names functions) → (cap : Option ℕ) → has_room cap [] ≡ true
     → (given : List Event) (from : NetworkState) → IsNetworkRun e (hosts_in e.names functions) cap given from
     → (seed steps : ℕ) (h : List Event) (last : NetworkState) (close : Close) → IsScheduled e (hosts_in e.names functions) cap seed steps from (length given) h last close
     → IsContinued f e (hosts_in f.names functions) cap seed steps given h close
-continued words f e s running functions answered cap room given from run seed steps h last close on =
-    let there = subst (λ (names : List (List ℕ)). IsNetworkRun e (hosts_in names functions) cap given from) s.names run in
-    let asked = subst (λ (names : List (List ℕ)). IsScheduled e (hosts_in names functions) cap seed steps from (length given) h last close) s.names on in
+continued words f e s alike running functions answered cap room given from run seed steps h last close on =
+    let there = (s.alike f words s.checked e s.above s.distinct functions cap given from).0 run in
+    let asked = alike f words s.checked e s.above s.distinct functions cap given from run seed steps h last close on in
     running f words s.checked e s.above (hosts_in f.names functions) answered cap room given from there seed steps h last close asked
 
 -- ---- its transcript
 
-module _ (words : List (List ℕ)) (a : AcceptedView) (e : Endpoints) (programs : e ≡ a.endpoints) (s : AreSound words a.typed.file e) (running : ScheduledRunsAreRuns)
+module _ (words : List (List ℕ)) (a : AcceptedView) (e : Endpoints) (programs : e ≡ a.endpoints) (s : AreSound words a.typed.file e) (alike : ScheduledRunsAskAlike) (running : ScheduledRunsAreRuns)
     (functions : List Function) (answered : IsAnswered a.typed.file (hosts_in a.typed.file.names functions)) (plan : Plan) (room : has_room plan.capacity [] ≡ true) (bytes : List ℕ) (given : List Event) where
   abbrev hosts : Hosts
   hosts = hosts_in a.typed.file.names functions
@@ -92,7 +95,7 @@ module _ (words : List (List ℕ)) (a : AcceptedView) (e : Endpoints) (programs 
       let w = book_of a.typed.file in
       let close = closing_of ran.closed in
       let h = given ++ r.after in
-      let run = continued words a.typed.file e s running functions answered plan.capacity room given r.from r.given_run plan.schedule.seed steps r.after r.last close r.scheduled in
+      let run = continued words a.typed.file e s alike running functions answered plan.capacity room given r.from r.given_run plan.schedule.seed steps r.after r.last close r.scheduled in
       told_so read r.after text ran.closed
       (subst (λ (x : Endpoints). IsContinued a.typed.file x hosts plan.capacity plan.schedule.seed steps given r.after close) programs run)
       (is

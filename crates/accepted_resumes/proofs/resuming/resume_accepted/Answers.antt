@@ -25,11 +25,7 @@ accepted_events-requires-clause-few g c =
 
 pub resume-requires-clause-faultless : goal.resume-requires-clause-faultless
 resume-requires-clause-faultless g c =
-    let typed = c.args.accepted.now.typed in
-    let e = c.endpoints-endpoints.result.now in
-    let laws = c.laws.ensures in
-    let s = sound typed.hosts typed.file e typed.fine c.endpoints-endpoints.ensures.accepted laws.faultless laws.asks laws.above in
-    subst (λ (words : List (List ℕ)). IsFaultlessWith words e) c.requires.hosts s.faultless
+    subst (λ (words : List (List ℕ)). IsFaultlessWith words c.endpoints-endpoints.result.now) c.requires.hosts c.endpoints-endpoints.ensures.accepted.faultless
 
 pub resume-requires-clause-given : goal.resume-requires-clause-given
 resume-requires-clause-given g c =
@@ -48,7 +44,7 @@ returns-in_err-ran-clause-stopped g c =
     let e = c.endpoints-endpoints.result.now in
     let laws = c.laws.ensures in
     let fs = functions_of c.args.hosts.now in
-    let s = sound typed.hosts f e typed.fine c.endpoints-endpoints.ensures.accepted laws.faultless laws.asks laws.above in
+    let s = sound typed.hosts f e typed.fine c.endpoints-endpoints.ensures.accepted c.len-names.ensures.distinct laws.alike in
     let told = c.in_ok-given.ensures in
     let run = subst (λ (l : List Event). IsRun f (hosts_in f.names fs) c.args.plan.capacity l) (told.events_are ∙ sym c.as_slice.ensures) told.replayed.run in
     let here = run_of_programs typed.hosts f e s laws.back fs c.args.plan.capacity c.as_slice.result.now run in
@@ -62,8 +58,8 @@ returns-clause-resumed g c =
     let e = c.endpoints-endpoints.result.now in
     let laws = c.laws.ensures in
     let fs = functions_of c.args.hosts.now in
-    let s = sound typed.hosts f e typed.fine c.endpoints-endpoints.ensures.accepted laws.faultless laws.asks laws.above in
+    let s = sound typed.hosts f e typed.fine c.endpoints-endpoints.ensures.accepted c.len-names.ensures.distinct laws.alike in
     let told = subst (λ (l : List ℕ). HasSourceEvents f (hosts_in f.names fs) c.args.plan.capacity l c.in_ok-given.given) c.whole_lines.ensures c.in_ok-given.ensures in
     let ran = subst (λ (l : List Event). IsResumed e (hosts_in e.names fs) c.args.plan l c.in_ok-ran.ran) c.as_slice.ensures c.in_ok-ran.ensures in
     let same = c.file.ensures.file ∙ ap (λ (t : Typed). t.file) c.typed.ensures in
-    resumed_of typed.hosts accepted e c.endpoints-endpoints.ensures.endpoints s laws.runs fs c.functions_answer.ensures c.args.plan c.requires.queues c.args.bytes.now c.in_ok-given.given told c.in_ok-ran.ran ran c.file.result.now same c.in_ok-text.text.items c.in_ok-text.ensures
+    resumed_of typed.hosts accepted e c.endpoints-endpoints.ensures.endpoints s laws.scheduled laws.runs fs c.functions_answer.ensures c.args.plan c.requires.queues c.args.bytes.now c.in_ok-given.given told c.in_ok-ran.ran ran c.file.result.now same c.in_ok-text.text.items c.in_ok-text.ensures
