@@ -1,4 +1,4 @@
+pub mod Names
 pub mod OptionWords
-pub mod SameWords
 pub mod Forms
-pub mod Numbers
+pub mod SameWords

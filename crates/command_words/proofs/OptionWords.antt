@@ -1,190 +1,142 @@
--- Options, one after another: what is left of them, and that words tell one value of each.
+-- Options, one after another: what is left of them, and that words tell one number of each.
 use Rattle.std.proofs.Common.{◌≡◌, ◌<◌, ◌≤◌, ◌-◌, ◌^◌, ◌∙◌, ℕ, List, [], ◌∷◌, ◌++◌, length, get_or, take, drop, Option, Some, None, true, false, refl, sym, ap, subst, arith, append-nil}
-use Rattle.std.specs.Prelude.{◌↔◌, ◌==◌, MatchOption, codes}
+use Rattle.std.specs.Prelude.{◌↔◌, ◌==◌, cond, MatchOption}
+use Rattle.std.specs.List.{AllByRecursion}
 use Rattle.std.proofs.lemmas.Bool.{eqb-true}
-use Rattle.std.proofs.lemmas.List.{take_all}
-use Rattle.std.specs.Option.{option_to_list}
+use Rattle.std.proofs.lemmas.List.{take_all, append_assoc}
+use Rattle.std.specs.Option.{option_to_list, is_some}
 use Rattle.std.specs.Fmt.{decimal}
 use Rattle.std.proofs.lemmas.Fmt.{decimal_injective}
 use Rattle.std.proofs.Math.Path.{subst₂}
 use Rattle.std.proofs.Math.Bridge.{le_prop}
+use Rattle.command_words.specs.declared.command_name.CommandName.{CommandName}
+use Rattle.command_words.specs.declared.option_name.OptionName.{OptionName}
+use Rattle.command_words.specs.declared.option_name.OptionName.TheVariants.{Seed, Steps, Workers}
 use Rattle.command_words.specs.declared.options.Options.{Options}
+use Rattle.command_words.specs.declared.settings.Setting.{Setting}
 use Rattle.command_words.specs.declared.settings.Settings.{Settings}
-use Rattle.command_words.specs.Options.{Setting, seed_option, steps_option, workers_option, words_of, seeds_in, steps_in, workers_in, IsValue, IsSeed, AreSteps, AreWorkers, AreOptions, Completes}
+use Rattle.command_words.specs.Tables.{option_word}
+use Rattle.command_words.specs.Options.{words_of, MaySet, is_same, set_to, numbers_of, IsValue, number_in, AreOptions, IsSetting, IsNoSetting, set_in, IsAmong, Adds, AreBounded}
+use Rattle.command_words.proofs.Names.{same_option_name, most_small}
 
--- an option that is set to a number isn't set before, nor later
-record IsOnly (default n most : ℕ) (before : Option ℕ) (later : List ℕ) : Type 0 where
-  pub first : before ≡ None
-  pub small : n ≤ most
+-- two words are one setting
+same_setting : (command : CommandName) (option number : List ℕ) (s t : Setting) → IsSetting command option number s → IsSetting command option number t → s ≡ t
+same_setting command option number s t a b =
+    let few = a.allowed.within.1 in
+    let few' = b.allowed.within.1 in
+    let small = most_small s.name in
+    let small' = most_small t.name in
+    let names = same_option_name s.name t.name (sym a.option_is ∙ b.option_is) in
+    let numbers = decimal_injective s.number t.number (omega arith) (omega arith) (sym a.number_is ∙ b.number_is) in
+    λ i. record { name = names i; number = numbers i }
 
-only : (least most default n value : ℕ) (before : Option ℕ) (later : List ℕ) → IsValue least most default (option_to_list before ++ n ∷ later) value → IsOnly default n most before later
-only least most default n value None [] h = record { first = refl; small = h.2 }
-only least most default n value None (k ∷ later) h = absurd h
-only least most default n value (Some b) later h = absurd h
+-- these words set options that are not yet set
+pub record Completes (command : CommandName) (set : Settings) (words : List (List ℕ)) (options : Options) : Type 0 where
+  pub settings : List Setting
+  pub words_are : words ≡ words_of settings
+  pub allowed : AllByRecursion (MaySet command) settings
+  pub values : (name : OptionName) → IsValue name (option_to_list (set_in name set) ++ numbers_of name settings) (number_in name options)
 
--- the first option, and what completes the options after it
-data Next (set : Settings) (name number : List ℕ) (rest : List (List ℕ)) (options : Options) : Type 0 where
-  seed_next : (n : ℕ) → name ≡ codes "--seed" → number ≡ decimal n → n < 2 ^ 64 → set.seed ≡ None → Completes (record { seed = Some n; steps = set.steps; workers = set.workers }) rest options → Next set name number rest options
-  steps_next : (n : ℕ) → name ≡ codes "--steps" → number ≡ decimal n → n < 2 ^ 64 → set.steps ≡ None → Completes (record { seed = set.seed; steps = Some n; workers = set.workers }) rest options → Next set name number rest options
-  workers_next : (n : ℕ) → name ≡ codes "--workers" → number ≡ decimal n → n < 2 ^ 64 → set.workers ≡ None → Completes (record { seed = set.seed; steps = set.steps; workers = Some n }) rest options → Next set name number rest options
-
-next : (set : Settings) (name number : List ℕ) (rest : List (List ℕ)) (options : Options) → Completes set (name ∷ number ∷ rest) options → Next set name number rest options
-next set name number rest options h = go h.settings h.words_are h.seed_is h.steps_are h.workers_are
+set_itself : (s : Setting) → set_to s.name s ≡ s.number ∷ []
+set_itself s = go s.name s.number
   where
-    go : (s : List Setting) → name ∷ number ∷ rest ≡ words_of s → IsSeed (option_to_list set.seed ++ seeds_in s) options.seed → AreSteps (option_to_list set.steps ++ steps_in s) options.steps → AreWorkers (option_to_list set.workers ++ workers_in s) options.workers → Next set name number rest options
-    go [] e seed steps workers = absurd cc
-    go (seed_option n ∷ s) e seed steps workers =
-        let one = only 0 4294967295 0 n options.seed set.seed (seeds_in s) seed in
-        let small = one.small in
-        seed_next n (cc) (cc) (omega arith) one.first (record {
-          settings = s;
-          words_are = cc;
-          seed_is = subst (λ (b : Option ℕ). IsSeed (option_to_list b ++ n ∷ seeds_in s) options.seed) one.first seed;
-          steps_are = steps;
-          workers_are = workers;
-        })
-    go (steps_option n ∷ s) e seed steps workers =
-        let one = only 1 1000000 100000 n options.steps set.steps (steps_in s) steps in
-        let small = one.small in
-        steps_next n (cc) (cc) (omega arith) one.first (record {
-          settings = s;
-          words_are = cc;
-          seed_is = seed;
-          steps_are = subst (λ (b : Option ℕ). AreSteps (option_to_list b ++ n ∷ steps_in s) options.steps) one.first steps;
-          workers_are = workers;
-        })
-    go (workers_option n ∷ s) e seed steps workers =
-        let one = only 0 16 0 n options.workers set.workers (workers_in s) workers in
-        let small = one.small in
-        workers_next n (cc) (cc) (omega arith) one.first (record {
-          settings = s;
-          words_are = cc;
-          seed_is = seed;
-          steps_are = steps;
-          workers_are = subst (λ (b : Option ℕ). AreWorkers (option_to_list b ++ n ∷ workers_in s) options.workers) one.first workers;
-        })
+    go : (name : OptionName) (n : ℕ) → cond (is_same name name) (n ∷ []) [] ≡ n ∷ []
+    go Seed n = refl
+    go Steps n = refl
+    go Workers n = refl
 
--- the names of the options differ
-pub apart : (name : List ℕ) → name ≡ codes "--seed" → name ≡ codes "--steps" → ⊥
-apart name e d = omega (arith, ap length (sym e ∙ d))
+module _ (command : CommandName) (set : Settings) (option number : List ℕ) (rest : List (List ℕ)) (options : Options) where
+  -- the first of the settings, and those after it
+  record Next : Type 0 where
+    pub first : Setting
+    pub later : List Setting
+    pub is : IsSetting command option number first
+    pub words_are : rest ≡ words_of later
+    pub allowed : AllByRecursion (MaySet command) later
+    pub values : (name : OptionName) → IsValue name (option_to_list (set_in name set) ++ (set_to name first ++ numbers_of name later)) (number_in name options)
 
-pub seed_apart : (name : List ℕ) → name ≡ codes "--seed" → name ≡ codes "--workers" → ⊥
-seed_apart name e d = omega (arith, ap length (sym e ∙ d))
-
-pub steps_apart : (name : List ℕ) → name ≡ codes "--steps" → name ≡ codes "--workers" → ⊥
-steps_apart name e d = omega (arith, ap length (sym e ∙ d))
-
-module _ (set : Settings) (name number : List ℕ) (n : ℕ) (is : number ≡ decimal n) (small : n < 2 ^ 64) where
-  same_number : (m : ℕ) → m < 2 ^ 64 → number ≡ decimal m → m ≡ n
-  same_number m h e = decimal_injective m n h small (sym e ∙ is)
-
-  pub seed_set : name ≡ codes "--seed" → set.seed ≡ None → (rest : List (List ℕ)) (options : Options) → Completes set (name ∷ number ∷ rest) options ↔ Completes (record { seed = Some n; steps = set.steps; workers = set.workers }) rest options
-  seed_set named unset rest options = ((λ h. there (next set name number rest options h)), back)
+  next : Completes command set (option ∷ number ∷ rest) options → Next
+  next h = go h.settings h.words_are h.allowed h.values
     where
-      there : Next set name number rest options → Completes (record { seed = Some n; steps = set.steps; workers = set.workers }) rest options
-      there (seed_next m d e l u c) = subst (λ (k : ℕ). Completes (record { seed = Some k; steps = set.steps; workers = set.workers }) rest options) (same_number m l e) c
-      there (steps_next m d e l u c) = absurd (apart name named d)
-      there (workers_next m d e l u c) = absurd (seed_apart name named d)
-
-      back : Completes (record { seed = Some n; steps = set.steps; workers = set.workers }) rest options → Completes set (name ∷ number ∷ rest) options
-      back c = record {
-        settings = seed_option n ∷ c.settings;
-        words_are = λ i. named i ∷ is i ∷ c.words_are i;
-        seed_is = subst (λ (b : Option ℕ). IsSeed (option_to_list b ++ n ∷ seeds_in c.settings) options.seed) (sym unset) c.seed_is;
-        steps_are = c.steps_are;
-        workers_are = c.workers_are;
+      go : (ss : List Setting) → option ∷ number ∷ rest ≡ words_of ss → AllByRecursion (MaySet command) ss
+          → ((name : OptionName) → IsValue name (option_to_list (set_in name set) ++ numbers_of name ss) (number_in name options)) → Next
+      go [] e allowed values = absurd cc
+      go (s ∷ ss) e allowed values = record {
+        first = s;
+        later = ss;
+        is = record { option_is = cc; number_is = cc; allowed = allowed.0 };
+        words_are = cc;
+        allowed = allowed.1;
+        values = values;
       }
 
-  pub steps_set : name ≡ codes "--steps" → set.steps ≡ None → (rest : List (List ℕ)) (options : Options) → Completes set (name ∷ number ∷ rest) options ↔ Completes (record { seed = set.seed; steps = Some n; workers = set.workers }) rest options
-  steps_set named unset rest options = ((λ h. there (next set name number rest options h)), back)
-    where
-      there : Next set name number rest options → Completes (record { seed = set.seed; steps = Some n; workers = set.workers }) rest options
-      there (seed_next m d e l u c) = absurd (apart name d named)
-      there (steps_next m d e l u c) = subst (λ (k : ℕ). Completes (record { seed = set.seed; steps = Some k; workers = set.workers }) rest options) (same_number m l e) c
-      there (workers_next m d e l u c) = absurd (steps_apart name named d)
+  -- the first two words are no setting
+  pub no_setting : IsNoSetting command option number → Completes command set (option ∷ number ∷ rest) options → ⊥
+  no_setting none h = none (next h).first (next h).is
 
-      back : Completes (record { seed = set.seed; steps = Some n; workers = set.workers }) rest options → Completes set (name ∷ number ∷ rest) options
-      back c = record {
-        settings = steps_option n ∷ c.settings;
-        words_are = λ i. named i ∷ is i ∷ c.words_are i;
-        seed_is = c.seed_is;
-        steps_are = subst (λ (b : Option ℕ). AreSteps (option_to_list b ++ n ∷ steps_in c.settings) options.steps) (sym unset) c.steps_are;
-        workers_are = c.workers_are;
-      }
+  module _ (s : Setting) (is : IsSetting command option number s) where
+    -- they are one of an option that is set
+    pub set_before : IsAmong set s.name → Completes command set (option ∷ number ∷ rest) options → ⊥
+    set_before among h =
+        let n = next h in
+        let same = same_setting command option number n.first s n.is is in
+        subst (λ (l : List ℕ). IsValue s.name l (number_in s.name options))
+        (λ i. option_to_list (among.1 i) ++ ((ap (set_to s.name) same ∙ set_itself s) i ++ numbers_of s.name n.later))
+        (n.values s.name)
 
-  pub workers_set : name ≡ codes "--workers" → set.workers ≡ None → (rest : List (List ℕ)) (options : Options) → Completes set (name ∷ number ∷ rest) options ↔ Completes (record { seed = set.seed; steps = set.steps; workers = Some n }) rest options
-  workers_set named unset rest options = ((λ h. there (next set name number rest options h)), back)
-    where
-      there : Next set name number rest options → Completes (record { seed = set.seed; steps = set.steps; workers = Some n }) rest options
-      there (seed_next m d e l u c) = absurd (seed_apart name d named)
-      there (steps_next m d e l u c) = absurd (steps_apart name d named)
-      there (workers_next m d e l u c) = subst (λ (k : ℕ). Completes (record { seed = set.seed; steps = set.steps; workers = Some k }) rest options) (same_number m l e) c
+    -- they are one more
+    pub set_now : (more : Settings) → Adds set s more → Completes command set (option ∷ number ∷ rest) options ↔ Completes command more rest options
+    set_now more adds = (there, back)
+      where
+        grows : (name : OptionName) (ss : List Setting) → option_to_list (set_in name more) ++ numbers_of name ss ≡ option_to_list (set_in name set) ++ (set_to name s ++ numbers_of name ss)
+        grows name ss = ap (λ (l : List ℕ). l ++ numbers_of name ss) (adds name) ∙ append_assoc (option_to_list (set_in name set)) (set_to name s) (numbers_of name ss)
 
-      back : Completes (record { seed = set.seed; steps = set.steps; workers = Some n }) rest options → Completes set (name ∷ number ∷ rest) options
-      back c = record {
-        settings = workers_option n ∷ c.settings;
-        words_are = λ i. named i ∷ is i ∷ c.words_are i;
-        seed_is = c.seed_is;
-        steps_are = c.steps_are;
-        workers_are = subst (λ (b : Option ℕ). AreWorkers (option_to_list b ++ n ∷ workers_in c.settings) options.workers) (sym unset) c.workers_are;
-      }
+        there : Completes command set (option ∷ number ∷ rest) options → Completes command more rest options
+        there h =
+            let n = next h in
+            let same = same_setting command option number n.first s n.is is in
+            record {
+              settings = n.later;
+              words_are = n.words_are;
+              allowed = n.allowed;
+              values = λ name. subst (λ (l : List ℕ). IsValue name l (number_in name options))
+                  (ap (λ (x : Setting). option_to_list (set_in name set) ++ (set_to name x ++ numbers_of name n.later)) same ∙ sym (grows name n.later))
+                  (n.values name);
+            }
 
-module _ (set : Settings) (name number : List ℕ) where
-  -- no option has a number that is written so
-  pub no_number : ((n : ℕ) → n < 2 ^ 64 → number ≡ decimal n → ⊥) → (rest : List (List ℕ)) (options : Options) → Completes set (name ∷ number ∷ rest) options → ⊥
-  no_number none rest options h = go (next set name number rest options h)
-    where
-      go : Next set name number rest options → ⊥
-      go (seed_next n d e l u c) = none n l e
-      go (steps_next n d e l u c) = none n l e
-      go (workers_next n d e l u c) = none n l e
-
-  -- an option of this name isn't left to be set
-  pub no_option : (name ≡ codes "--seed" → set.seed ≡ None → ⊥) → (name ≡ codes "--steps" → set.steps ≡ None → ⊥) → (name ≡ codes "--workers" → set.workers ≡ None → ⊥) → (rest : List (List ℕ)) (options : Options) → Completes set (name ∷ number ∷ rest) options → ⊥
-  no_option seed steps workers rest options h = go (next set name number rest options h)
-    where
-      go : Next set name number rest options → ⊥
-      go (seed_next n d e l u c) = seed d u
-      go (steps_next n d e l u c) = steps d u
-      go (workers_next n d e l u c) = workers d u
+        back : Completes command more rest options → Completes command set (option ∷ number ∷ rest) options
+        back c = record {
+          settings = s ∷ c.settings;
+          words_are = λ i. is.option_is i ∷ is.number_is i ∷ c.words_are i;
+          allowed = (is.allowed, c.allowed);
+          values = λ name. subst (λ (l : List ℕ). IsValue name l (number_in name options)) (grows name c.settings) (c.values name);
+        }
 
 -- one word is no option
-pub lone_word : (set : Settings) (name : List ℕ) (options : Options) → Completes set (name ∷ []) options → ⊥
-lone_word set name options h = go h.settings h.words_are
+lone_word : (command : CommandName) (set : Settings) (option : List ℕ) (options : Options) → Completes command set (option ∷ []) options → ⊥
+lone_word command set option options h = go h.settings h.words_are
   where
-    go : (s : List Setting) → name ∷ [] ≡ words_of s → ⊥
+    go : (ss : List Setting) → option ∷ [] ≡ words_of ss → ⊥
     go [] e = absurd cc
-    go (seed_option n ∷ s) e = absurd cc
-    go (steps_option n ∷ s) e = absurd cc
-    go (workers_option n ∷ s) e = absurd cc
+    go (s ∷ ss) e = absurd cc
 
--- what is left where no word is
-pub record IsMade (set : Settings) (options : Options) : Type 0 where
-  pub seed_is : IsSeed (option_to_list set.seed) options.seed
-  pub steps_are : AreSteps (option_to_list set.steps) options.steps
-  pub workers_are : AreWorkers (option_to_list set.workers) options.workers
+-- ---- words tell one number of each option
 
-pub no_more : (set : Settings) (options : Options) → Completes set [] options → IsMade set options
-no_more set options h = go h.settings h.words_are h.seed_is h.steps_are h.workers_are
-  where
-    go : (s : List Setting) → [] ≡ words_of s → IsSeed (option_to_list set.seed ++ seeds_in s) options.seed → AreSteps (option_to_list set.steps ++ steps_in s) options.steps → AreWorkers (option_to_list set.workers ++ workers_in s) options.workers → IsMade set options
-    go [] e seed steps workers = record {
-      seed_is = subst (λ (l : List ℕ). IsSeed l options.seed) (append-nil (option_to_list set.seed)) seed;
-      steps_are = subst (λ (l : List ℕ). AreSteps l options.steps) (append-nil (option_to_list set.steps)) steps;
-      workers_are = subst (λ (l : List ℕ). AreWorkers l options.workers) (append-nil (option_to_list set.workers)) workers;
-    }
-    go (seed_option n ∷ s) e seed steps workers = absurd cc
-    go (steps_option n ∷ s) e seed steps workers = absurd cc
-    go (workers_option n ∷ s) e seed steps workers = absurd cc
+same_settings : (command : CommandName) (ss ts : List Setting) → AllByRecursion (MaySet command) ss → AllByRecursion (MaySet command) ts → words_of ss ≡ words_of ts → ss ≡ ts
+same_settings command [] [] a b e = refl
+same_settings command [] (t ∷ ts) a b e = absurd cc
+same_settings command (s ∷ ss) [] a b e = absurd cc
+same_settings command (s ∷ ss) (t ∷ ts) a b e =
+    let first : s ≡ t = same_setting command (option_word s.name) (decimal s.number) s t (record { option_is = refl; number_is = refl; allowed = a.0 }) (record { option_is = cc; number_is = cc; allowed = b.0 }) in
+    let later : ss ≡ ts = same_settings command ss ts a.1 b.1 (cc) in
+    λ i. first i ∷ later i
 
--- ---- words tell one value of each option
+same_value : (name : OptionName) (numbers : List ℕ) (v w : ℕ) → IsValue name numbers v → IsValue name numbers w → v ≡ w
+same_value name [] v w a b = a ∙ sym b
+same_value name (n ∷ []) v w a b = a ∙ sym b
+same_value name (n ∷ m ∷ ns) v w a b = absurd a
 
-same_value : (least most default : ℕ) (numbers : List ℕ) (v w : ℕ) → IsValue least most default numbers v → IsValue least most default numbers w → v ≡ w
-same_value least most default [] v w a b = a ∙ sym b
-same_value least most default (n ∷ []) v w a b = a.0 ∙ sym b.0
-same_value least most default (n ∷ m ∷ ns) v w a b = absurd a
-
--- options are the same where their values are
+-- options are the same where their numbers are
 same_fields : (o p : Options) → o.seed ≡ p.seed → o.steps ≡ p.steps → o.workers ≡ p.workers → o ≡ p
 same_fields o p e d c =
     subst (λ (w : ℕ). (small : p.seed < 2 ^ 32) (few : p.steps ≤ 1000000) (crew : w ≤ 16) → o ≡ record { seed = p.seed; steps = p.steps; workers = w; small = small; few = few; crew = crew }) c
@@ -202,42 +154,36 @@ same_fields o p e d c =
     here : (small : o.seed < 2 ^ 32) (few : o.steps ≤ 1000000) (crew : o.workers ≤ 16) → o ≡ record { seed = o.seed; steps = o.steps; workers = o.workers; small = small; few = few; crew = crew }
     here small few crew i = record { seed = o.seed; steps = o.steps; workers = o.workers; small = one_small o.small small i; few = one_few o.few few i; crew = one_crew o.crew crew i }
 
-same_made : (set : Settings) (o p : Options) → IsMade set o → IsMade set p → o ≡ p
-same_made set o p a b =
-    let seed = same_value 0 4294967295 0 (option_to_list set.seed) o.seed p.seed a.seed_is b.seed_is in
-    let steps = same_value 1 1000000 100000 (option_to_list set.steps) o.steps p.steps a.steps_are b.steps_are in
-    let workers = same_value 0 16 0 (option_to_list set.workers) o.workers p.workers a.workers_are b.workers_are in
-    same_fields o p seed steps workers
+pub same_options : (command : CommandName) (words : List (List ℕ)) (o p : Options) → AreOptions command words o → AreOptions command words p → o ≡ p
+same_options command words o p a b = same_fields o p (number Seed) (number Steps) (number Workers)
+  where
+    settings : b.settings ≡ a.settings
+    settings = same_settings command b.settings a.settings b.allowed a.allowed (sym b.words_are ∙ a.words_are)
 
-same_next : (set : Settings) (name number : List ℕ) (rest : List (List ℕ)) (o p : Options) → ((more : Settings) → Completes more rest o → Completes more rest p → o ≡ p) → Next set name number rest o → Next set name number rest p → o ≡ p
-same_next set name number rest o p same (seed_next n d e l u c) (seed_next m d' e' l' u' c') =
-    same (record { seed = Some n; steps = set.steps; workers = set.workers }) c (subst (λ (k : ℕ). Completes (record { seed = Some k; steps = set.steps; workers = set.workers }) rest p) (decimal_injective m n l' l (sym e' ∙ e)) c')
-same_next set name number rest o p same (seed_next n d e l u c) (steps_next m d' e' l' u' c') = absurd (apart name d d')
-same_next set name number rest o p same (steps_next n d e l u c) (seed_next m d' e' l' u' c') = absurd (apart name d' d)
-same_next set name number rest o p same (steps_next n d e l u c) (steps_next m d' e' l' u' c') =
-    same (record { seed = set.seed; steps = Some n; workers = set.workers }) c (subst (λ (k : ℕ). Completes (record { seed = set.seed; steps = Some k; workers = set.workers }) rest p) (decimal_injective m n l' l (sym e' ∙ e)) c')
-same_next set name number rest o p same (seed_next n d e l u c) (workers_next m d' e' l' u' c') = absurd (seed_apart name d d')
-same_next set name number rest o p same (steps_next n d e l u c) (workers_next m d' e' l' u' c') = absurd (steps_apart name d d')
-same_next set name number rest o p same (workers_next n d e l u c) (seed_next m d' e' l' u' c') = absurd (seed_apart name d' d)
-same_next set name number rest o p same (workers_next n d e l u c) (steps_next m d' e' l' u' c') = absurd (steps_apart name d' d)
-same_next set name number rest o p same (workers_next n d e l u c) (workers_next m d' e' l' u' c') =
-    same (record { seed = set.seed; steps = set.steps; workers = Some n }) c (subst (λ (k : ℕ). Completes (record { seed = set.seed; steps = set.steps; workers = Some k }) rest p) (decimal_injective m n l' l (sym e' ∙ e)) c')
-
-same_completed : (words : List (List ℕ)) (set : Settings) (o p : Options) → Completes set words o → Completes set words p → o ≡ p
-same_completed [] set o p a b = same_made set o p (no_more set o a) (no_more set p b)
-same_completed (name ∷ []) set o p a b = absurd (lone_word set name o a)
-same_completed (name ∷ number ∷ rest) set o p a b = same_next set name number rest o p (λ more. same_completed rest more o p) (next set name number rest o a) (next set name number rest p b)
-
-pub whole : (words : List (List ℕ)) (options : Options) → AreOptions words options ↔ Completes (record { seed = None; steps = None; workers = None }) words options
-whole words options = (
-  (λ h. record { settings = h.settings; words_are = h.words_are; seed_is = h.seed_is; steps_are = h.steps_are; workers_are = h.workers_are }),
-  (λ h. record { settings = h.settings; words_are = h.words_are; seed_is = h.seed_is; steps_are = h.steps_are; workers_are = h.workers_are }),
-)
-
-pub same_options : (words : List (List ℕ)) (o p : Options) → AreOptions words o → AreOptions words p → o ≡ p
-same_options words o p a b = same_completed words (record { seed = None; steps = None; workers = None }) o p ((whole words o).0 a) ((whole words p).0 b)
+    number : (name : OptionName) → number_in name o ≡ number_in name p
+    number name =
+        same_value name (numbers_of name a.settings) (number_in name o) (number_in name p) (a.values name)
+        (subst (λ (ss : List Setting). IsValue name (numbers_of name ss) (number_in name p)) settings (b.values name))
 
 -- ---- reading them
+
+-- no option is set
+abbrev unset : Settings
+unset = record { seed = None; steps = None; workers = None }
+
+nothing_in : (name : OptionName) → set_in name unset ≡ None
+nothing_in Seed = refl
+nothing_in Steps = refl
+nothing_in Workers = refl
+
+pub nothing_set : (command : CommandName) (words : List (List ℕ)) (options : Options) → AreOptions command words options ↔ Completes command unset words options
+nothing_set command words options = (
+  (λ h. record { settings = h.settings; words_are = h.words_are; allowed = h.allowed; values = λ name. subst (λ (o : Option ℕ). IsValue name (option_to_list o ++ numbers_of name h.settings) (number_in name options)) (sym (nothing_in name)) (h.values name) }),
+  (λ h. record { settings = h.settings; words_are = h.words_are; allowed = h.allowed; values = λ name. subst (λ (o : Option ℕ). IsValue name (option_to_list o ++ numbers_of name h.settings) (number_in name options)) (nothing_in name) (h.values name) }),
+)
+
+pub nothing_bounded : AreBounded unset
+nothing_bounded name x e = let none = sym (nothing_in name) ∙ e in absurd cc
 
 -- a list of two items or more
 pairs : (l : List (List ℕ)) (a b : List ℕ) → 2 ≤ length l → a ≡ get_or l 0 a → b ≡ get_or l 1 b → l ≡ a ∷ b ∷ take (length l - 2) (drop 2 l)
@@ -248,42 +194,59 @@ pairs (x ∷ y ∷ l) a b h e d =
     let whole : take (length (x ∷ y ∷ l) - 2) l ≡ l = ap (λ (k : ℕ). take k l) long ∙ take_all (length l) l (omega arith) in
     sym (λ i. e i ∷ d i ∷ whole i)
 
-module _ (words l : List (List ℕ)) (set : Settings) (so_far : (options : Options) → AreOptions words options ↔ Completes set l options) where
+module _ (command : CommandName) (words l : List (List ℕ)) (set : Settings) (so_far : (options : Options) → AreOptions command words options ↔ Completes command set l options) where
   module _ (x y a b : List ℕ) (is_a : x ≡ a) (is_b : y ≡ b) (long : 2 ≤ length l) (at_a : a ≡ get_or l 0 a) (at_b : b ≡ get_or l 1 b) where
     split : l ≡ x ∷ y ∷ take (length l - 2) (drop 2 l)
     split = pairs l a b long at_a at_b ∙ sym (λ i. is_a i ∷ is_b i ∷ take (length l - 2) (drop 2 l))
 
-    -- the next two words are no option that is left
-    pub no_turn : ((rest : List (List ℕ)) (options : Options) → Completes set (x ∷ y ∷ rest) options → ⊥) → (options : Options) → AreOptions words options → ⊥
-    no_turn none options h = none (take (length l - 2) (drop 2 l)) options (subst (λ (k : List (List ℕ)). Completes set k options) split ((so_far options).0 h))
+    -- the next two words are no setting
+    pub no_turn : IsNoSetting command x y → (options : Options) → AreOptions command words options → ⊥
+    no_turn none options h = no_setting command set x y (take (length l - 2) (drop 2 l)) options none (subst (λ (k : List (List ℕ)). Completes command set k options) split ((so_far options).0 h))
 
-    -- the next two words are read
-    pub turn : (more : Settings) → ((rest : List (List ℕ)) (options : Options) → Completes set (x ∷ y ∷ rest) options ↔ Completes more rest options) → (options : Options) → AreOptions words options ↔ Completes more (take (length l - 2) (drop 2 l)) options
-    turn more next options =
-        let after = next (take (length l - 2) (drop 2 l)) options in (
-          (λ h. after.0 (subst (λ (k : List (List ℕ)). Completes set k options) split ((so_far options).0 h))),
-          (λ h. (so_far options).1 (subst (λ (k : List (List ℕ)). Completes set k options) (sym split) (after.1 h))),
-        )
+    module _ (s : Setting) (is : IsSetting command x y s) where
+      -- they are one of an option that is set
+      pub turn_back : IsAmong set s.name → (options : Options) → AreOptions command words options → ⊥
+      turn_back among options h = set_before command set x y (take (length l - 2) (drop 2 l)) options s is among (subst (λ (k : List (List ℕ)). Completes command set k options) split ((so_far options).0 h))
+
+      -- they are read
+      pub turn : (more : Settings) → Adds set s more → (options : Options) → AreOptions command words options ↔ Completes command more (take (length l - 2) (drop 2 l)) options
+      turn more adds options =
+          let after = set_now command set x y (take (length l - 2) (drop 2 l)) options s is more adds in (
+            (λ h. after.0 (subst (λ (k : List (List ℕ)). Completes command set k options) split ((so_far options).0 h))),
+            (λ h. (so_far options).1 (subst (λ (k : List (List ℕ)). Completes command set k options) (sym split) (after.1 h))),
+          )
 
   -- no word is left
-  pub at_end : (length l == 0) ≡ true → (r : Option Options) → MatchOption r ((options : Options) → Completes set [] options → ⊥) (Completes set []) → MatchOption r ((options : Options) → AreOptions words options → ⊥) (AreOptions words)
-  at_end none r h = go l none so_far r h
+  pub at_end : (length l == 0) ≡ true → (options : Options) → ((name : OptionName) → IsValue name (option_to_list (set_in name set)) (number_in name options)) → AreOptions command words options
+  at_end none options values = (so_far options).1 (go l none)
     where
-      go : (k : List (List ℕ)) → (length k == 0) ≡ true → ((options : Options) → AreOptions words options ↔ Completes set k options) → (r : Option Options) → MatchOption r ((options : Options) → Completes set [] options → ⊥) (Completes set []) → MatchOption r ((options : Options) → AreOptions words options → ⊥) (AreOptions words)
-      go [] e same None h = λ options a. h options ((same options).0 a)
-      go [] e same (Some o) h = (same o).1 h
-      go (x ∷ k) e same r h = absurd (omega (arith, eqb-true (length (x ∷ k)) 0 e))
+      go : (k : List (List ℕ)) → (length k == 0) ≡ true → Completes command set k options
+      go [] e = record {
+        settings = [];
+        words_are = refl;
+        allowed = tt;
+        values = λ name. subst (λ (ns : List ℕ). IsValue name ns (number_in name options)) (sym (append-nil (option_to_list (set_in name set)))) (values name);
+      }
+      go (x ∷ k) e = absurd (omega (arith, eqb-true (length (x ∷ k)) 0 e))
 
   -- one word is left
-  pub at_lone : (length l == 0) ≡ false → length l < 2 → (options : Options) → AreOptions words options → ⊥
+  pub at_lone : (length l == 0) ≡ false → length l < 2 → (options : Options) → AreOptions command words options → ⊥
   at_lone some few options h = go l some few ((so_far options).0 h)
     where
-      go : (k : List (List ℕ)) → (length k == 0) ≡ false → length k < 2 → Completes set k options → ⊥
+      go : (k : List (List ℕ)) → (length k == 0) ≡ false → length k < 2 → Completes command set k options → ⊥
       go [] e f c = absurd cc
-      go (x ∷ []) e f c = lone_word set x options c
+      go (x ∷ []) e f c = lone_word command set x options c
       go (x ∷ y ∷ k) e f c = absurd (omega arith)
 
 -- an answer that is `None`
 pub match_none : {A : Type 0} (r : Option A) (none : Type 0) (some : A → Type 0) → r ≡ None → none → MatchOption r none some
 match_none None none some e h = h
 match_none (Some x) none some e h = absurd cc
+
+-- an option that is set has a number
+pub is_among : (set : Settings) (name given : OptionName) → name ≡ given → is_some (set_in given set) ≡ true → IsAmong set name
+is_among set name given is some = subst (IsAmong set) (sym is) (go (set_in given set) some)
+  where
+    go : (o : Option ℕ) → is_some o ≡ true → (n : ℕ) × (o ≡ Some n)
+    go None some = absurd cc
+    go (Some n) some = (n, refl)

@@ -1,88 +1,93 @@
 -- The options of a run, as they are written (this project's own).
-use Rattle.std.specs.Prelude.{ℕ, ◌≡◌, ◌≤◌, ◌↔◌, List, [], ◌∷◌, ◌++◌, codes}
-use Rattle.std.specs.Option.{option_to_list}
+use Rattle.std.specs.Prelude.{ℕ, ◌≡◌, ◌≤◌, Bool, true, false, cond, List, [], ◌∷◌, ◌++◌, Option, Some}
+use Rattle.std.specs.List.{AllByRecursion}
+use Rattle.std.specs.Option.{option_to_list, ForSome}
 use Rattle.std.specs.Fmt.{decimal}
+use Rattle.command_words.specs.declared.command_name.CommandName.{CommandName}
+use Rattle.command_words.specs.declared.option_name.OptionName.{OptionName}
+use Rattle.command_words.specs.declared.option_name.OptionName.TheVariants.{Seed, Steps, Workers}
 use Rattle.command_words.specs.declared.options.Options.{Options}
+use Rattle.command_words.specs.declared.settings.Setting.{Setting}
 use Rattle.command_words.specs.declared.settings.Settings.{Settings}
+use Rattle.command_words.specs.Tables.{takes, option_word, least_of, most_of, default_of}
 
--- an option with its number
-pub data Setting : Type 0 where
-  seed_option : ℕ → Setting
-  steps_option : ℕ → Setting
-  workers_option : ℕ → Setting
+-- from the first number to the second
+abbrev pub IsBetween : ℕ → ℕ → ℕ → Type 0
+IsBetween least most n = (least ≤ n) × (n ≤ most)
 
--- the words of options, two for each: its name, and its number in decimal digits without zeros before it
+-- the words of settings, two for each: the option's, and its number in decimal digits without zeros before it
 abbrev pub words_of : List Setting → List (List ℕ)
 words_of [] = []
-words_of (seed_option n ∷ rest) = codes "--seed" ∷ decimal n ∷ words_of rest
-words_of (steps_option n ∷ rest) = codes "--steps" ∷ decimal n ∷ words_of rest
-words_of (workers_option n ∷ rest) = codes "--workers" ∷ decimal n ∷ words_of rest
+words_of (s ∷ rest) = option_word s.name ∷ decimal s.number ∷ words_of rest
 
--- the seeds that they set
-abbrev pub seeds_in : List Setting → List ℕ
-seeds_in [] = []
-seeds_in (seed_option n ∷ rest) = n ∷ seeds_in rest
-seeds_in (steps_option n ∷ rest) = seeds_in rest
-seeds_in (workers_option n ∷ rest) = seeds_in rest
+-- the command takes the option, and the number is within the option's bounds
+pub record MaySet (command : CommandName) (s : Setting) : Type 0 where
+  pub taken : takes command s.name ≡ true
+  pub within : IsBetween (least_of s.name) (most_of s.name) s.number
 
--- the numbers of steps that they set
-abbrev pub steps_in : List Setting → List ℕ
-steps_in [] = []
-steps_in (seed_option n ∷ rest) = steps_in rest
-steps_in (steps_option n ∷ rest) = n ∷ steps_in rest
-steps_in (workers_option n ∷ rest) = steps_in rest
+abbrev pub is_same : OptionName → OptionName → Bool
+is_same Seed Seed = true
+is_same Steps Steps = true
+is_same Workers Workers = true
+is_same _ _ = false
 
--- the numbers of workers that they set
-abbrev pub workers_in : List Setting → List ℕ
-workers_in [] = []
-workers_in (seed_option n ∷ rest) = workers_in rest
-workers_in (steps_option n ∷ rest) = workers_in rest
-workers_in (workers_option n ∷ rest) = n ∷ workers_in rest
+-- the number that a setting gives an option, if it is one of that option
+abbrev pub set_to : OptionName → Setting → List ℕ
+set_to name s = cond (is_same name s.name) (s.number ∷ []) []
 
--- the value of an option that is set to these numbers: its default where it isn't set, and else the only one, within its bounds
-abbrev pub IsValue : ℕ → ℕ → ℕ → List ℕ → ℕ → Type 0
-IsValue least most default [] value = value ≡ default
-IsValue least most default (n ∷ []) value = (value ≡ n) × (least ≤ n) × (n ≤ most)
-IsValue least most default (n ∷ m ∷ ns) value = ⊥
+-- the numbers that settings give an option
+abbrev pub numbers_of : OptionName → List Setting → List ℕ
+numbers_of name [] = []
+numbers_of name (s ∷ rest) = set_to name s ++ numbers_of name rest
 
--- a seed is at most 4,294,967,295, and 0 where it isn't set
-abbrev pub IsSeed : List ℕ → ℕ → Type 0
-IsSeed numbers seed = IsValue 0 4294967295 0 numbers seed
+-- the number of an option that is given these: its default where it isn't set, and else the only one
+abbrev pub IsValue : OptionName → List ℕ → ℕ → Type 0
+IsValue name [] value = value ≡ default_of name
+IsValue name (n ∷ []) value = value ≡ n
+IsValue name (n ∷ m ∷ ns) value = ⊥
 
--- a run has from 1 to 1,000,000 steps, and 100,000 where it isn't said
-abbrev pub AreSteps : List ℕ → ℕ → Type 0
-AreSteps numbers steps = IsValue 1 1000000 100000 numbers steps
+-- the number that options have for an option
+abbrev pub number_in : OptionName → Options → ℕ
+number_in Seed options = options.seed
+number_in Steps options = options.steps
+number_in Workers options = options.workers
 
--- a run has at most 16 workers, and none where it isn't said
-abbrev pub AreWorkers : List ℕ → ℕ → Type 0
-AreWorkers numbers workers = IsValue 0 16 0 numbers workers
-
--- The words set options, in any order and each at most once, and these are their values
-pub record AreOptions (words : List (List ℕ)) (options : Options) : Type 0 where
+-- The words set options that the command takes, in any order and each at most once, and these are their numbers
+pub record AreOptions (command : CommandName) (words : List (List ℕ)) (options : Options) : Type 0 where
   pub settings : List Setting
   pub words_are : words ≡ words_of settings
-  pub seed_is : IsSeed (seeds_in settings) options.seed
-  pub steps_are : AreSteps (steps_in settings) options.steps
-  pub workers_are : AreWorkers (workers_in settings) options.workers
+  pub allowed : AllByRecursion (MaySet command) settings
+  pub values : (name : OptionName) → IsValue name (numbers_of name settings) (number_in name options)
 
--- they are no options of a run
-abbrev pub AreNoOptions : List (List ℕ) → Type 0
-AreNoOptions words = (options : Options) → AreOptions words options → ⊥
+-- they are no options of this command
+abbrev pub AreNoOptions : CommandName → List (List ℕ) → Type 0
+AreNoOptions command words = (options : Options) → AreOptions command words options → ⊥
 
--- ---- some after others
+-- ---- one after another
 
--- the same of words that follow some which have set so much
-pub record Completes (set : Settings) (words : List (List ℕ)) (options : Options) : Type 0 where
-  pub settings : List Setting
-  pub words_are : words ≡ words_of settings
-  pub seed_is : IsSeed (option_to_list set.seed ++ seeds_in settings) options.seed
-  pub steps_are : AreSteps (option_to_list set.steps ++ steps_in settings) options.steps
-  pub workers_are : AreWorkers (option_to_list set.workers ++ workers_in settings) options.workers
+-- two words are this setting, which the command takes
+pub record IsSetting (command : CommandName) (option number : List ℕ) (s : Setting) : Type 0 where
+  pub option_is : option ≡ option_word s.name
+  pub number_is : number ≡ decimal s.number
+  pub allowed : MaySet command s
 
--- with these two words more so much is set: what completes the one after them completes the other
-abbrev pub Sets : Settings → List ℕ → List ℕ → Settings → Type 0
-Sets set name number more = (rest : List (List ℕ)) (options : Options) → Completes set (name ∷ number ∷ rest) options ↔ Completes more rest options
+abbrev pub IsNoSetting : CommandName → List ℕ → List ℕ → Type 0
+IsNoSetting command option number = (s : Setting) → IsSetting command option number s → ⊥
 
--- nothing completes it that begins with these two words
-abbrev pub SetsNothing : Settings → List ℕ → List ℕ → Type 0
-SetsNothing set name number = (rest : List (List ℕ)) (options : Options) → Completes set (name ∷ number ∷ rest) options → ⊥
+-- the number that an option was set to so far
+abbrev pub set_in : OptionName → Settings → Option ℕ
+set_in Seed settings = settings.seed
+set_in Steps settings = settings.steps
+set_in Workers settings = settings.workers
+
+-- the option was set
+abbrev pub IsAmong : Settings → OptionName → Type 0
+IsAmong settings name = (n : ℕ) × (set_in name settings ≡ Some n)
+
+-- with this setting more so much is set
+abbrev pub Adds : Settings → Setting → Settings → Type 0
+Adds settings s more = (name : OptionName) → option_to_list (set_in name more) ≡ option_to_list (set_in name settings) ++ set_to name s
+
+-- each number is within its option's upper bound
+abbrev pub AreBounded : Settings → Type 0
+AreBounded settings = (name : OptionName) → ForSome (set_in name settings) (λ n. n ≤ most_of name)

@@ -1,7 +1,9 @@
 //! The words of the command line.
 #![tactic(auto)]
 
-mod numbered;
+mod command_name;
+mod numbers;
+mod option_name;
 mod options;
 mod order_form;
 mod settings;
@@ -10,4 +12,4 @@ mod words;
 
 pub use options::Options;
 pub use order_form::OrderForm;
-pub use words::{Command, Form, Words, form_of, read_words};
+pub use words::{Command, Words, form_of, read_words};

@@ -1,20 +1,23 @@
 //! Reading the options of a run.
 
-ghost use Rattle.std.specs.Prelude.{◌<◌, ◌≤◌, ◌^◌, [], ℕ, MatchOption, IfSome};
+ghost use Rattle.std.specs.Prelude.{◌≤◌, MatchOption, IfSome};
 ghost use Rattle.std.specs.Option.{option_to_list};
-ghost use Rattle.command_words.specs.declared.options.Options.{Options as OptionsOfRun};
-ghost use Rattle.command_words.specs.Options.{IsSeed, AreSteps, AreWorkers, AreOptions, AreNoOptions, Completes, Sets, SetsNothing};
+ghost use Rattle.command_words.specs.declared.option_name.OptionName.{OptionName as NameOfOption};
+ghost use Rattle.command_words.specs.Tables.{most_of};
+ghost use Rattle.command_words.specs.Options.{AreOptions, AreNoOptions, IsSetting, IsNoSetting, IsValue, number_in, set_in, IsAmong, Adds, AreBounded};
 
+use crate::command_name::CommandName;
+use crate::numbers::number_between;
+use crate::option_name::OptionName;
 use crate::options::Options;
 use chor_base::Word;
-use event_reader::number_of;
 
-// How many events a run has at most where no option says it.
-const DEFAULT_STEPS: u64 = 100_000;
-
-const MOST_STEPS: u64 = 1_000_000;
-
-const MOST_WORKERS: u64 = 16;
+// An option with its number.
+#[derive(Clone, Copy)]
+pub struct Setting {
+    pub name: OptionName,
+    pub number: u64,
+}
 
 // The numbers that options were set to so far.
 #[derive(Clone, Copy)]
@@ -25,8 +28,8 @@ pub struct Settings {
 }
 
 /// The options that these words set, in any order, each at most once. It takes no memory.
-pub fn options_of(words: &[Word]) -> Option<Options>
-    ensures { MatchOption result (AreNoOptions words.now) (AreOptions words.now) }
+pub fn options_of(command: CommandName, words: &[Word]) -> Option<Options>
+    ensures { MatchOption result (AreNoOptions command words.now) (AreOptions command words.now) }
 {
     let mut settings = Settings {
         seed: None,
@@ -35,95 +38,62 @@ pub fn options_of(words: &[Word]) -> Option<Options>
     };
     let mut rest = words;
     while let [option, number, more @ ..] = rest {
-        settings = settings.with_option(option.as_slice(), number.as_slice())?;
+        let setting = setting_of(command, option.as_slice(), number.as_slice())?;
+        settings = settings.with(setting)?;
         rest = more;
     }
     if rest.is_empty() {
-        settings.options()
+        Some(settings.options())
     } else {
         None
     }
 }
 
+// The setting of an option that the command takes.
+fn setting_of(command: CommandName, option: &[u8], number: &[u8]) -> Option<Setting>
+    ensures { MatchOption result (IsNoSetting command option.now number.now) (IsSetting command option.now number.now) }
+{
+    let name = OptionName::of(option)?;
+    if !command.takes(name) {
+        return None;
+    }
+    let number = number_between(number, name.least(), name.most())?;
+    Some(Setting { name, number })
+}
+
 impl Settings {
     // These and one more, which isn't among them.
-    fn with_option(self, option: &[u8], number: &[u8]) -> Option<Settings>
-        ensures { MatchOption result (SetsNothing self option.now number.now) (Sets self option.now number.now) }
+    fn with(self, setting: Setting) -> Option<Settings>
+        requires { setting.number ≤ most_of setting.name }
+        ensures bounded { AreBounded self → IfSome result AreBounded }
+        ensures added { MatchOption result (IsAmong self setting.name) (Adds self setting) }
     {
-        let number = number_of(number)?;
-        if option == b"--seed".as_slice() {
-            match self.seed {
-                None => Some(Settings {
-                    seed: Some(number),
-                    ..self
-                }),
-                Some(_) => None,
-            }
-        } else if option == b"--steps".as_slice() {
-            match self.steps {
-                None => Some(Settings {
-                    steps: Some(number),
-                    ..self
-                }),
-                Some(_) => None,
-            }
-        } else if option == b"--workers".as_slice() {
-            match self.workers {
-                None => Some(Settings {
-                    workers: Some(number),
-                    ..self
-                }),
-                Some(_) => None,
-            }
-        } else {
-            None
+        match setting.name {
+            OptionName::Seed if self.seed.is_none() => Some(Settings {
+                seed: Some(setting.number),
+                ..self
+            }),
+            OptionName::Steps if self.steps.is_none() => Some(Settings {
+                steps: Some(setting.number),
+                ..self
+            }),
+            OptionName::Workers if self.workers.is_none() => Some(Settings {
+                workers: Some(setting.number),
+                ..self
+            }),
+            _ => None,
         }
     }
 
     // The options that they make.
-    fn options(self) -> Option<Options>
-        ensures { MatchOption result ((options : OptionsOfRun) → Completes self [] options → ⊥) (Completes self []) }
+    fn options(self) -> Options
+        requires { AreBounded self }
+        ensures { (name : NameOfOption) → IsValue name (option_to_list (set_in name self)) (number_in name result) }
     {
-        let seed = seed_of(self.seed)?;
-        let steps = steps_of(self.steps)?;
-        let workers = workers_of(self.workers)?;
-        Some(Options {
-            seed,
-            steps,
-            workers,
-        })
+        Options {
+            seed: OptionName::Seed.value(self.seed),
+            steps: OptionName::Steps.value(self.steps),
+            workers: OptionName::Workers.value(self.workers) as u32,
+        }
     }
-}
-
-fn seed_of(given: Option<u64>) -> Option<u64>
-    ensures seed { MatchOption result ((seed : ℕ) → IsSeed (option_to_list given) seed → ⊥) (IsSeed (option_to_list given)) }
-    ensures small { IfSome result (λ seed. seed < 2 ^ 32) }
-{
-    let seed = given.unwrap_or(0);
-    if seed > u64::from(u32::MAX) {
-        return None;
-    }
-    Some(seed)
-}
-
-fn steps_of(given: Option<u64>) -> Option<u64>
-    ensures steps { MatchOption result ((steps : ℕ) → AreSteps (option_to_list given) steps → ⊥) (AreSteps (option_to_list given)) }
-    ensures few { IfSome result (λ steps. steps ≤ 1000000) }
-{
-    let steps = given.unwrap_or(DEFAULT_STEPS);
-    if steps == 0 || steps > MOST_STEPS {
-        return None;
-    }
-    Some(steps)
-}
-
-fn workers_of(given: Option<u64>) -> Option<u32>
-    ensures workers { MatchOption result ((workers : ℕ) → AreWorkers (option_to_list given) workers → ⊥) (AreWorkers (option_to_list given)) }
-    ensures few { IfSome result (λ workers. workers ≤ 16) }
-{
-    let workers = given.unwrap_or(0);
-    if workers > MOST_WORKERS {
-        return None;
-    }
-    Some(workers as u32)
 }
