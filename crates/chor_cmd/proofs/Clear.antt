@@ -1,38 +1,40 @@
 -- In each row of the table what is judged fine isn't broken.
 use Rattle.std.proofs.Common.{ℕ, List}
-use Rattle.chor_tree.specs.declared.file.File.{File}
 use Rattle.chor_host.specs.Functions.{Function, names_of}
 use Rattle.command_words.specs.declared.words.Command.{Command}
-use Rattle.command_words.specs.declared.words.Command.TheVariants.{Check, Fmt, Types, Project, Run, Exec, Replay, Gen}
+use Rattle.command_words.specs.declared.words.Command.TheVariants.{Check, Fmt, Types, Project, Run, Exec, Link, Replay, Order, Conform, Resume, Gen}
 use Rattle.source_check.specs.declared.rules.Rules.{Rules}
 use Rattle.source_check.specs.declared.rules.Rules.TheVariants.{All, Grammar, Views}
-use Rattle.source_check.specs.Source.{IsAccepted, Violates}
+use Rattle.source_check.specs.Source.{Violates}
 use Rattle.source_check.proofs.OneFault as sources
-use Rattle.endpoint_code.specs.declared.endpoints.Endpoints.{Endpoints}
-use Rattle.endpoint_check.specs.Programs.{AreProgramsOf, ViolatesPrograms}
+use Rattle.endpoint_check.specs.Programs.{ViolatesPrograms}
 use Rattle.endpoint_laws.proofs.Verdicts as programs
-use Rattle.chor_cmd.specs.Rows.{row_of}
+use Rattle.chor_cmd.specs.Rows.{IsFine, ArePrograms, row_of}
 use Rattle.chor_cmd.proofs.Musts.{Excludes, IsClear}
 
 module _ (functions : List Function) where
-  sources_exclude : (rules : Rules) (bytes : List ℕ) → Excludes ((f : File) × IsAccepted rules (names_of functions) bytes f) (Violates rules (names_of functions) bytes)
+  sources_exclude : (rules : Rules) (bytes : List ℕ) → Excludes (IsFine functions rules bytes) (Violates rules (names_of functions) bytes)
   sources_exclude rules bytes = record {
     one = λ r q v w. sources.one_refusal rules (names_of functions) bytes r q v w;
     never = λ r f v. sources.never_refused rules (names_of functions) bytes f.0 r f.1 v;
   }
 
-  programs_exclude : (bytes : List ℕ) → Excludes ((e : Endpoints) × AreProgramsOf (names_of functions) bytes e) (ViolatesPrograms (names_of functions) bytes)
+  programs_exclude : (bytes : List ℕ) → Excludes (ArePrograms functions bytes) (ViolatesPrograms (names_of functions) bytes)
   programs_exclude bytes = record {
     one = λ r q v w. programs.one_refusal (names_of functions) bytes r q v w;
     never = λ r e v. programs.never_refused (names_of functions) bytes e.0 r e.1 v;
   }
 
   pub is_clear : (command : Command) → IsClear (row_of functions command)
-  is_clear (Check file) = λ bytes. (sources_exclude All bytes, tt)
-  is_clear (Fmt file) = λ bytes. (sources_exclude Grammar bytes, tt)
-  is_clear (Types file) = λ bytes. (sources_exclude Views bytes, tt)
-  is_clear (Project file) = λ bytes. (sources_exclude All bytes, tt)
-  is_clear (Run file options) = λ bytes. (sources_exclude All bytes, tt)
-  is_clear (Exec file options) = λ bytes. (programs_exclude bytes, tt)
-  is_clear (Replay file events) = λ bytes. (sources_exclude All bytes, λ log. tt)
+  is_clear Check = λ bytes. (sources_exclude All bytes, tt)
+  is_clear Fmt = λ bytes. (sources_exclude Grammar bytes, tt)
+  is_clear Types = λ bytes. (sources_exclude Views bytes, tt)
+  is_clear Project = λ bytes. (sources_exclude All bytes, tt)
+  is_clear (Run options) = λ bytes. (sources_exclude All bytes, tt)
+  is_clear (Exec options) = λ bytes. (programs_exclude bytes, tt)
+  is_clear Replay = λ bytes. (sources_exclude All bytes, λ log. tt)
   is_clear (Gen n whole) = tt
+  is_clear (Link options) = tt
+  is_clear (Order form) = tt
+  is_clear Conform = tt
+  is_clear (Resume options) = tt

@@ -16,17 +16,17 @@ use Rattle.chor_cmd.proofs.SameTexts.{text_alike, text_is_source, text_of_text}
 use Rattle.chor_cmd.proofs.Settles.{same_bytes, grows, by_table}
 
 pub writes_canonical : WritesCanonical
-writes_canonical call settled word name bytes f form told few i =
-    let m = settled (Fmt word) (name ∷ []) form bytes told in
+writes_canonical call settled name bytes f form told few i =
+    let m = settled Fmt (name ∷ []) form bytes told in
     let next = m.1 few in
     grows call (λ s t. (s ≡ Done) × OfSource call.functions Grammar (λ g x. x ≡ canonical_text g) bytes t) (λ s t. (s ≡ Done) × (t ≡ canonical_text f))
     (λ s t p. (p.0, p.1.2 ∙ text_alike bytes p.1.0 f p.1.1.file i)) (next.1 (f, record { file = i; faultless = tt }))
 
 pub keeps_canonical : KeepsCanonical
-keeps_canonical call ended word name bytes f i form told few =
-    grows call (Goes (MayTell call.shelf.files) (name ∷ []) (row_of call.functions (Fmt word))) (λ s t. (s ≡ Done) × (t ≡ canonical_text f)) by_way (by_table call ended (Fmt word) (name ∷ []) form)
+keeps_canonical call ended name bytes f i form told few =
+    grows call (Goes (MayTell call.shelf.files) (name ∷ []) (row_of call.functions Fmt)) (λ s t. (s ≡ Done) × (t ≡ canonical_text f)) by_way (by_table call ended Fmt (name ∷ []) form)
   where
-    by_way : (s : Status) (t : List ℕ) → Goes (MayTell call.shelf.files) (name ∷ []) (row_of call.functions (Fmt word)) s t → (s ≡ Done) × (t ≡ canonical_text f)
+    by_way : (s : Status) (t : List ℕ) → Goes (MayTell call.shelf.files) (name ∷ []) (row_of call.functions Fmt) s t → (s ≡ Done) × (t ≡ canonical_text f)
     by_way s t (b, may, inl (long, is)) = absurd (let same = same_bytes call.shelf.files name b (canonical_text f) may told in omega (arith, ap length same, few, long))
     by_way s t (b, may, inr (less, inl (r, unread v none, is))) =
         absurd (text_is_source bytes f i r.rule r.place (subst (λ (y : List ℕ). IsNoSource y r.rule r.place) (same_bytes call.shelf.files name b (canonical_text f) may told) v))
@@ -35,8 +35,8 @@ keeps_canonical call ended word name bytes f i form told few =
         (is, says ∙ text_of_text bytes f i g (subst (λ (y : List ℕ). IsFileOf y g) (same_bytes call.shelf.files name b (canonical_text f) may told) j.file))
 
 pub executes_these : ExecutesThese
-executes_these call settled word options name bytes e form told few are =
-    let m = settled (Exec word options) (name ∷ []) form bytes told in
+executes_these call settled options name bytes e form told few are =
+    let m = settled (Exec options) (name ∷ []) form bytes told in
     let next = m.1 few in
     grows call (Executes call.functions options bytes) (λ s t. (stuck : Bool) × (s ≡ status_of stuck) × IsAskedTranscript call.functions e options t stuck) by_way (next.1 (e, are))
   where

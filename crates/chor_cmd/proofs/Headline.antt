@@ -24,13 +24,12 @@ use Rattle.projected_programs.specs.Laws.{AreExact, AreProjected, ProjectedTextI
 use Rattle.projected_programs.specs.LawsBy.{ProjectedTextRunsByWorkers}
 use Rattle.chor_cmd.specs.declared.status.Status.{Status}
 use Rattle.chor_cmd.specs.declared.status.Status.TheVariants.{Done}
-use Rattle.chor_cmd.specs.Readings.{events_limit}
 use Rattle.chor_cmd.specs.Status.{status_of}
 use Rattle.chor_cmd.specs.Runs.{IsAskedRun, TranscriptBy}
 use Rattle.chor_cmd.proofs.AskedRuns.{scheduled_asked, closed_asked}
 use Rattle.chor_cmd.specs.Outputs.{IsRunText, IsReplayOf, replayed_line, unmatched_line}
 use Rattle.chor_cmd.specs.Endings.{MayTell, Tells, Goes}
-use Rattle.chor_cmd.specs.Rows.{Row, Reads, Judges, Closes, IsRefused, programs_limit, Executes, executes, Replays, replays, misses, row_of}
+use Rattle.chor_cmd.specs.Rows.{Row, Reads, Judges, Closes, IsRefused, programs_limit, events_limit, Executes, executes, Replays, replays, misses, row_of}
 use Rattle.chor_cmd.specs.Calls.{Call, Must, Comes, HasEnded, IsSettled, ReplaySays, IsBrokenFirst, IsBrokenNext, RunsSource, RunsProjected, AcceptsRuns, RefusesBroken}
 use Rattle.chor_cmd.proofs.Replayed.{one_answer}
 use Rattle.chor_cmd.proofs.Settles.{same_bytes, grows, by_table}
@@ -65,23 +64,23 @@ module _ (functions : List Function) (options : Options) (source : List ℕ) (f 
 
 module _ (call : Call) where
   pub runs_projected : AreExact call.functions → ProjectedTextIsTaken → ProjectedTextRuns → ProjectedTextRunsByWorkers → HasEnded call → RunsProjected call
-  runs_projected exact taken runs runs_by ended = λ word options name source f e accepted projects form told few.
-      grows call (Goes (MayTell call.shelf.files) (name ∷ []) (row_of call.functions (Exec word options))) (λ s t. (s ≡ Done) × IsRunText call.functions f options t)
-      (by_way word options name source f e (record { exact = exact; accepted = accepted; projects = projects }) told few) (by_table call ended (Exec word options) (name ∷ []) form)
+  runs_projected exact taken runs runs_by ended = λ options name source f e accepted projects form told few.
+      grows call (Goes (MayTell call.shelf.files) (name ∷ []) (row_of call.functions (Exec options))) (λ s t. (s ≡ Done) × IsRunText call.functions f options t)
+      (by_way options name source f e (record { exact = exact; accepted = accepted; projects = projects }) told few) (by_table call ended (Exec options) (name ∷ []) form)
     where
-      by_way : (word : ℕ) (options : Options) (name source : List ℕ) (f : File) (e : Endpoints) → AreProjected call.functions source f e → Tells call.shelf.files name (endpoints_text e) → length (endpoints_text e) ≤ programs_limit
-          → (s : Status) (t : List ℕ) → Goes (MayTell call.shelf.files) (name ∷ []) (row_of call.functions (Exec word options)) s t → (s ≡ Done) × IsRunText call.functions f options t
-      by_way word options name source f e p told few s t (b, may, inl (long, is)) =
+      by_way : (options : Options) (name source : List ℕ) (f : File) (e : Endpoints) → AreProjected call.functions source f e → Tells call.shelf.files name (endpoints_text e) → length (endpoints_text e) ≤ programs_limit
+          → (s : Status) (t : List ℕ) → Goes (MayTell call.shelf.files) (name ∷ []) (row_of call.functions (Exec options)) s t → (s ≡ Done) × IsRunText call.functions f options t
+      by_way options name source f e p told few s t (b, may, inl (long, is)) =
           absurd (let same = same_bytes call.shelf.files name b (endpoints_text e) may told in omega (arith, ap length same, few, long))
-      by_way word options name source f e p told few s t (b, may, inr (less, inl (r, v, is))) =
+      by_way options name source f e p told few s t (b, may, inr (less, inl (r, v, is))) =
           absurd (taken call.functions source f e p r (subst (λ (y : List ℕ). ViolatesPrograms (names_of call.functions) y r) (same_bytes call.shelf.files name b (endpoints_text e) may told) v))
-      by_way word options name source f e p told few s t (b, may, inr (less, inr (fine, x))) =
+      by_way options name source f e p told few s t (b, may, inr (less, inr (fine, x))) =
           as_run call.functions options source f e p runs runs_by b (same_bytes call.shelf.files name b (endpoints_text e) may told) s t x
 
   module _ (settled : IsSettled call) where
     pub runs_source : RunsSource call
-    runs_source = λ word options name bytes f form told few accepted.
-        let m = settled (Run word options) (name ∷ []) form bytes told in
+    runs_source = λ options name bytes f form told few accepted.
+        let m = settled (Run options) (name ∷ []) form bytes told in
         let next = m.1 few in
         next.1 (f, accepted)
 
@@ -101,8 +100,8 @@ module _ (call : Call) where
     as_answer bytes log (Err NoMemory) few told s t x = tt
 
     pub accepts_runs : AcceptsRuns call
-    accepts_runs = λ file events name log_name bytes log answer form told few told_log few_log is.
-        let m = settled (Replay file events) (name ∷ log_name ∷ []) form bytes told in
+    accepts_runs = λ name log_name bytes log answer form told few told_log few_log is.
+        let m = settled Replay (name ∷ log_name ∷ []) form bytes told in
         let judged = m.1 few in
         let n = judged.1 (is.file, is.accepted) log told_log in
         grows call (Replays call.functions bytes log) (ReplaySays answer) (as_answer bytes log answer few_log is) (n.1 few_log)

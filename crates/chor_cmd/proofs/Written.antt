@@ -1,13 +1,13 @@
 -- What a call has written when it ends.
-use Rattle.std.proofs.Common.{ℕ, List, Option, Some, None, sym, ap, ◌∙◌, subst}
-use Rattle.chor_host.specs.Functions.{Function}
-use Rattle.chor_io.specs.Outside.{PutTells, Risen, ShelfState, SinkState, Wrote, WroteFront}
+use Rattle.std.proofs.Common.{ℕ, List, Option, Some, None, refl, sym, ap, ◌∙◌, subst}
+use Rattle.std.specs.Prelude.{IsTrue}
+use Rattle.chor_io.specs.Outside.{PutTells, Risen, SinkState, Wrote, WroteFront}
 use Rattle.chor_io.specs.declared.outside.Put.TheVariants as put
-use Rattle.command_words.specs.declared.words.Words.{Words}
 use Rattle.chor_cmd.specs.declared.status.Status.{Status}
 use Rattle.chor_cmd.specs.declared.status.Status.TheVariants.{Done, Refused, Usage, ReadFault, WriteFault, Memory, Unmatched, Stuck, TooLarge}
-use Rattle.chor_cmd.proofs.Spoken.{ends_spoken}
-use Rattle.chor_cmd.specs.Endings.{Ends, HasEnded}
+use Rattle.chor_cmd.specs.Endings.{HasWritten}
+use Rattle.chor_cmd.specs.Rows.{Exactly}
+use Rattle.chor_cmd.specs.Status.{has_text}
 
 wrote : (old new : Option (List ℕ)) (text : List ℕ) → PutTells old new text put.All → Wrote old new text
 wrote None new text h = tt
@@ -17,19 +17,32 @@ wrote_front : (old new : Option (List ℕ)) (text : List ℕ) → PutTells old n
 wrote_front None new text h = tt
 wrote_front (Some old) new text h = subst (λ (n : Option (List ℕ)). WroteFront (Some old) n text) (sym h.1) h.2
 
-module _ (functions : List Function) (words : Words) (shelf shelf' : ShelfState) (sink sink' : SinkState) where
+module _ (sink sink' : SinkState) where
   -- the whole text was written
-  pub wrote_all : (status : Status) (text : List ℕ) → Ends functions words shelf shelf' status text → PutTells sink.written sink'.written text put.All → HasEnded functions words shelf shelf' sink sink' status
-  wrote_all Done text e h = (text, e, wrote sink.written sink'.written text h)
-  wrote_all Refused text e h = (text, e, wrote sink.written sink'.written text h)
-  wrote_all Usage text e h = (text, e, wrote sink.written sink'.written text h)
-  wrote_all ReadFault text e h = (text, e, wrote sink.written sink'.written text h)
-  wrote_all Unmatched text e h = (text, e, wrote sink.written sink'.written text h)
-  wrote_all Stuck text e h = (text, e, wrote sink.written sink'.written text h)
-  wrote_all TooLarge text e h = (text, e, wrote sink.written sink'.written text h)
-  wrote_all WriteFault text e h = absurd (ends_spoken functions words shelf shelf' WriteFault text e)
-  wrote_all Memory text e h = absurd (ends_spoken functions words shelf shelf' Memory text e)
+  pub wrote_all : (status : Status) (text : List ℕ) → IsTrue (has_text status) → PutTells sink.written sink'.written text put.All → HasWritten (Exactly status text) ⊥ sink sink' status
+  wrote_all Done text has h = (text, (refl, refl), wrote sink.written sink'.written text h)
+  wrote_all Refused text has h = (text, (refl, refl), wrote sink.written sink'.written text h)
+  wrote_all Usage text has h = (text, (refl, refl), wrote sink.written sink'.written text h)
+  wrote_all ReadFault text has h = (text, (refl, refl), wrote sink.written sink'.written text h)
+  wrote_all Unmatched text has h = (text, (refl, refl), wrote sink.written sink'.written text h)
+  wrote_all Stuck text has h = (text, (refl, refl), wrote sink.written sink'.written text h)
+  wrote_all TooLarge text has h = (text, (refl, refl), wrote sink.written sink'.written text h)
+  wrote_all WriteFault text has h = absurd cc
+  wrote_all Memory text has h = absurd cc
 
   -- the write failed after a front of it
-  pub wrote_some : (status : Status) (text : List ℕ) → Ends functions words shelf shelf' status text → PutTells sink.written sink'.written text put.Failed → Risen sink.faults sink'.faults → HasEnded functions words shelf shelf' sink sink' WriteFault
-  wrote_some status text e h r = (r, (status, text, e, wrote_front sink.written sink'.written text h))
+  pub wrote_some : (status : Status) (text : List ℕ) → PutTells sink.written sink'.written text put.Failed → Risen sink.faults sink'.faults → HasWritten (Exactly status text) ⊥ sink sink' WriteFault
+  wrote_some status text h r = (r, (status, text, (refl, refl), wrote_front sink.written sink'.written text h))
+
+  -- what may be said more weakly
+  module _ (P Q : Status → List ℕ → Type 0) (M N : Type 0) (so : (s : Status) (t : List ℕ) → P s t → Q s t) (out : M → N) where
+    pub written_so : (status : Status) → HasWritten P M sink sink' status → HasWritten Q N sink sink' status
+    written_so Done h = (h.0, so Done h.0 h.1, h.2)
+    written_so Refused h = (h.0, so Refused h.0 h.1, h.2)
+    written_so Usage h = (h.0, so Usage h.0 h.1, h.2)
+    written_so ReadFault h = (h.0, so ReadFault h.0 h.1, h.2)
+    written_so Unmatched h = (h.0, so Unmatched h.0 h.1, h.2)
+    written_so Stuck h = (h.0, so Stuck h.0 h.1, h.2)
+    written_so TooLarge h = (h.0, so TooLarge h.0 h.1, h.2)
+    written_so WriteFault h = (h.0, (h.1.0, h.1.1, so h.1.0 h.1.1 h.1.2, h.1.3))
+    written_so Memory h = (out h.0, h.1)

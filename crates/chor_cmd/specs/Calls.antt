@@ -1,7 +1,10 @@
 -- How a call of the program ends, by the table of its commands (this project's own).
-use Rattle.std.specs.Prelude.{ℕ, ◌≡◌, ◌<◌, ◌≤◌, List, [], ◌∷◌, length, Result, Ok, Err}
+use Rattle.std.specs.Prelude.{ℕ, ℤ, ◌≡◌, ◌<◌, ◌≤◌, List, [], ◌∷◌, length, Result, Ok, Err}
+use denote.Param.Members.{Mut}
 use Rattle.chor_base.specs.declared.rule.Refusal.{Refusal}
+use Rattle.chor_host.specs.declared.table.HostTable.{HostTable}
 use Rattle.chor_host.specs.Functions.{Function, names_of}
+use Rattle.chor_host.specs.Tables.{functions_of}
 use Rattle.chor_io.specs.Outside.{Risen, ShelfState, SinkState, Wrote}
 use Rattle.chor_tree.specs.declared.file.File.{File}
 use Rattle.replay.specs.declared.answer.Replayed.{Replayed}
@@ -22,8 +25,7 @@ use Rattle.chor_cmd.specs.declared.status.Status.TheVariants.{Done, Usage, ReadF
 use Rattle.chor_cmd.specs.Outputs.{IsRunText, IsReplayOf, usage_line, replayed_line, unmatched_line}
 use Rattle.chor_cmd.specs.Endings.{Tells, FetchesOnly, IsTooLarge}
 use Rattle.chor_cmd.specs.Endings.{Ends as MayEndSo, HasEnded as HasEndedSo}
-use Rattle.chor_cmd.specs.Rows.{Row, Reads, Judges, Closes, Exactly, IsRefused, OfSource, source_limit, programs_limit, row_of}
-use Rattle.chor_cmd.specs.Readings.{events_limit}
+use Rattle.chor_cmd.specs.Rows.{Row, Reads, Judges, Closes, Exactly, IsRefused, OfSource, source_limit, programs_limit, events_limit, row_of}
 
 -- a call: the host functions that are there, its words, the shelf and the sink before and after it, and the status with which it ends
 pub record Call : Type 0 where
@@ -110,20 +112,20 @@ module _ (call : Call) where
   -- `run`, for a source that is told and violates no rule: the transcript of a run of its choreography
   abbrev pub RunsSource : Type 0
   RunsSource =
-      (word : ℕ) (options : Options) (name bytes : List ℕ) (f : File) → IsForm call.words (Run word options) (name ∷ []) → Tells call.shelf.files name bytes → length bytes ≤ source_limit
+      (options : Options) (name bytes : List ℕ) (f : File) → IsForm call.words (Run options) (name ∷ []) → Tells call.shelf.files name bytes → length bytes ≤ source_limit
       → IsAccepted All (names_of call.functions) bytes f → Comes (λ status text. (status ≡ Done) × OfSource call.functions All (λ g. IsRunText call.functions g options) bytes text)
 
   -- `exec`, for the text of the projection of a source that violates no rule, which `project` writes: what `run` writes for that source
   abbrev pub RunsProjected : Type 0
   RunsProjected =
-      (word : ℕ) (options : Options) (name source : List ℕ) (f : File) (e : Endpoints) → IsAccepted All (names_of call.functions) source f → Projects f e
-      → IsForm call.words (Exec word options) (name ∷ []) → Tells call.shelf.files name (endpoints_text e) → length (endpoints_text e) ≤ programs_limit
+      (options : Options) (name source : List ℕ) (f : File) (e : Endpoints) → IsAccepted All (names_of call.functions) source f → Projects f e
+      → IsForm call.words (Exec options) (name ∷ []) → Tells call.shelf.files name (endpoints_text e) → length (endpoints_text e) ≤ programs_limit
       → Comes (λ status text. (status ≡ Done) × IsRunText call.functions f options text)
 
   -- `replay`, for a source and an events file that are told: whatever a replay of these events in the choreography of that source answers
   abbrev pub AcceptsRuns : Type 0
   AcceptsRuns =
-      (file events : ℕ) (name log_name bytes log : List ℕ) (answer : Result Replayed ReplayFault) → IsForm call.words (Replay file events) (name ∷ log_name ∷ [])
+      (name log_name bytes log : List ℕ) (answer : Result Replayed ReplayFault) → IsForm call.words Replay (name ∷ log_name ∷ [])
       → Tells call.shelf.files name bytes → length bytes ≤ source_limit → Tells call.shelf.files log_name log → length log ≤ events_limit
       → IsReplayOf call.functions bytes log answer → Comes (ReplaySays answer)
 
@@ -133,10 +135,10 @@ module _ (call : Call) where
       (command : Command) (name : List ℕ) (names : List (List ℕ)) (bytes : List ℕ) (r : Refusal) → IsForm call.words command (name ∷ names) → Tells call.shelf.files name bytes
       → IsBrokenFirst (row_of call.functions command) bytes r → Comes (IsRefused r)
 
--- the call with these
-abbrev pub call_of : List Function → Words → ShelfState → ShelfState → SinkState → SinkState → Status → Call
-call_of functions words shelf shelf' sink sink' status = record {
-  functions = functions;
+-- a call with this table of host functions
+abbrev pub call_of : {X : Type 0} {g : Mut X (ℤ × (ℤ × Unit {0})) ℤ} → HostTable X g → Words → ShelfState → ShelfState → SinkState → SinkState → Status → Call
+call_of hosts words shelf shelf' sink sink' status = record {
+  functions = functions_of hosts;
   words = words;
   shelf = shelf;
   shelf' = shelf';

@@ -1,8 +1,7 @@
 -- How a call of the program ends, and with which text (this project's own).
-use Rattle.std.specs.Prelude.{ℕ, ℤ, ◌≡◌, ◌<◌, ◌≤◌, ◌⊎◌, List, [], ◌∷◌, ◌++◌, length, Option, Some, None}
+use Rattle.std.specs.Prelude.{ℕ, ℤ, ◌≡◌, ◌<◌, ◌≤◌, ◌⊎◌, List, [], ◌∷◌, length, Option, Some, None}
 use denote.Param.Members.{Mut}
 use Rattle.chor_base.specs.declared.rule.Refusal.{Refusal}
-use Rattle.chor_tree.specs.declared.file.File.{File}
 use Rattle.chor_host.specs.declared.table.HostTable.{HostTable}
 use Rattle.chor_host.specs.Functions.{Function, names_of}
 use Rattle.chor_host.specs.Tables.{functions_of}
@@ -12,9 +11,6 @@ use Rattle.chor_cmd.specs.declared.status.Status.{Status}
 use Rattle.chor_cmd.specs.declared.status.Status.TheVariants.{Usage, ReadFault, WriteFault, Memory, TooLarge}
 use Rattle.command_words.specs.declared.words.Command.{Command}
 use Rattle.command_words.specs.Words.{IsForm, HasForm, NamesFile, HasNoForm}
-use Rattle.chor_cmd.specs.Readings.{limits_of}
-use Rattle.source_check.specs.declared.rules.Rules.TheVariants.{All}
-use Rattle.source_check.specs.Source.{IsAccepted}
 use Rattle.chor_cmd.specs.Rows.{Row, Reads, Judges, Closes, Exactly, IsRefused, row_of}
 use Rattle.chor_cmd.specs.Outputs.{usage_line, read_fault_line, too_large_line}
 
@@ -37,35 +33,6 @@ Tells (Some files) name bytes = files name ≡ Some bytes
 abbrev pub MayTell : Told → List ℕ → List ℕ → Type 0
 MayTell None name bytes = Unit {0}
 MayTell (Some files) name bytes = files name ≡ Some bytes
-
--- The first of the files with these names have these contents, as far as is said of a name and bytes, and none is longer than its limit
-abbrev pub Hold : (List ℕ → List ℕ → Type 0) → List (List ℕ) → List ℕ → List (List ℕ) → Type 0
-Hold Has names limits [] = Unit {0}
-Hold Has (name ∷ names) (limit ∷ limits) (bytes ∷ more) = Has name bytes × (length bytes ≤ limit) × Hold Has names limits more
-Hold Has _ _ (bytes ∷ more) = ⊥
-
--- The first have these contents, and the next one has this name and is longer than its limit
-abbrev pub Exceeds : (List ℕ → List ℕ → Type 0) → List (List ℕ) → List ℕ → List (List ℕ) → List ℕ → Type 0
-Exceeds Has (file ∷ names) (limit ∷ limits) [] name = (file ≡ name) × ((bytes : List ℕ) × Has file bytes × (limit < length bytes))
-Exceeds Has (file ∷ names) (limit ∷ limits) (bytes ∷ more) name = Has file bytes × (length bytes ≤ limit) × Exceeds Has names limits more name
-Exceeds Has _ _ _ name = ⊥
-
--- the words ask for this command, and its files may have these contents, as far as they go
-pub record MayAsk (words : Words) (shelf : ShelfState) (command : Command) (contents : List (List ℕ)) : Type 0 where
-  pub names : List (List ℕ)
-  pub form : IsForm words command names
-  pub hold : Hold (MayTell shelf.files) names (limits_of command) contents
-
--- the file of this name, which follows these contents, may be too long
-pub record MayExceed (words : Words) (shelf : ShelfState) (command : Command) (contents : List (List ℕ)) (name : List ℕ) : Type 0 where
-  pub names : List (List ℕ)
-  pub form : IsForm words command names
-  pub exceeds : Exceeds (MayTell shelf.files) names (limits_of command) contents name
-
--- a command reads its next file only after a source that violates no rule
-abbrev pub AreFine : List Function → List (List ℕ) → Type 0
-AreFine functions [] = Unit {0}
-AreFine functions (bytes ∷ more) = (f : File) × IsAccepted All (names_of functions) bytes f
 
 -- no fetch has failed but those of the files that the words name
 abbrev pub FetchesOnly : Words → ShelfState → ShelfState → Type 0
@@ -96,29 +63,12 @@ pub data Ends (functions : List Function) (words : Words) (shelf shelf' : ShelfS
   goes : {status : Status} {text : List ℕ} (command : Command) (names : List (List ℕ)) → IsForm words command names
       → Goes (MayTell shelf.files) names (row_of functions command) status text → Ends functions words shelf shelf' status text
 
--- A call has ended so: by a failing write after a front of a text, for want of memory, or with the whole text
+-- A call that may end so has ended: by a failing write after a front of its text, with its whole text, or out of memory with nothing written, where this holds
+abbrev pub HasWritten : (Status → List ℕ → Type 0) → Type 0 → SinkState → SinkState → Status → Type 0
+HasWritten Says OutOfMemory sink sink' WriteFault = Risen sink.faults sink'.faults × ((status : Status) × (text : List ℕ) × Says status text × WroteFront sink.written sink'.written text)
+HasWritten Says OutOfMemory sink sink' Memory = OutOfMemory × (sink'.written ≡ sink.written)
+HasWritten Says OutOfMemory sink sink' status = (text : List ℕ) × Says status text × Wrote sink.written sink'.written text
+
+-- A call has ended so; out of memory only where the words are of a form
 abbrev pub HasEnded : List Function → Words → ShelfState → ShelfState → SinkState → SinkState → Status → Type 0
-HasEnded functions words shelf shelf' sink sink' WriteFault =
-    Risen sink.faults sink'.faults × ((status : Status) × (text : List ℕ) × Ends functions words shelf shelf' status text × WroteFront sink.written sink'.written text)
-HasEnded functions words shelf shelf' sink sink' Memory = HasForm words × (sink'.written ≡ sink.written)
-HasEnded functions words shelf shelf' sink sink' status = (text : List ℕ) × Ends functions words shelf shelf' status text × Wrote sink.written sink'.written text
-
--- Each call of which this is said, with its host functions, its words, and the shelf before and after it, has ended so
-abbrev pub EachEnds : (List Function → Words → ShelfState → ShelfState → Type 0) → SinkState → SinkState → Status → Type 0
-EachEnds Said sink sink' status =
-    (functions : List Function) (words : Words) (shelf shelf' : ShelfState) → Said functions words shelf shelf' → HasEnded functions words shelf shelf' sink sink' status
-
--- the same of calls with words of a form
-abbrev pub EachFormEnds : (List Function → Words → ShelfState → ShelfState → Type 0) → SinkState → SinkState → Status → Type 0
-EachFormEnds Said sink sink' status =
-    (functions : List Function) (words : Words) (shelf shelf' : ShelfState) → HasForm words → Said functions words shelf shelf'
-    → HasEnded functions words shelf shelf' sink sink' status
-
--- the same of calls with these host functions
-abbrev pub EachEndsWith : List Function → (Words → ShelfState → ShelfState → Type 0) → SinkState → SinkState → Status → Type 0
-EachEndsWith functions Said sink sink' status =
-    (words : Words) (shelf shelf' : ShelfState) → Said words shelf shelf' → HasEnded functions words shelf shelf' sink sink' status
-
--- the same of calls with words of this form, with this shelf before and after them
-abbrev pub FormEnds : List Function → Command → List (List ℕ) → ShelfState → ShelfState → SinkState → SinkState → Status → Type 0
-FormEnds functions command names shelf shelf' sink sink' status = (words : Words) → IsForm words command names → HasEnded functions words shelf shelf' sink sink' status
+HasEnded functions words shelf shelf' sink sink' status = HasWritten (Ends functions words shelf shelf') (HasForm words) sink sink' status

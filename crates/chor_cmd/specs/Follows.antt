@@ -19,18 +19,18 @@ use Rattle.chor_cmd.specs.Calls.{Call, HasEnded, IsSettled, Comes}
 -- `fmt`, for a source that is told: its canonical text, whichever file of these bytes is read
 abbrev pub WritesCanonical : Type 0
 WritesCanonical =
-    (call : Call) → IsSettled call → (word : ℕ) (name bytes : List ℕ) (f : File) → IsForm call.words (Fmt word) (name ∷ []) → Tells call.shelf.files name bytes → length bytes ≤ source_limit → IsFileOf bytes f
+    (call : Call) → IsSettled call → (name bytes : List ℕ) (f : File) → IsForm call.words Fmt (name ∷ []) → Tells call.shelf.files name bytes → length bytes ≤ source_limit → IsFileOf bytes f
     → Comes call (λ status text. (status ≡ Done) × (text ≡ canonical_text f))
 
 -- `fmt`, for the canonical text of a file that was read: the same text again
 abbrev pub KeepsCanonical : Type 0
 KeepsCanonical =
-    (call : Call) → HasEnded call → (word : ℕ) (name bytes : List ℕ) (f : File) → IsFileOf bytes f → IsForm call.words (Fmt word) (name ∷ []) → Tells call.shelf.files name (canonical_text f) → length (canonical_text f) ≤ source_limit
+    (call : Call) → HasEnded call → (name bytes : List ℕ) (f : File) → IsFileOf bytes f → IsForm call.words Fmt (name ∷ []) → Tells call.shelf.files name (canonical_text f) → length (canonical_text f) ≤ source_limit
     → Comes call (λ status text. (status ≡ Done) × (text ≡ canonical_text f))
 
 -- `exec`, for bytes that are told and are the text of these endpoint programs: the transcript of a run of them, as the options ask for it, which is stuck or not
 abbrev pub ExecutesThese : Type 0
 ExecutesThese =
-    (call : Call) → IsSettled call → (word : ℕ) (options : Options) (name bytes : List ℕ) (e : Endpoints) → IsForm call.words (Exec word options) (name ∷ []) → Tells call.shelf.files name bytes → length bytes ≤ programs_limit
+    (call : Call) → IsSettled call → (options : Options) (name bytes : List ℕ) (e : Endpoints) → IsForm call.words (Exec options) (name ∷ []) → Tells call.shelf.files name bytes → length bytes ≤ programs_limit
     → AreProgramsOf (names_of call.functions) bytes e
     → Comes call (λ status text. (stuck : Bool) × (status ≡ status_of stuck) × IsAskedTranscript call.functions e options text stuck)

@@ -1,9 +1,8 @@
-pub mod Readings
 pub mod Status
 pub mod Runs
 pub mod Outputs
 pub mod Rows
 pub mod Endings
-pub mod Fetches
+pub mod Stops
 pub mod Calls
 pub mod Follows

@@ -1,9 +1,7 @@
 -- What the commands write for a file, and the lines that say what is wrong (this project's own).
-use Rattle.std.specs.Prelude.{ℕ, ◌≡◌, Bool, true, false, List, [], ◌∷◌, ◌++◌, length, Option, Some, None, Result, Ok, codes}
+use Rattle.std.specs.Prelude.{ℕ, ◌≡◌, Bool, true, false, List, [], ◌∷◌, ◌++◌, length, Option, Some, None, Result, codes}
 use Rattle.std.specs.Fmt.{decimal}
 use Rattle.chor_base.specs.declared.rule.Refusal.{Refusal}
-use Rattle.chor_base.specs.declared.rule.Denied.{Denied}
-use Rattle.chor_base.specs.declared.rule.Denied.TheVariants.{Refused, Memory}
 use Rattle.chor_base.specs.Writing.{rule_name}
 use Rattle.chor_base.specs.declared.event.Event.{Event}
 use Rattle.chor_tree.specs.declared.file.File.{File}
@@ -11,24 +9,18 @@ use Rattle.endpoint_code.specs.declared.endpoints.Endpoints.{Endpoints}
 use Rattle.projection.specs.Projects.{Projects}
 use Rattle.endpoint_text.specs.Text.{endpoints_text}
 use Rattle.transcript.specs.Text.{transcript}
-use Rattle.chor_print.specs.Text.{canonical_text}
-use Rattle.command_words.specs.declared.words.Command.{Command}
-use Rattle.command_words.specs.declared.words.Command.TheVariants.{Check, Fmt, Types, Project, Run, Exec, Replay, Gen}
 use Rattle.command_words.specs.declared.options.Options.{Options}
-use Rattle.chor_cmd.specs.Readings.{Reading, Source, Programs, Nothing, reading_of}
 use Rattle.chor_host.specs.Functions.{Function, names_of, hosts_in}
 use Rattle.simulation.specs.Runs.{close_of}
-use Rattle.source_check.specs.Classes.{classes_of, IsFaultless}
 use Rattle.source_check.specs.declared.rules.Rules.TheVariants.{All}
-use Rattle.source_check.specs.Source.{IsFileOf, IsAccepted, IsBroken, Violates}
+use Rattle.source_check.specs.Source.{IsAccepted}
 use Rattle.replay.specs.declared.answer.Replayed.{Replayed}
 use Rattle.replay.specs.declared.answer.ReplayFault.{ReplayFault}
 use Rattle.program_runs.specs.Books.{book_of}
 use Rattle.accepted_replays.specs.Sources.{ReplaysSource}
 use Rattle.generated_runs.specs.Texts.{IsGeneratedText, IsSummary}
-use Rattle.endpoint_check.specs.Programs.{AreProgramsOf, ViolatesPrograms}
+use Rattle.endpoint_check.specs.Programs.{AreProgramsOf}
 use Rattle.chor_cmd.specs.Runs.{IsAskedRun, IsAskedTranscript}
-use Rattle.local_types.specs.Texts.{IsTypesText}
 
 -- ---- the texts
 
@@ -60,42 +52,6 @@ pub record IsProjectionText (f : File) (text : List ℕ) : Type 0 where
   pub endpoints : Endpoints
   pub projects : Projects f endpoints
   pub text_is : text ≡ endpoints_text endpoints
-
--- what a command writes for a file, where these host functions are there
-abbrev pub IsOutput : List Function → Command → File → List ℕ → Type 0
-IsOutput functions (Check word) f text = text ≡ codes "ok\n"
-IsOutput functions (Fmt word) f text = text ≡ canonical_text f
-IsOutput functions (Types word) f text = IsTypesText f text
-IsOutput functions (Project word) f text = IsProjectionText f text
-IsOutput functions (Run word options) f text = IsRunText functions f options text
-IsOutput functions (Exec word options) f text = ⊥
-IsOutput functions (Replay file events) f text = ⊥
-IsOutput functions (Gen n whole) f text = ⊥
-
--- ---- judging
-
--- a file without fault of the rules by which it is judged
-abbrev pub IsFine : Reading → List (List ℕ) → File → Type 0
-IsFine (Source rules) words f = IsFaultless words f (classes_of rules)
-IsFine Programs words f = ⊥
-IsFine Nothing words f = ⊥
-
--- a file with a fault of them
-abbrev pub IsFlawed : Reading → List (List ℕ) → File → Denied → Type 0
-IsFlawed (Source rules) words f d = IsBroken (classes_of rules) words f d
-IsFlawed Programs words f d = ⊥
-IsFlawed Nothing words f d = ⊥
-
--- the refusal tells which of the rules the bytes violate, and where
-abbrev pub Violated : Reading → List (List ℕ) → List ℕ → Refusal → Type 0
-Violated (Source rules) words bytes r = Violates rules words bytes r
-Violated Programs words bytes r = ViolatesPrograms words bytes r
-Violated Nothing words bytes r = ⊥
-
--- the bytes are refused so; want of memory tells nothing
-abbrev pub IsDenied : Reading → List (List ℕ) → List ℕ → Denied → Type 0
-IsDenied reading words bytes (Refused r) = Violated reading words bytes r
-IsDenied reading words bytes Memory = Unit {0}
 
 -- ---- the lines
 
@@ -135,11 +91,6 @@ unmatched_line i = codes "unmatched " ++ decimal i ++ 10 ∷ []
 
 -- ---- answers
 
--- the file violates no rule that the command applies, and this is what the command writes for it
-pub record IsAnswer (functions : List Function) (command : Command) (f : File) (text : List ℕ) : Type 0 where
-  pub faultless : IsFine (reading_of command) (names_of functions) f
-  pub output : IsOutput functions command f text
-
 -- the bytes are the text of endpoint programs without fault, and the text is the transcript of a run of them, as the options ask
 -- for it, which is stuck or not
 pub record IsExecution (functions : List Function) (options : Options) (bytes text : List ℕ) (stuck : Bool) : Type 0 where
@@ -157,11 +108,3 @@ pub record IsReplayOf (functions : List Function) (bytes events : List ℕ) (ans
 abbrev pub IsGenerated : List Function → ℕ → Bool → List ℕ → Type 0
 IsGenerated functions n true text = IsGeneratedText n text
 IsGenerated functions n false text = IsSummary functions n text
-
--- What a command writes for files with these contents: for the source that they are, for a run of endpoint programs that isn't stuck,
--- for a source and an events file each line of which matches, or for no file
-pub data Answers (functions : List Function) (command : Command) (contents : List (List ℕ)) (text : List ℕ) : Type 0 where
-  of_source : (bytes : List ℕ) (file : File) → contents ≡ bytes ∷ [] → IsFileOf bytes file → IsAnswer functions command file text → Answers functions command contents text
-  of_programs : (bytes : List ℕ) (word : ℕ) (options : Options) → contents ≡ bytes ∷ [] → command ≡ Exec word options → IsExecution functions options bytes text false → Answers functions command contents text
-  of_replay : (bytes events : List ℕ) (i j : ℕ) (r : Replayed) → contents ≡ bytes ∷ events ∷ [] → command ≡ Replay i j → IsReplayOf functions bytes events (Ok r) → text ≡ replayed_line r → Answers functions command contents text
-  of_number : (n : ℕ) (whole : Bool) → contents ≡ [] → command ≡ Gen n whole → IsGenerated functions n whole text → Answers functions command contents text

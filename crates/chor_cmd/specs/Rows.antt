@@ -8,7 +8,7 @@ use Rattle.local_types.specs.Texts.{IsTypesText}
 use Rattle.replay.specs.declared.answer.Replayed.{Replayed}
 use Rattle.replay.specs.declared.answer.ReplayFault.TheVariants.{Unmatched as unlike}
 use Rattle.command_words.specs.declared.words.Command.{Command}
-use Rattle.command_words.specs.declared.words.Command.TheVariants.{Check, Fmt, Types, Project, Run, Exec, Replay, Gen}
+use Rattle.command_words.specs.declared.words.Command.TheVariants.{Check, Fmt, Types, Project, Run, Exec, Link, Replay, Order, Conform, Resume, Gen}
 use Rattle.command_words.specs.declared.options.Options.{Options}
 use Rattle.source_check.specs.declared.rules.Rules.{Rules}
 use Rattle.source_check.specs.declared.rules.Rules.TheVariants.{All, Grammar, Views}
@@ -16,10 +16,9 @@ use Rattle.source_check.specs.Source.{IsAccepted, Violates}
 use Rattle.endpoint_code.specs.declared.endpoints.Endpoints.{Endpoints}
 use Rattle.endpoint_check.specs.Programs.{AreProgramsOf, ViolatesPrograms}
 use Rattle.chor_cmd.specs.declared.status.Status.{Status}
-use Rattle.chor_cmd.specs.declared.status.Status.TheVariants.{Done, Refused, Unmatched}
+use Rattle.chor_cmd.specs.declared.status.Status.TheVariants.{Done, Refused, Usage, Unmatched}
 use Rattle.chor_cmd.specs.Status.{status_of}
-use Rattle.chor_cmd.specs.Readings.{events_limit}
-use Rattle.chor_cmd.specs.Outputs.{IsProjectionText, IsRunText, IsExecution, IsReplayOf, IsGenerated, refused_line, replayed_line, unmatched_line}
+use Rattle.chor_cmd.specs.Outputs.{IsProjectionText, IsRunText, IsExecution, IsReplayOf, IsGenerated, usage_line, refused_line, replayed_line, unmatched_line}
 
 -- ---- rows
 
@@ -42,29 +41,58 @@ IsRefused r = Exactly Refused (refused_line r)
 abbrev pub Writes : (List ℕ → Type 0) → Row
 Writes Says = Closes (λ status text. (status ≡ Done) × Says text)
 
--- how many bytes a source has at most, and how many endpoint programs
+-- how many bytes a source has at most: 1 MiB
 abbrev pub source_limit : ℕ
 source_limit = 1048576
 
+-- endpoint programs: 16 MiB
 abbrev pub programs_limit : ℕ
 programs_limit = 16777216
 
+-- an events file: 64 MiB
+abbrev pub events_limit : ℕ
+events_limit = 67108864
+
+-- an events file is read, of which this is said
+abbrev pub after_events : (List ℕ → Status → List ℕ → Type 0) → Row
+after_events Says = Reads events_limit (λ log. Closes (Says log))
+
+-- a command that isn't there yet
+abbrev pub not_yet : Row
+not_yet = Closes (Exactly Usage usage_line)
+
 module _ (functions : List Function) where
+  -- the bytes are the text of a source that violates none of these rules
+  abbrev pub IsFine : Rules → List ℕ → Type 0
+  IsFine rules bytes = (f : File) × IsAccepted rules (names_of functions) bytes f
+
+  -- the bytes are the text of endpoint programs without a fault
+  abbrev pub ArePrograms : List ℕ → Type 0
+  ArePrograms bytes = (e : Endpoints) × AreProgramsOf (names_of functions) bytes e
+
   -- the bytes are a source, which is judged by these rules
   abbrev pub judged : Rules → List ℕ → Row → Row
-  judged rules bytes next = Judges ((f : File) × IsAccepted rules (names_of functions) bytes f) (Violates rules (names_of functions) bytes) next
+  judged rules bytes next = Judges (IsFine rules bytes) (Violates rules (names_of functions) bytes) next
 
   -- the bytes are endpoint programs
   abbrev pub judged_programs : List ℕ → Row → Row
-  judged_programs bytes next = Judges ((e : Endpoints) × AreProgramsOf (names_of functions) bytes e) (ViolatesPrograms (names_of functions) bytes) next
+  judged_programs bytes next = Judges (ArePrograms bytes) (ViolatesPrograms (names_of functions) bytes) next
 
   -- what is written for a source that violates none of these rules
   abbrev pub OfSource : Rules → (File → List ℕ → Type 0) → List ℕ → List ℕ → Type 0
   OfSource rules Says bytes text = (f : File) × IsAccepted rules (names_of functions) bytes f × Says f text
 
+  -- a command that reads a source first
+  abbrev pub after_source : Rules → (List ℕ → Row) → Row
+  after_source rules next = Reads source_limit (λ bytes. judged rules bytes (next bytes))
+
+  -- a command that reads endpoint programs first
+  abbrev pub after_programs : (List ℕ → Row) → Row
+  after_programs next = Reads programs_limit (λ bytes. judged_programs bytes (next bytes))
+
   -- a command on one source
   abbrev pub on_source : Rules → (File → List ℕ → Type 0) → Row
-  on_source rules Says = Reads source_limit (λ bytes. judged rules bytes (Writes (OfSource rules Says bytes)))
+  on_source rules Says = after_source rules (λ bytes. Writes (OfSource rules Says bytes))
 
   -- a run of endpoint programs is done, or is stuck
   pub data Executes (options : Options) (bytes : List ℕ) : Status → List ℕ → Type 0 where
@@ -77,11 +105,15 @@ module _ (functions : List Function) where
 
   -- THE TABLE, where these host functions are there
   abbrev pub row_of : Command → Row
-  row_of (Check file) = on_source All (λ f text. text ≡ codes "ok\n")
-  row_of (Fmt file) = on_source Grammar (λ f text. text ≡ canonical_text f)
-  row_of (Types file) = on_source Views IsTypesText
-  row_of (Project file) = on_source All IsProjectionText
-  row_of (Run file options) = on_source All (λ f. IsRunText functions f options)
-  row_of (Exec file options) = Reads programs_limit (λ bytes. judged_programs bytes (Closes (Executes options bytes)))
-  row_of (Replay file events) = Reads source_limit (λ bytes. judged All bytes (Reads events_limit (λ log. Closes (Replays bytes log))))
+  row_of Check = on_source All (λ f text. text ≡ codes "ok\n")
+  row_of Fmt = on_source Grammar (λ f text. text ≡ canonical_text f)
+  row_of Types = on_source Views IsTypesText
+  row_of Project = on_source All IsProjectionText
+  row_of (Run options) = on_source All (λ f. IsRunText functions f options)
+  row_of (Exec options) = after_programs (λ bytes. Closes (Executes options bytes))
+  row_of Replay = after_source All (λ bytes. after_events (Replays bytes))
   row_of (Gen n whole) = Writes (IsGenerated functions n whole)
+  row_of (Link options) = not_yet
+  row_of (Order form) = not_yet
+  row_of Conform = not_yet
+  row_of (Resume options) = not_yet

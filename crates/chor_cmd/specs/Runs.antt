@@ -36,8 +36,8 @@ IsAskedTranscript functions e options text stuck = TranscriptBy options.workers 
 
 -- how many workers a command asks for
 abbrev pub workers_of : Command → ℕ
-workers_of (Run file options) = options.workers
-workers_of (Exec file options) = options.workers
+workers_of (Run options) = options.workers
+workers_of (Exec options) = options.workers
 workers_of _ = 0
 
 -- the words ask for no workers

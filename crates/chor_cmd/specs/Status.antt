@@ -1,4 +1,4 @@
--- The numbers with which the process ends.
+-- How a call ends, as a number and as a status that comes with a text (this project's own).
 use Rattle.std.specs.Prelude.{ℕ, Bool, true, false}
 use Rattle.chor_cmd.specs.declared.status.Status.{Status}
 use Rattle.chor_cmd.specs.declared.status.Status.TheVariants.{Done, Refused, Usage, ReadFault, WriteFault, Memory, Unmatched, Stuck, TooLarge}
@@ -8,6 +8,7 @@ abbrev pub status_of : Bool → Status
 status_of true = Stuck
 status_of false = Done
 
+-- the exit status of the process
 abbrev pub number_of : Status → ℕ
 number_of Done = 0
 number_of Refused = 1
@@ -18,3 +19,15 @@ number_of Memory = 5
 number_of Unmatched = 6
 number_of Stuck = 7
 number_of TooLarge = 8
+
+-- a whole text was written with it: it is neither that of a failed write nor that of a call that ran out of memory
+abbrev pub has_text : Status → Bool
+has_text WriteFault = false
+has_text Memory = false
+has_text Done = true
+has_text Refused = true
+has_text Usage = true
+has_text ReadFault = true
+has_text Unmatched = true
+has_text Stuck = true
+has_text TooLarge = true

@@ -1,25 +1,32 @@
 //! The call that the program makes.
 
-ghost use Rattle.std.specs.Prelude.{◌≡◌, ◌≢◌, ◌≤◌, ◌^◌, ℕ, List, [], ◌∷◌, length, false};
+ghost use Rattle.std.specs.Prelude.{◌≡◌, ◌≢◌, ℕ, List, IfOk};
 ghost use Rattle.chor_host.specs.Tables.{functions_of};
-ghost use Rattle.command_words.specs.Words.{IsForm, NamesFile};
-ghost use Rattle.command_words.specs.declared.words.Words.{Words as CommandWords};
-ghost use Rattle.command_words.specs.declared.words.Command.TheVariants.{Gen};
-ghost use Rattle.chor_cmd.specs.Endings.{FetchesOnly, HasEnded as HasEndedSo};
-ghost use Rattle.chor_cmd.specs.Calls.{Fetches, HasEnded, IsUsage, IsSettled, RunsSource, RunsProjected, AcceptsRuns, RefusesBroken, call_of};
+ghost use Rattle.command_words.specs.Words.{AreForm};
 ghost use Rattle.projected_programs.specs.Laws.{ProjectedTextIsTaken, ProjectedTextRuns};
 ghost use Rattle.projected_programs.specs.LawsBy.{ProjectedTextRunsByWorkers};
+ghost use Rattle.chor_cmd.specs.Calls.{Fetches, HasEnded, IsUsage, IsSettled, RunsSource, RunsProjected, AcceptsRuns, RefusesBroken, call_of};
+ghost use Rattle.chor_cmd.specs.Outputs.{usage_line};
+ghost use Rattle.chor_cmd.specs.Rows.{Exactly};
+ghost use Rattle.chor_cmd.specs.declared.status.Status.TheVariants.{Usage};
 ghost use Rattle.chor_cmd.specs.Runs.{AsksNoWorkers, workers_of};
+ghost use Rattle.chor_cmd.specs.Stops.{Answers, TouchesOnly};
 
-use crate::by_workers::answer_by;
-use crate::numbers::answer_number;
-use crate::one_file::answer_file;
-use crate::output::finish;
-use crate::replays::answer_replay;
+use crate::checking::check;
+use crate::ending::{Ending, Stop};
+use crate::executing::{execute, execute_by};
+use crate::finishing::{finish, write};
+use crate::formatting::format;
+use crate::generating::generate;
+use crate::projecting::project;
+use crate::replaying::replay_events;
+use crate::running::{run, run_by};
 use crate::status::Status;
+use crate::typing::types;
+use chor_base::{Memory, Word};
 use chor_host::HostTable;
 use chor_io::{Gate, Shelf, Sink};
-use command_words::{Command, Form, Words, form_of};
+use command_words::{Command, Words, form_of};
 use std::alloc::Global;
 use std::sync::Wait;
 use std::thread::Threads;
@@ -55,26 +62,30 @@ pub fn chor<R: Threads + Wait + Sync, F: Shelf, K: Sink, G: Gate + Sync>(
     out: &mut K,
     gate: &G,
 ) -> Status
-    ensures fetches { Fetches (call_of (functions_of hosts.now) words.now (F.state shelf.old) (F.state shelf.new) (K.state out.old) (K.state out.new) result) }
+    ensures fetches { Fetches (call_of hosts.now words.now (F.state shelf.old) (F.state shelf.new) (K.state out.old) (K.state out.new) result) }
 
     // What each status says.
-    ensures ended { HasEnded (call_of (functions_of hosts.now) words.now (F.state shelf.old) (F.state shelf.new) (K.state out.old) (K.state out.new) result) }
+    ensures ended { HasEnded (call_of hosts.now words.now (F.state shelf.old) (F.state shelf.new) (K.state out.old) (K.state out.new) result) }
 
     // Which status comes.
-    ensures usage { IsUsage (call_of (functions_of hosts.now) words.now (F.state shelf.old) (F.state shelf.new) (K.state out.old) (K.state out.new) result) }
-    ensures settled { IsSettled (call_of (functions_of hosts.now) words.now (F.state shelf.old) (F.state shelf.new) (K.state out.old) (K.state out.new) result) }
+    ensures usage { IsUsage (call_of hosts.now words.now (F.state shelf.old) (F.state shelf.new) (K.state out.old) (K.state out.new) result) }
+    ensures settled { IsSettled (call_of hosts.now words.now (F.state shelf.old) (F.state shelf.new) (K.state out.old) (K.state out.new) result) }
 
     // The sentences of the headline.
-    ensures ran { RunsSource (call_of (functions_of hosts.now) words.now (F.state shelf.old) (F.state shelf.new) (K.state out.old) (K.state out.new) result) }
-    ensures projected { RunsProjected (call_of (functions_of hosts.now) words.now (F.state shelf.old) (F.state shelf.new) (K.state out.old) (K.state out.new) result) }
-    ensures replayed { AcceptsRuns (call_of (functions_of hosts.now) words.now (F.state shelf.old) (F.state shelf.new) (K.state out.old) (K.state out.new) result) }
-    ensures refused { RefusesBroken (call_of (functions_of hosts.now) words.now (F.state shelf.old) (F.state shelf.new) (K.state out.old) (K.state out.new) result) }
+    ensures ran { RunsSource (call_of hosts.now words.now (F.state shelf.old) (F.state shelf.new) (K.state out.old) (K.state out.new) result) }
+    ensures projected { RunsProjected (call_of hosts.now words.now (F.state shelf.old) (F.state shelf.new) (K.state out.old) (K.state out.new) result) }
+    ensures replayed { AcceptsRuns (call_of hosts.now words.now (F.state shelf.old) (F.state shelf.new) (K.state out.old) (K.state out.new) result) }
+    ensures refused { RefusesBroken (call_of hosts.now words.now (F.state shelf.old) (F.state shelf.new) (K.state out.old) (K.state out.new) result) }
 {
     projected_laws();
-    if asks_workers(words) {
-        return answer_by(rt, alloc, words, hosts, shelf, out, gate);
+    let Some((command, files)) = form_of(words) else {
+        return alone(rt, alloc, words, hosts, shelf, out);
+    };
+    if workers_of(command) == 0 {
+        return alone(rt, alloc, words, hosts, shelf, out);
     }
-    alone(rt, alloc, words, hosts, shelf, out)
+    let answer = answer_by(rt, alloc, command, files, hosts, shelf, gate);
+    finish(alloc, out, answer)
 }
 
 /// Does what the words ask for where they ask for no workers, as `chor` does. It waits for nobody.
@@ -87,46 +98,28 @@ pub fn alone<R: Threads + Sync, F: Shelf, K: Sink>(
     out: &mut K,
 ) -> Status
     requires { AsksNoWorkers words.now }
-    ensures fetches { Fetches (call_of (functions_of hosts.now) words.now (F.state shelf.old) (F.state shelf.new) (K.state out.old) (K.state out.new) result) }
+    ensures fetches { Fetches (call_of hosts.now words.now (F.state shelf.old) (F.state shelf.new) (K.state out.old) (K.state out.new) result) }
 
     // What each status says.
-    ensures ended { HasEnded (call_of (functions_of hosts.now) words.now (F.state shelf.old) (F.state shelf.new) (K.state out.old) (K.state out.new) result) }
+    ensures ended { HasEnded (call_of hosts.now words.now (F.state shelf.old) (F.state shelf.new) (K.state out.old) (K.state out.new) result) }
 
     // Which status comes.
-    ensures usage { IsUsage (call_of (functions_of hosts.now) words.now (F.state shelf.old) (F.state shelf.new) (K.state out.old) (K.state out.new) result) }
-    ensures settled { IsSettled (call_of (functions_of hosts.now) words.now (F.state shelf.old) (F.state shelf.new) (K.state out.old) (K.state out.new) result) }
+    ensures usage { IsUsage (call_of hosts.now words.now (F.state shelf.old) (F.state shelf.new) (K.state out.old) (K.state out.new) result) }
+    ensures settled { IsSettled (call_of hosts.now words.now (F.state shelf.old) (F.state shelf.new) (K.state out.old) (K.state out.new) result) }
 
     // The sentences of the headline.
-    ensures ran { RunsSource (call_of (functions_of hosts.now) words.now (F.state shelf.old) (F.state shelf.new) (K.state out.old) (K.state out.new) result) }
-    ensures projected { RunsProjected (call_of (functions_of hosts.now) words.now (F.state shelf.old) (F.state shelf.new) (K.state out.old) (K.state out.new) result) }
-    ensures replayed { AcceptsRuns (call_of (functions_of hosts.now) words.now (F.state shelf.old) (F.state shelf.new) (K.state out.old) (K.state out.new) result) }
-    ensures refused { RefusesBroken (call_of (functions_of hosts.now) words.now (F.state shelf.old) (F.state shelf.new) (K.state out.old) (K.state out.new) result) }
+    ensures ran { RunsSource (call_of hosts.now words.now (F.state shelf.old) (F.state shelf.new) (K.state out.old) (K.state out.new) result) }
+    ensures projected { RunsProjected (call_of hosts.now words.now (F.state shelf.old) (F.state shelf.new) (K.state out.old) (K.state out.new) result) }
+    ensures replayed { AcceptsRuns (call_of hosts.now words.now (F.state shelf.old) (F.state shelf.new) (K.state out.old) (K.state out.new) result) }
+    ensures refused { RefusesBroken (call_of hosts.now words.now (F.state shelf.old) (F.state shelf.new) (K.state out.old) (K.state out.new) result) }
 {
     projected_laws();
-    answer(alloc, words, hosts, shelf, out)
-}
-
-// Whether the words ask for workers.
-fn asks_workers(words: &Words) -> bool
-    ensures { result ≡ false → AsksNoWorkers words.now }
-{
-    match form_of(words) {
-        None => false,
-        Some(Form::OnFile(command, _name)) => workers_of(command) > 0,
-        Some(Form::OnFiles(_file, _events)) => false,
-        Some(Form::OnNumber(_count, _whole)) => false,
-    }
-}
-
-// How many workers a command asks for.
-fn workers_of(command: Command) -> u32
-    ensures { result ≡ workers_of command }
-{
-    match command {
-        Command::Run(_, options) => options.workers,
-        Command::Exec(_, options) => options.workers,
-        _ => 0,
-    }
+    let Some((command, files)) = form_of(words) else {
+        let usage = b"usage: chor COMMAND ARGUMENTS\n".as_slice();
+        return write(out, usage, Status::Usage);
+    };
+    let answer = answer(alloc, command, files, hosts, shelf);
+    finish(alloc, out, answer)
 }
 
 // What is proved of the text that `project` writes.
@@ -140,27 +133,73 @@ fn projected_laws()
     projected_programs::projected_text_runs_by_workers();
 }
 
-// Answers what the words ask for.
-fn answer<F: Shelf, K: Sink>(
+// How many workers a command asks for.
+fn workers_of(command: Command) -> u32
+    ensures { result ≡ workers_of command }
+{
+    match command {
+        Command::Run(options) => options.workers,
+        Command::Exec(options) => options.workers,
+        _ => 0,
+    }
+}
+
+// What a command makes of the files of these names. Runs are scheduled runs.
+fn answer<'a, F: Shelf>(
     alloc: Global,
-    words: &Words,
+    command: Command,
+    files: &'a [Word],
     hosts: &HostTable,
     shelf: &mut F,
-    out: &mut K,
-) -> Status
-    ensures fetches { FetchesOnly words.now (F.state shelf.old) (F.state shelf.new) }
-    ensures ended { HasEndedSo (functions_of hosts.now) words.now (F.state shelf.old) (F.state shelf.new) (K.state out.old) (K.state out.new) result }
+) -> Result<Ending, Stop<'a>>
+    requires { (words : List (List ℕ)) × AreForm words command files.now }
+    ensures answers { Answers (functions_of hosts.now) command files.now (F.state shelf.old) (F.state shelf.new) result }
+    ensures only { TouchesOnly files.now (F.state shelf.old) (F.state shelf.new) }
 {
-    match form_of(words) {
-        None => finish(
-            out,
-            b"usage: chor COMMAND ARGUMENTS\n".as_slice(),
-            Status::Usage,
-        ),
-        Some(Form::OnFile(command, name)) => answer_file(alloc, command, name, hosts, shelf, out),
-        Some(Form::OnFiles(file, events)) => {
-            answer_replay(alloc, file, events, hosts, shelf, out)
+    match command {
+        Command::Check => check(alloc, &files[0], hosts, shelf),
+        Command::Fmt => format(alloc, &files[0], shelf),
+        Command::Types => types(alloc, &files[0], hosts, shelf),
+        Command::Project => project(alloc, &files[0], hosts, shelf),
+        Command::Run(options) => run(alloc, &files[0], options, hosts, shelf),
+        Command::Exec(options) => execute(alloc, &files[0], options, hosts, shelf),
+        Command::Replay => replay_events(alloc, &files[0], &files[1], hosts, shelf),
+        Command::Gen(count, whole) => Ok(generate(alloc, count, whole, hosts)?),
+        Command::Link(_) | Command::Order(_) | Command::Conform | Command::Resume(_) => {
+            Ok(not_yet(alloc)?)
         }
-        Some(Form::OnNumber(count, whole)) => answer_number(alloc, count, whole, hosts, out),
+    }
+}
+
+// A command that isn't there yet.
+fn not_yet(alloc: Global) -> Result<Ending, Memory>
+    ensures { IfOk result (λ ending. Exactly Usage usage_line ending.status ending.text.items) }
+{
+    let text = b"usage: chor COMMAND ARGUMENTS\n".to_vec(alloc)?;
+    Ok(Ending {
+        text,
+        status: Status::Usage,
+    })
+}
+
+// What a command makes of the files of these names where workers make the run.
+fn answer_by<'a, R: Threads + Wait + Sync, F: Shelf, G: Gate + Sync>(
+    rt: &R,
+    alloc: Global,
+    command: Command,
+    files: &'a [Word],
+    hosts: &HostTable,
+    shelf: &mut F,
+    gate: &G,
+) -> Result<Ending, Stop<'a>>
+    requires form { (words : List (List ℕ)) × AreForm words command files.now }
+    requires workers { workers_of command ≢ 0 }
+    ensures answers { Answers (functions_of hosts.now) command files.now (F.state shelf.old) (F.state shelf.new) result }
+    ensures only { TouchesOnly files.now (F.state shelf.old) (F.state shelf.new) }
+{
+    match command {
+        Command::Run(options) => run_by(rt, alloc, &files[0], options, hosts, shelf, gate),
+        Command::Exec(options) => execute_by(rt, alloc, &files[0], options, hosts, shelf, gate),
+        _ => answer(alloc, command, files, hosts, shelf),
     }
 }

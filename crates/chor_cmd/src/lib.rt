@@ -1,20 +1,20 @@
 //! The commands.
 #![tactic(auto)]
 
-mod by_workers;
-mod canonical;
+mod checking;
 mod command;
-mod endpoints;
-mod exec;
-mod fetching;
+mod ending;
+mod executing;
+mod finishing;
+mod formatting;
+mod generating;
 mod laws;
-mod numbers;
-mod one_file;
-mod output;
-mod replays;
-mod run;
+mod projecting;
+mod replaying;
+mod running;
+mod sources;
 mod status;
-mod texts;
+mod typing;
 
 pub use command::{alone, chor};
 pub use command_words::{Command, Options, Words, read_words};

@@ -1,0 +1,208 @@
+-- The exits of a command, as ways through its row.
+use Rattle.std.proofs.Common.{◌≡◌, ◌≤◌, inl, inr, ℕ, suc, Bool, List, [], ◌∷◌, length, refl, sym, ap, ◌∙◌, subst, arith}
+use Rattle.std.specs.Prelude.{Result, Ok, Err, IfErr, IsErrAnd, Contains, get_or, ⊤}
+use Rattle.chor_base.specs.declared.rule.Denied.{Denied}
+use Rattle.chor_base.specs.declared.rule.Denied.TheVariants as denied
+use Rattle.chor_base.specs.declared.rule.Refusal.{Refusal}
+use Rattle.chor_tree.specs.declared.file.File.{File}
+use Rattle.chor_host.specs.Functions.{Function, names_of}
+use Rattle.chor_io.specs.Outside.{Risen, ShelfState, SinkState}
+use Rattle.command_words.specs.declared.words.Words.{Words}
+use Rattle.command_words.specs.declared.words.Command.{Command}
+use Rattle.command_words.specs.Words.{AreForm, IsForm, HasForm, HasNoForm, name_of}
+use Rattle.command_words.specs.Tables.{file_count}
+use Rattle.source_check.specs.declared.rules.Rules.{Rules}
+use Rattle.source_check.specs.Classes.{classes_of}
+use Rattle.source_check.specs.Source.{IsBroken, Violates, unread, broken}
+use Rattle.endpoint_code.specs.declared.endpoints.Endpoints.{Endpoints}
+use Rattle.endpoint_check.specs.Programs.{ViolatesPrograms}
+use Rattle.command_words.specs.declared.options.Options.{Options}
+use Rattle.command_words.specs.declared.words.Command.TheVariants.{Exec}
+use Rattle.chor_cmd.specs.Runs.{IsAskedTranscript}
+use Rattle.chor_cmd.specs.Status.{status_of}
+use Rattle.chor_cmd.specs.declared.status.Status.{Status}
+use Rattle.chor_cmd.specs.declared.status.Status.TheVariants as status
+use Rattle.chor_cmd.specs.declared.status.Status.TheVariants.{Usage}
+use Rattle.chor_cmd.specs.declared.ending.Ending.{Ending}
+use Rattle.chor_cmd.specs.declared.ending.Stop.{Stop}
+use Rattle.chor_cmd.specs.declared.ending.Stop.TheVariants.{Refused, ReadFault, TooLarge, Memory}
+use Rattle.chor_cmd.specs.Outputs.{usage_line, refused_line, read_fault_line, too_large_line}
+use Rattle.chor_cmd.specs.Endings.{Told, MayTell, Goes, Ends, usage, read_fault, goes, HasWritten}
+use Rattle.chor_cmd.specs.Calls.{Call, HasEnded}
+use Rattle.chor_cmd.proofs.Written.{written_so}
+use Rattle.chor_cmd.specs.Rows.{Row, Reads, Judges, Writes, Exactly, IsFine, ArePrograms, OfSource, Executes, executes, source_limit, programs_limit, after_source, after_programs, on_source, row_of}
+use Rattle.chor_cmd.specs.Stops.{HasRead, HasReadFile, HasReadSource, HasReadPrograms, IsNoText, IsUnread, IsStop, AnswersBy, Answers, StopSays, AnswerSays, stop_of}
+
+-- ---- errors
+
+-- a result that is this error
+pub err_is : {X E : Type 0} (P : E → Type 0) (r : Result X E) (e : E) → IsErrAnd r (λ d. d ≡ e) → P e → IfErr r P
+err_is P (Ok x) e h p = absurd h
+err_is P (Err d) e h p = subst P (sym h) p
+
+module _ (row : Row) (names : List (List ℕ)) (before after : ShelfState) where
+  pub stopped : (r : Result Ending Stop) (stop : Stop) → IsErrAnd r (λ s. s ≡ stop) → IsStop row names before after stop → AnswersBy row names before after r
+  stopped (Ok e) stop is h = absurd is
+  stopped (Err s) stop is h = subst (IsStop row names before after) (sym is) h
+
+  pub out_of_memory : (r : Result Ending Stop) → IsErrAnd r (λ s. s ≡ Memory) → AnswersBy row names before after r
+  out_of_memory r is = stopped r Memory is tt
+
+-- a name among some is among more
+later : (name : List ℕ) (names : List (List ℕ)) (other : List ℕ) → Contains names other → Contains (name ∷ names) other
+later name names other (i, less, is) = (suc i, omega (arith, less), is)
+
+-- where no count has fallen before a fetch
+risen_since : (a b c : ℕ) → a ≤ b → Risen b c → Risen a c
+risen_since a b c le (inl lt) = inl (omega arith)
+risen_since a b c le (inr top) = inr top
+
+-- ---- the first file
+
+module _ (limit : ℕ) (before after : ShelfState) (name : List ℕ) where
+  -- what is broken so is broken otherwise
+  pub unread_so : (P Q : List ℕ → Refusal → Type 0) → ((bytes : List ℕ) (r : Refusal) → P bytes r → Q bytes r) → (stop : Stop) → IsUnread limit P before after name stop → IsUnread limit Q before after name stop
+  unread_so P Q so (Refused r) h = (h.0, h.1, so h.0 r h.2)
+  unread_so P Q so (ReadFault w) h = h
+  unread_so P Q so (TooLarge w) h = h
+  unread_so P Q so Memory h = h
+
+  -- bytes that were read and are denied
+  pub denied_so : (Broken : List ℕ → Refusal → Type 0) (bytes : List ℕ) → HasRead limit before name bytes → (d : Denied) → ((r : Refusal) → d ≡ denied.Refused r → Broken bytes r) → IsUnread limit Broken before after name (stop_of d)
+  denied_so Broken bytes read (denied.Refused r) so = (bytes, read, so r refl)
+  denied_so Broken bytes read denied.Memory so = tt
+
+  module _ (names : List (List ℕ)) where
+    -- a file that is read next
+    pub stops_reading : (next : List ℕ → Row) (stop : Stop) → IsUnread limit (λ bytes r. ⊥) before after name stop → IsStop (Reads limit next) (name ∷ names) before after stop
+    stops_reading next (Refused r) h = absurd h.2
+    stops_reading next (ReadFault w) (is, risen) = ((0, omega arith, sym is), subst (λ (n : List ℕ). Risen (before.faults n) (after.faults n)) (sym is) risen)
+    stops_reading next (TooLarge w) (is, (bytes, told, long)) = (bytes, told, inl (long, (refl, ap too_large_line is)))
+    stops_reading next Memory h = tt
+
+    -- and judged
+    module _ (Fine : List ℕ → Type 0) (Broken : List ℕ → Refusal → Type 0) (next : List ℕ → Row) where
+      abbrev judging : Row
+      judging = Reads limit (λ bytes. Judges (Fine bytes) (Broken bytes) (next bytes))
+
+      pub stops_judging : (stop : Stop) → IsUnread limit Broken before after name stop → IsStop judging (name ∷ names) before after stop
+      stops_judging (Refused r) h = (h.0, h.1.0, inr (h.1.1, inl (r, h.2, (refl, refl))))
+      stops_judging (ReadFault w) (is, risen) = ((0, omega arith, sym is), subst (λ (n : List ℕ). Risen (before.faults n) (after.faults n)) (sym is) risen)
+      stops_judging (TooLarge w) (is, (bytes, told, long)) = (bytes, told, inl (long, (refl, ap too_large_line is)))
+      stops_judging Memory h = tt
+
+      -- what is made of the files after it
+      module _ (bytes : List ℕ) (now : ShelfState) (read : HasRead limit before name bytes) (fine : Fine bytes) (same : now.files ≡ before.files) (rises : (other : List ℕ) → before.faults other ≤ now.faults other) where
+        on : (s : Status) (t : List ℕ) → Goes (MayTell now.files) names (next bytes) s t → Goes (MayTell before.files) (name ∷ names) judging s t
+        on s t way = (bytes, read.0, inr (read.1, inr (fine, subst (λ (files : Told). Goes (MayTell files) names (next bytes) s t) same way)))
+
+        pub goes_on : (r : Result Ending Stop) → AnswersBy (next bytes) names now after r → AnswersBy judging (name ∷ names) before after r
+        goes_on (Ok e) way = on e.status e.text.items way
+        goes_on (Err (Refused r)) way = on status.Refused (refused_line r) way
+        goes_on (Err (ReadFault w)) (among, risen) = (later name names w.now among, risen_since (before.faults w.now) (now.faults w.now) (after.faults w.now) (rises w.now) risen)
+        goes_on (Err (TooLarge w)) way = on status.TooLarge (too_large_line w.now) way
+        goes_on (Err Memory) way = tt
+
+-- a file that was read and breaks some rules
+pub broken_so : (rules : Rules) (words : List (List ℕ)) (before after : ShelfState) (name : List ℕ) (f : File) → HasReadFile before name f → (d : Denied) → IsBroken (classes_of rules) words f d
+    → IsUnread source_limit (Violates rules words) before after name (stop_of d)
+broken_so rules words before after name f (bytes, read, is) d denied =
+    denied_so source_limit before after name (Violates rules words) bytes read d (λ r e. broken is (subst (IsBroken (classes_of rules) words f) e denied))
+
+-- ---- commands on a source, or on endpoint programs
+
+module _ (functions : List Function) (before after : ShelfState) (name : List ℕ) where
+  abbrev words : List (List ℕ)
+  words = names_of functions
+
+  pub source_stops : (rules : Rules) (next : List ℕ → Row) (names : List (List ℕ)) (r : Result Ending Stop) (stop : Stop) → IsErrAnd r (λ s. s ≡ stop) → IsUnread source_limit (Violates rules words) before after name stop
+      → AnswersBy (after_source functions rules next) (name ∷ names) before after r
+  source_stops rules next names r stop is why =
+      stopped (after_source functions rules next) (name ∷ names) before after r stop is (stops_judging source_limit before after name names (IsFine functions rules) (Violates rules words) next stop why)
+
+  pub programs_stop : (next : List ℕ → Row) (names : List (List ℕ)) (r : Result Ending Stop) (stop : Stop) → IsErrAnd r (λ s. s ≡ stop) → IsUnread programs_limit (ViolatesPrograms words) before after name stop
+      → AnswersBy (after_programs functions next) (name ∷ names) before after r
+  programs_stop next names r stop is why =
+      stopped (after_programs functions next) (name ∷ names) before after r stop is (stops_judging programs_limit before after name names (ArePrograms functions) (ViolatesPrograms words) next stop why)
+
+  module _ (rules : Rules) (Says : File → List ℕ → Type 0) where
+    -- what follows the source
+    abbrev rest : List ℕ → Row
+    rest bytes = Writes (OfSource functions rules Says bytes)
+
+    -- a source that isn't read or is refused
+    pub one_stops : (r : Result Ending Stop) (stop : Stop) → IsErrAnd r (λ s. s ≡ stop) → IsUnread source_limit (Violates rules words) before after name stop → AnswersBy (on_source functions rules Says) (name ∷ []) before after r
+    one_stops r stop is why = source_stops rules rest [] r stop is why
+
+    -- one that isn't read, or is refused by the rules of tokens and of the grammar
+    pub one_stops_reading : (r : Result Ending Stop) (stop : Stop) → IsErrAnd r (λ s. s ≡ stop) → IsUnread source_limit IsNoText before after name stop → AnswersBy (on_source functions rules Says) (name ∷ []) before after r
+    one_stops_reading r stop is h = one_stops r stop is (unread_so source_limit before after name IsNoText (Violates rules words) (λ bytes r h. unread h.0 h.1) stop h)
+
+    -- one that was read, and is refused by other rules
+    pub one_is_broken : (f : File) → HasReadFile before name f → (d : Denied) → IsBroken (classes_of rules) words f d → (r : Result Ending Stop) → IsErrAnd r (λ s. s ≡ stop_of d) → AnswersBy (on_source functions rules Says) (name ∷ []) before after r
+    one_is_broken f read d denied r is = one_stops r (stop_of d) is (broken_so rules words before after name f read d denied)
+
+    -- and one for which the command is done
+    pub one_is_done : (f : File) (text : List ℕ) → HasReadSource rules words before name f → Says f text → Goes (MayTell before.files) (name ∷ []) (on_source functions rules Says) status.Done text
+    one_is_done f text (bytes, read, accepted) says = (bytes, read.0, inr (read.1, inr ((f, accepted), (refl, (f, accepted, says)))))
+
+  -- a run of endpoint programs is done, or is stuck
+  pub execution : (options : Options) (e : Endpoints) (ending : Ending) (text : List ℕ) (stuck : Bool) → HasReadPrograms words before name e → IsAskedTranscript functions e options text stuck
+      → ending.text.items ≡ text → ending.status ≡ status_of stuck → Goes (MayTell before.files) (name ∷ []) (row_of functions (Exec options)) ending.status ending.text.items
+  execution options e ending text stuck (bytes, read, are) run text_is status_is =
+      let x = executes {text = text} stuck (record { programs = e; are = are; run = run }) in
+      let said = subst (λ (s : Status). Executes functions options bytes s text) (sym status_is) x in
+      (bytes, read.0, inr (read.1, inr ((e, are), subst (λ (t : List ℕ). Executes functions options bytes ending.status t) (sym text_is) said)))
+
+-- ---- what a call says
+
+-- exactly this is said
+exactly : (P : Status → List ℕ → Type 0) (s : Status) (t : List ℕ) (s' : Status) (t' : List ℕ) → Exactly s t s' t' → P s t → P s' t'
+exactly P s t s' t' is p = subst (λ (x : Status). P x t') (sym is.0) (subst (λ (x : List ℕ). P s x) (sym is.1) p)
+
+module _ (functions : List Function) (words : Words) (command : Command) (names : List (List ℕ)) (form : IsForm words command names) (before after : ShelfState) where
+  abbrev Way : Status → List ℕ → Type 0
+  Way s t = Goes (MayTell before.files) names (row_of functions command) s t
+
+  by_row : (s : Status) (t : List ℕ) → Way s t → Ends functions words before after s t
+  by_row s t way = goes command names form way
+
+  stop_ends : (stop : Stop) → IsStop (row_of functions command) names before after stop → (s : Status) (t : List ℕ) → StopSays stop s t → Ends functions words before after s t
+  stop_ends (Refused r) way s t is = by_row s t (exactly Way status.Refused (refused_line r) s t is way)
+  stop_ends (ReadFault w) (among, risen) s t is = exactly (Ends functions words before after) status.ReadFault (read_fault_line w.now) s t is (read_fault w.now (record { command = command; names = names; form = form; among = among }) risen)
+  stop_ends (TooLarge w) way s t is = by_row s t (exactly Way status.TooLarge (too_large_line w.now) s t is way)
+  stop_ends Memory way s t is = absurd is
+
+  answer_ends : (r : Result Ending Stop) → Answers functions command names before after r → (s : Status) (t : List ℕ) → AnswerSays r s t → Ends functions words before after s t
+  answer_ends (Ok e) way s t is = by_row s t (exactly Way e.status e.text.items s t is way)
+  answer_ends (Err stop) way s t is = stop_ends stop way s t is
+
+-- a call with words of a form, of which a command's answer was written
+pub answer_ended : (call : Call) (command : Command) (names : List (List ℕ)) → IsForm call.words command names → (r : Result Ending Stop) → Answers call.functions command names call.shelf call.shelf' r
+    → HasWritten (AnswerSays r) ⊤ call.sink call.sink' call.status → HasEnded call
+answer_ended call command names form r way written =
+    written_so call.sink call.sink' (AnswerSays r) (Ends call.functions call.words call.shelf call.shelf') ⊤ (HasForm call.words)
+    (answer_ends call.functions call.words command names form call.shelf call.shelf' r way) (λ u. record { command = command; names = names; form = form }) call.status written
+
+-- and one with words of none
+pub usage_ended : (call : Call) → HasNoForm call.words → (text : List ℕ) → text ≡ usage_line → HasWritten (Exactly Usage text) ⊥ call.sink call.sink' call.status → HasEnded call
+usage_ended call none text is written =
+    written_so call.sink call.sink' (Exactly Usage text) (Ends call.functions call.words call.shelf call.shelf') ⊥ (HasForm call.words)
+    (λ s t said. exactly (Ends call.functions call.words call.shelf call.shelf') Usage usage_line s t (said.0, said.1 ∙ is) (usage none)) (λ u. absurd u) call.status written
+
+-- the line of an answer that is this stop was written
+pub stop_written : (r : Result Ending Stop) (stop : Stop) → r ≡ Err stop → (ending : Ending) (text : List ℕ) → text ≡ ending.text.items → StopSays stop ending.status ending.text.items
+    → (sink sink' : SinkState) (status : Status) → HasWritten (Exactly ending.status text) ⊥ sink sink' status → HasWritten (AnswerSays r) ⊤ sink sink' status
+stop_written r stop is ending text text_is says sink sink' status written =
+    subst (λ (x : Result Ending Stop). HasWritten (AnswerSays x) ⊤ sink sink' status) (sym is)
+    (written_so sink sink' (Exactly ending.status text) (StopSays stop) ⊥ ⊤ (λ s t said. exactly (StopSays stop) ending.status ending.text.items s t (said.0, said.1 ∙ text_is) says) (λ u. absurd u) status written)
+
+-- what a command makes of the only file that its words name
+pub at_one : (functions : List Function) (words : List (List ℕ)) (command : Command) (files : List (List ℕ)) → AreForm words command files → (d : Command) → command ≡ d → file_count (name_of d) ≡ 1
+    → (name : List ℕ) → name ≡ get_or files 0 name → (before after : ShelfState) (r : Result Ending Stop) → Answers functions d (name ∷ []) before after r → Answers functions command files before after r
+at_one functions words command files form d is one name first before after r way = go files (form.count ∙ ap (λ c. file_count (name_of c)) is ∙ one) first
+  where
+    go : (files : List (List ℕ)) → length files ≡ 1 → name ≡ get_or files 0 name → Answers functions command files before after r
+    go [] count first = absurd (omega (arith, count))
+    go (file ∷ []) count first = subst (λ (c : Command). Answers functions c (file ∷ []) before after r) (sym is) (subst (λ (n : List ℕ). Answers functions d (n ∷ []) before after r) first way)
+    go (file ∷ more ∷ rest) count first = absurd (omega (arith, count))
