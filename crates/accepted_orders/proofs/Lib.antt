@@ -1,0 +1,4 @@
+pub mod Networks
+pub mod Pasts
+pub mod Replayed
+pub mod Telling
