@@ -54,7 +54,6 @@ pub fn order_accepted(
 fn checked(accepted: &Accepted)
     ensures { IsCheckedSource accepted.now.typed.file }
 {
-    accepted_files::projection_is_above();
     let _endpoints = accepted.endpoints();
 }
 

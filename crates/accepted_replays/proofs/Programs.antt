@@ -17,9 +17,5 @@ pub record AreSound (words : List (List ℕ)) (f : File) (e : Endpoints) : Type 
   pub distinct : AllDistinct e.names
   pub alike : RunsAskAlike
 
--- they are above the file's projection
-pub above_projection : (words : List (List ℕ)) (f : File) (e : Endpoints) → IsAccepted words f e → IsAboveProjection f e
-above_projection words f e a = a.above
-
 pub sound : (words : List (List ℕ)) (f : File) (e : Endpoints) → IsFine words f → IsAccepted words f e → AllDistinct e.names → RunsAskAlike → AreSound words f e
 sound words f e fine a distinct alike = record { checked = checked words f e fine a; above = a.above; distinct = distinct; alike = alike }

@@ -42,8 +42,8 @@ module _ (functions : List Function) (options : Options) (source : List ℕ) (f 
 
   -- a run as the options ask for it, which isn't stuck, and its transcript
   run_text : (text : List ℕ) (h : List Event) (c : Close) (last : NetworkState) → ClosesWell f e hosts None options.steps h last c → IsAskedRun f e hosts options h c → text ≡ transcript (book_of f) h (closing_text (book_of f) (length h) c) → IsRunText functions f options text
-  run_text text h Ended last well run text_is = record { endpoints = e; history = h; ended = true; run = run; text_is = text_is }
-  run_text text h Limit last well run text_is = record { endpoints = e; history = h; ended = false; run = run; text_is = text_is }
+  run_text text h Ended last well run text_is = record { endpoints = e; projects = p.projects; history = h; ended = true; run = run; text_is = text_is }
+  run_text text h Limit last well run text_is = record { endpoints = e; projects = p.projects; history = h; ended = false; run = run; text_is = text_is }
   run_text text h (Stands q why) last well run text_is = absurd well
 
   module _ (programs : Endpoints) (read : AreProgramsOf (names_of functions) (endpoints_text e) programs) (text : List ℕ) (stuck : Bool) where

@@ -42,6 +42,7 @@ last_line false n = limit_line n
 -- is as long as was asked for and open
 pub record IsRunText (functions : List Function) (f : File) (options : Options) (text : List ℕ) : Type 0 where
   pub endpoints : Endpoints
+  pub projects : Projects f endpoints
   pub history : List Event
   pub ended : Bool
   pub run : IsAskedRun f endpoints (hosts_in f.names functions) options history (close_of ended)

@@ -3,6 +3,7 @@
 ghost use Rattle.std.specs.Prelude.{◌≡◌, [], ◌∷◌, IfOk};
 ghost use Rattle.chor_host.specs.Tables.{functions_of};
 ghost use Rattle.endpoint_text.specs.Text.{endpoints_text};
+ghost use Rattle.projection.specs.Projects.{Projects};
 ghost use Rattle.command_words.specs.declared.words.Command.TheVariants.{Project};
 ghost use Rattle.chor_cmd.specs.Outputs.{IsProjectionText};
 ghost use Rattle.chor_cmd.specs.Stops.{Answers, TouchesOnly};
@@ -40,6 +41,7 @@ pub fn project<'a, F: Shelf>(
 
 // The text of the endpoint programs of an accepted file.
 fn projection_text(alloc: Global, accepted: &Accepted) -> Result<Vec<u8>, Memory>
+    requires { Projects accepted.now.typed.file accepted.now.endpoints }
     ensures { IfOk result (λ text. IsProjectionText accepted.now.typed.file text.items) }
 {
     let text = text_of_endpoints(alloc, accepted.endpoints())?;

@@ -3,6 +3,7 @@
 ghost use Rattle.std.specs.Prelude.{◌≡◌, ◌≢◌, [], ◌∷◌, IfOk};
 ghost use Rattle.chor_host.specs.Tables.{functions_of};
 ghost use Rattle.chor_tree.specs.Names.{names_in};
+ghost use Rattle.projection.specs.Projects.{Projects};
 ghost use Rattle.command_words.specs.declared.words.Command.TheVariants.{Run};
 ghost use Rattle.chor_cmd.specs.Endings.{host_names};
 ghost use Rattle.chor_cmd.specs.Outputs.{IsRunText};
@@ -76,7 +77,8 @@ fn scheduled_text(
     options: Options,
     hosts: &HostTable,
 ) -> Result<Vec<u8>, Memory>
-    requires { accepted.now.typed.hosts ≡ host_names hosts.now }
+    requires hosts { accepted.now.typed.hosts ≡ host_names hosts.now }
+    requires projects { Projects accepted.now.typed.file accepted.now.endpoints }
     ensures { IfOk result (λ text. IsRunText (functions_of hosts.now) accepted.now.typed.file options text.items) }
 {
     let file = accepted.typed().file();
@@ -104,6 +106,7 @@ fn text_by<R: Threads + Wait + Sync, G: Gate + Sync>(
     gate: &G,
 ) -> Result<Vec<u8>, Memory>
     requires hosts { accepted.now.typed.hosts ≡ host_names hosts.now }
+    requires projects { Projects accepted.now.typed.file accepted.now.endpoints }
     requires workers { options.workers ≢ 0 }
     ensures { IfOk result (λ text. IsRunText (functions_of hosts.now) accepted.now.typed.file options text.items) }
 {

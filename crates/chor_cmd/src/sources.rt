@@ -2,6 +2,7 @@
 
 ghost use Rattle.std.specs.Prelude.{◌≡◌, ◌<◌, ◌≤◌, ◌^◌, [], ◌∷◌, IfOk, IfErr};
 ghost use Rattle.event_reader.specs.Known.{AreWords};
+ghost use Rattle.projection.specs.Projects.{Projects};
 ghost use Rattle.source_check.specs.declared.rules.Rules.TheVariants.{All};
 ghost use Rattle.source_check.specs.Source.{Violates};
 ghost use Rattle.endpoint_check.specs.Programs.{ViolatesPrograms};
@@ -79,6 +80,7 @@ pub fn fetch_accepted<'a, F: Shelf>(
     ensures accepted { IfOk result (λ accepted. HasReadSource All (host_names hosts.now) (F.state shelf.old) name.now accepted.typed.file) }
     ensures hosts { IfOk result (λ accepted. accepted.typed.hosts ≡ host_names hosts.now) }
     ensures words { IfOk result (λ accepted. AreWords accepted.typed.file.names) }
+    ensures projects { IfOk result (λ accepted. Projects accepted.typed.file accepted.endpoints) }
     ensures unread { IfErr result (IsUnread source_limit (Violates All (host_names hosts.now)) (F.state shelf.old) (F.state shelf.new) name.now) }
     ensures same { (F.state shelf.new).files ≡ (F.state shelf.old).files }
     ensures rises { (F.state shelf.old).faults name.now ≤ (F.state shelf.new).faults name.now }

@@ -1,5 +1,4 @@
 use Rattle.simulation.proofs.Runs.{checked}
-use Rattle.accepted_replays.proofs.Programs.{above_projection}
 use Rattle.accepted_orders.proofs.ordering.checked.Goals as goal
 
 pub returns : goal.returns
@@ -11,5 +10,5 @@ returns c =
       functions = typed.hosts;
       checked = checked typed.hosts typed.file e typed.fine a;
       programs = e;
-      above = above_projection c.projection_is_above.ensures typed.file e a;
+      above = a.above;
     }

@@ -1,5 +1,6 @@
 use Rattle.std.proofs.Common.{sym, subst}
 use Rattle.chor_tree.specs.declared.file.File.{File}
+use Rattle.projection.specs.Projects.{Projects}
 use Rattle.event_reader.specs.Known.{AreWords}
 use Rattle.source_check.specs.declared.rules.Rules.TheVariants.{All}
 use Rattle.source_check.specs.Source.{Violates, unread}
@@ -40,3 +41,7 @@ pub returns-clause-words : goal.returns-clause-words
 returns-clause-words g c =
     let read = c.in_ok-file.ensures.file in
     subst (λ (f : File). AreWords f.names) (sym c.in_ok-accepted.ensures.file) (c.names_are_words.ensures read.0 c.in_ok-file.file read.2)
+
+pub returns-clause-projects : goal.returns-clause-projects
+returns-clause-projects g c =
+    subst (λ (f : File). Projects f c.in_ok-accepted.accepted.endpoints) (sym c.in_ok-accepted.ensures.file) c.in_ok-accepted.ensures.projects
