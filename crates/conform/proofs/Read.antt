@@ -12,6 +12,15 @@ use Rattle.typed_sources.specs.Told.{Act}
 use Rattle.conform.specs.ByRole.{FollowsView, HasDoneAll}
 use Rattle.conform.specs.Laws.{IsReadTo}
 
+-- one action more is read from the state after the others
+pub one_more : (ts : List LocalState) (w : List Action) (a : Action) (i n k : ℕ) (t : LocalState) → LeadsTo ts i w n → slice_get ts n ≡ Some t → IsIn (a, k) (acts_of t) → LeadsTo ts i (w ++ a ∷ []) k
+one_more ts [] a i n k t same at more = (t, ap (slice_get ts) same ∙ at, k, more, refl)
+one_more ts (x ∷ w) a i n k t (u, there, j, in_u, rest) at more = (u, there, j, in_u, one_more ts w a j n k t rest at more)
+
+pub last_of : (ts : List LocalState) (w : List Action) (a : Action) (i k : ℕ) → LeadsTo ts i (w ++ a ∷ []) k → (n : ℕ) × LeadsTo ts i w n × ((t : LocalState) × (slice_get ts n ≡ Some t) × IsIn (a, k) (acts_of t))
+last_of ts [] a i k (t, there, j, in_t, same) = (i, refl, (t, there, subst (λ (m : ℕ). IsIn (a, m) (acts_of t)) same in_t))
+last_of ts (x ∷ w) a i k (t, there, j, in_t, rest) = let m = last_of ts w a j k rest in (m.0, (t, there, j, in_t, m.1), m.2)
+
 module _ (ss : List State) (r : NameId) (ts : List LocalState) (is : IsTypeOf ss r ts) (done : List Act) where
   pub follows_read : FollowsView ss r done ↔ ((n : ℕ) × IsReadTo ts done n)
   follows_read = (to, back)
@@ -21,15 +30,6 @@ module _ (ss : List State) (r : NameId) (ts : List LocalState) (is : IsTypeOf ss
 
       back : (n : ℕ) × IsReadTo ts done n → FollowsView ss r done
       back (n, w) = record { actions = w.actions; view = (is.view w.actions).0 (n, w.leads); told = w.told }
-
-  -- one action more is read from the state after the others
-  one_more : (w : List Action) (a : Action) (i n k : ℕ) (t : LocalState) → LeadsTo ts i w n → slice_get ts n ≡ Some t → IsIn (a, k) (acts_of t) → LeadsTo ts i (w ++ a ∷ []) k
-  one_more [] a i n k t same at more = (t, ap (slice_get ts) same ∙ at, k, more, refl)
-  one_more (x ∷ w) a i n k t (u, there, j, in_u, rest) at more = (u, there, j, in_u, one_more w a j n k t rest at more)
-
-  last_of : (w : List Action) (a : Action) (i k : ℕ) → LeadsTo ts i (w ++ a ∷ []) k → (n : ℕ) × LeadsTo ts i w n × ((t : LocalState) × (slice_get ts n ≡ Some t) × IsIn (a, k) (acts_of t))
-  last_of [] a i k (t, there, j, in_t, same) = (i, refl, (t, there, subst (λ (m : ℕ). IsIn (a, m) (acts_of t)) same in_t))
-  last_of (x ∷ w) a i k (t, there, j, in_t, rest) = let m = last_of w a j k rest in (m.0, (t, there, j, in_t, m.1), m.2)
 
   no_acts : (n : ℕ) (t : LocalState) → slice_get ts n ≡ Some t → ((a : Action) (k : ℕ) → IsIn (a, k) (acts_of t) → ⊥) → t ≡ End
   no_acts n t at none = (is.ends n t at).1 (empty (acts_of t) none)
@@ -45,7 +45,7 @@ module _ (ss : List State) (r : NameId) (ts : List LocalState) (is : IsTypeOf ss
       to w =
           let m = (is.view w.actions).1 w.view in
           let t = is.there w.actions m.0 m.1 in
-          let over : t.0 ≡ End = no_acts m.0 t.0 t.1 (λ a k more. w.no_more a ((is.view (w.actions ++ a ∷ [])).0 (k, one_more w.actions a 0 m.0 k t.0 m.1 t.1 more))) in
+          let over : t.0 ≡ End = no_acts m.0 t.0 t.1 (λ a k more. w.no_more a ((is.view (w.actions ++ a ∷ [])).0 (k, one_more ts w.actions a 0 m.0 k t.0 m.1 t.1 more))) in
           (m.0, record { actions = w.actions; leads = m.1; told = w.told }, t.1 ∙ ap Some over)
 
       -- a list of actions leads to one state
@@ -56,7 +56,7 @@ module _ (ss : List State) (r : NameId) (ts : List LocalState) (is : IsTypeOf ss
         told = w.told;
         no_more = λ a v.
             let m = (is.view (w.actions ++ a ∷ [])).1 v in
-            let l = last_of w.actions a 0 m.0 m.1 in
+            let l = last_of ts w.actions a 0 m.0 m.1 in
             let same : l.0 ≡ n = (is.told w.actions w.actions l.0 n l.1 w.leads).1 (λ i. (λ h. h, λ h. h)) in
             let here : Some l.2.0 ≡ Some End = sym l.2.1 ∙ ap (slice_get ts) same ∙ at in
             let over : l.2.0 ≡ End = cc in

@@ -1,16 +1,18 @@
 //! Logs of events, whatever made them, judged by the protocols of a file, role by role.
 #![tactic(auto)]
 
-ghost use Rattle.conform.specs.Laws.{PrefixesConform, ViewsAreRead, EndsAreRead};
+mod deed;
+mod fault;
+mod following;
+mod judging;
+mod laws;
+mod moves;
+mod places;
+mod progress;
+mod session;
+mod types;
 
-/// Each prefix of a log that conforms conforms.
-pub fn prefixes_conform()
-    ensures { PrefixesConform }
-{}
-
-/// A role follows its view exactly where what it has done can be read from its local type, and has
-/// done all exactly where that leads to an end.
-pub fn views_are_read()
-    ensures follows { ViewsAreRead }
-    ensures ends { EndsAreRead }
-{}
+pub use fault::ConformFault;
+pub use judging::{closed, conform};
+pub use laws::{astray_once, prefixes_conform, views_are_read};
+pub use progress::Progress;

@@ -32,36 +32,22 @@ use Rattle.accepted_files.specs.Accepted.{IsChecked, NetworkRunsAreRuns, RunsAre
 use Rattle.accepted_files.specs.AboveProjection.{IsAboveProjection}
 use Rattle.accepted_files.proofs.Closed.{leads_on}
 use Rattle.conform.specs.ByRole.{FollowsView, start_count, account_of, MayStart, MayDo, ComesNext, MayFollow, ConformsByRole}
+use Rattle.conform.proofs.Told.{told_more, sent_more, received_more, sender_acts, receiver_acts}
 use Rattle.conform_laws.proofs.Views.{follows_view}
 use Rattle.conform_laws.proofs.Starts.{start_begins, leads_count}
 
 -- ---- one event more
 
-told_more : (kind : NameId → Option NameId) (s : Account) (before : List Event) (x : Event) → told_after kind s (before ++ x ∷ []) ≡ told_by kind (told_after kind s before) x
-told_more kind s [] x = refl
-told_more kind s (y ∷ ys) x = told_more kind (told_by kind s y) ys x
-
 told_last : (kind : NameId → Option NameId) (s : Account) (before : List Event) (x : Event) → AllTold kind s (before ++ x ∷ []) → IsTold (told_after kind s before).protocol x
 told_last kind s [] x (one, all) = one
 told_last kind s (y ∷ ys) x (one, all) = told_last kind (told_by kind s y) ys x all
-
-sent_more : (t : Triple) (h : List Event) (x : Event) → sent_by t x ≡ [] → sent_on t (h ++ x ∷ []) ≡ sent_on t h
-sent_more t [] x none = ap (λ (l : List Load). l ++ []) none
-sent_more t (y ∷ ys) x none = ap (λ l. sent_by t y ++ l) (sent_more t ys x none)
-
-received_more : (t : Triple) (h : List Event) (x : Event) → received_on t (h ++ x ∷ []) ≡ received_on t h ++ received_by t x
-received_more t [] x = append-nil (received_by t x)
-received_more t (y ∷ ys) x = ap (λ l. received_by t y ++ l) (received_more t ys x) ∙ sym (append_assoc (received_by t y) (received_on t ys) (received_by t x))
-
-same_number : (n : ℕ) → (n == n) ≡ true
-same_number n = grind (arith, nat_tests)
 
 -- ---- what was sent first comes next
 
 comes_next : (h : List Event) (p s : ℕ) (a b : NameId) (l : Load) → IsFifo (h ++ Recv p s a b l ∷ []) → ComesNext h (s, a, b) l
 comes_next h p s a b l fifo =
     let w = fifo (s, a, b) in
-    (w.0, sym (sent_more (s, a, b) h (Recv p s a b l) refl) ∙ w.1 ∙ ap (λ z. z ++ w.0) (received_more (s, a, b) h (Recv p s a b l) ∙ ap (λ z. received_on (s, a, b) h ++ z) own) ∙ append_assoc (received_on (s, a, b) h) (l ∷ []) w.0)
+    (w.0, sym (sent_more (s, a, b) h (Recv p s a b l) ∙ append-nil (sent_on (s, a, b) h)) ∙ w.1 ∙ ap (λ z. z ++ w.0) (received_more (s, a, b) h (Recv p s a b l) ∙ ap (λ z. received_on (s, a, b) h ++ z) own) ∙ append_assoc (received_on (s, a, b) h) (l ∷ []) w.0)
   where
     same : triple_eq (s, a, b) (s, a, b) ≡ true
     same = grind (arith, nat_tests)
@@ -70,13 +56,6 @@ comes_next h p s a b l fifo =
     own = ap (λ (t : Bool). if t then l ∷ [] else []) same
 
 -- ---- a role goes on
-
--- what a send adds to the sender's acts, and a receipt to the receiver's
-sender_acts : (pr : Ref → Option NameId) (p s : ℕ) (a b : NameId) (l : Load) (w : Told) → told_load pr l ≡ Some w → event_acts pr (Send p s a b l) (Live s) a ≡ puts b w ∷ []
-sender_acts pr p s a b l w says = ap (λ (t : Bool). if t then sending a b (told_load pr l) a else []) (same_number s) ∙ ap (λ (t : Bool). if t then put_to b (told_load pr l) else []) (same_number a.0) ∙ ap (put_to b) says
-
-receiver_acts : (pr : Ref → Option NameId) (p s : ℕ) (a b : NameId) (l : Load) (w : Told) → told_load pr l ≡ Some w → event_acts pr (Recv p s a b l) (Live s) b ≡ gets a w ∷ []
-receiver_acts pr p s a b l w says = ap (λ (t : Bool). if t then receiving a b (told_load pr l) b else []) (same_number s) ∙ ap (λ (t : Bool). if t then got_from a (told_load pr l) else []) (same_number b.0) ∙ ap (got_from a) says
 
 module _ (f : File) where
   -- a role whose session conforms after the event may do it

@@ -1,5 +1,5 @@
 use Rattle.conform.proofs.Read.{follows_read, ends_read}
-use Rattle.conform.proofs.views_are_read.Goals as goal
+use Rattle.conform.proofs.laws.views_are_read.Goals as goal
 
 pub returns-clause-follows : goal.returns-clause-follows
 returns-clause-follows c ss r ts is done = follows_read ss r ts is done
