@@ -8,12 +8,12 @@ use Rattle.chor_base.specs.declared.names.NameId.{NameId}
 use Rattle.chor_base.specs.declared.value.Load.{Load}
 use Rattle.chor_base.specs.declared.event.Event.{Event}
 use Rattle.chor_base.specs.declared.event.Event.TheVariants.{Start, Send, Recv, Test, Set, Show, Host}
-use Rattle.chor_base.specs.Events.{Triple, triple_eq, load_on, sent_by, received_by, sent_on, received_on, IsFifo}
+use Rattle.chor_base.specs.Events.{triple_eq, load_on, sent_on, received_on, IsFifo}
 use Rattle.chor_base.specs.Meaning.{Hosts}
 use Rattle.chor_tree.specs.declared.file.File.{File}
 use Rattle.chor_tree.specs.declared.file.Service.{Service}
 use Rattle.chor_tree.specs.Names.{first_named}
-use Rattle.chor_semantics.specs.Choreography.{Ref, Live}
+use Rattle.chor_semantics.specs.Choreography.{Live}
 use Rattle.chor_semantics.specs.Runs.{IsRun}
 use Rattle.endpoint_code.specs.declared.endpoints.Channel.{Channel}
 use Rattle.endpoint_code.specs.declared.endpoints.Endpoints.{Endpoints}
@@ -21,9 +21,8 @@ use Rattle.endpoint_code.specs.Network.{NetworkState, NetworkSteps, first_state}
 use Rattle.endpoint_code.specs.Network as network
 use Rattle.endpoint_code.specs.NetworkRuns.{NetworkLeads, IsNetworkRun}
 use Rattle.endpoint_code.proofs.Fifo.{network_fifo}
-use Rattle.typed_sources.specs.Told.{Told, Act, puts, gets, put_to, got_from, sending, receiving}
+use Rattle.typed_sources.specs.Told.{Told, Act, puts, gets}
 use Rattle.typed_sources.specs.Context.{told_load}
-use Rattle.typed_sources.specs.Changes.{event_acts}
 use Rattle.typed_sources.specs.Typing.{IsOnOnePath}
 use Rattle.typed_sources.specs.History.{Account, nothing_told, told_by, told_after, IsTold, AllTold, SessionsConform}
 use Rattle.typed_sources.specs.Stands.{kind_in, states_in}
