@@ -7,7 +7,7 @@ ghost use Rattle.transcript_lines.specs.Lines.{lines_of};
 use replay::{ReplayFault, Replayed};
 use transcript_lines::{Last, first_line, last_of};
 
-// Judges what follows the events that were replayed: nothing, or one line that closes the run.
+/// Judges what follows the events that were replayed: nothing, or one line that closes the run.
 pub fn judge(rest: &[u8], replayed: Replayed) -> Result<Replayed, ReplayFault>
     requires { replayed.count + 1 < 2 ^ 64 }
     ensures { Judges replayed (lines_of rest.now) result }

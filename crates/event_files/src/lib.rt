@@ -8,6 +8,7 @@ mod laws;
 mod lines;
 mod reading;
 
+pub use closing::judge;
 pub use events::replayed_events;
 pub use file::replay_file;
 pub use laws::one_answer;

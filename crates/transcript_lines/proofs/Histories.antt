@@ -17,7 +17,7 @@ use Rattle.transcript_lines.specs.Last.{HasCount, last_text}
 use Rattle.transcript_lines.specs.Split.{HasHistory, event_lines}
 use Rattle.transcript_lines.proofs.FeedFree.{transcript_splits}
 
-last_free : (l : Last) → HasCount l → IsFree 10 (last_text l)
+pub last_free : (l : Last) → HasCount l → IsFree 10 (last_text l)
 last_free (End n) h = (refl, (refl, (refl, (refl, decimal_free 10 n refl h))))
 last_free (Limit n) h = (refl, (refl, (refl, (refl, (refl, (refl, decimal_free 10 n refl h))))))
 

@@ -1,0 +1,4 @@
+pub mod Judgeable
+pub mod Judged
+pub mod Along
+pub mod Transcripts

@@ -1,0 +1,3 @@
+pub mod Logs
+pub mod Fronts
+pub mod Laws
