@@ -1,0 +1,10 @@
+pub mod Counts
+pub mod Phrases
+pub mod Limits
+pub mod Tables
+pub mod Bodies
+pub mod Programs
+pub mod Ascending
+pub mod Texts
+pub mod Composed
+pub mod Again
