@@ -1,5 +1,5 @@
 -- What a worker does in its turn (this project's own).
-use Rattle.std.specs.Prelude.{ℕ, ◌≡◌, ◌≢◌, ◌+◌, ◌++◌, List, [], ◌∷◌, ◌≤◌, ◌⊎◌, Bool, true, false, length, All, Any, Some, slice_get}
+use Rattle.std.specs.Prelude.{ℕ, ◌≡◌, ◌≢◌, ◌+◌, ◌++◌, ◌^◌, ◌<◌, List, [], ◌∷◌, ◌≤◌, ◌⊎◌, Bool, true, false, length, All, Any, Some, slice_get}
 use Rattle.chor_base.specs.declared.event.Entry.{Entry}
 use Rattle.chor_base.specs.declared.event.Event.{Event}
 use Rattle.chor_base.specs.declared.event.Event.TheVariants.{Start}
@@ -22,6 +22,7 @@ use Rattle.crew.specs.declared.turn.Turned.{Turned}
 use Rattle.crew.specs.declared.turn.Turned.TheVariants as found
 use Rattle.crew.specs.declared.share.Share.{Share}
 use Rattle.post_office.specs.Owners.{IsMadeByOwner}
+use Rattle.net_core.specs.Steps.{AreFew}
 use Rattle.crew.specs.Crews.{CrewView, number_at}
 use Rattle.crew.specs.Ahead.{IsAhead}
 
@@ -42,6 +43,10 @@ pub record Adds (h : Share) (old new : OfficeView) : Type 0 where
   pub entries : List Entry
   pub history : new.history ≡ old.history ++ entries
   pub own : All (IsOwnEntry h old.endpoints) entries
+
+-- after so many events, one start more leaves the numbers of sessions and processes below 2^32
+abbrev pub FitsSteps : Endpoints → ℕ → Type 0
+FitsSteps e steps = (steps + 1 < 2 ^ 32) × AreFew e (steps + 1)
 
 -- no session has started
 pub record StartsNone (old new : OfficeView) : Type 0 where
@@ -94,6 +99,7 @@ HaveEnded e c false = (c.notes ≢ []) ⊎ ((c.notes ≡ []) × Any (λ m. has_e
 -- events as asked for, and all of the worker's processes have ended or some of them hasn't
 abbrev pub FindsOut : ℕ → OfficeView → CrewView → Turned → Type 0
 FindsOut steps v c found.Going = Unit {0}
+FindsOut steps v c found.Resting = Unit {0}
 FindsOut steps v c found.Ended = IsTrueAfter v stands.Ended
 FindsOut steps v c (found.Stuck p why) = (length v.history ≢ steps) × IsTrueAfter v (stands.Stuck p why)
 FindsOut steps v c (found.Full true) = (length v.history ≡ steps) × ((n : NetworkState) → IsAfter v n → (i : ℕ) (m : Machine) → slice_get n.machines (number_at c i) ≡ Some m → has_ended v.endpoints m ≡ true)

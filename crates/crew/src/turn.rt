@@ -4,11 +4,10 @@ ghost use Rattle.std.specs.Prelude.{◌≡◌, ◌≢◌, ◌≤◌, [], true, f
 ghost use Rattle.endpoint_code.specs.Faults.{IsFaultless};
 ghost use Rattle.endpoint_machine.specs.Bound.{IsBound};
 ghost use Rattle.session_starts.specs.Machines.{standing_of};
-ghost use Rattle.post_office.specs.Starts.{FitsStart};
 ghost use Rattle.crew.specs.Ahead.{Trails, IsUpToDate};
 ghost use Rattle.crew.specs.Crews.{entry_worker};
 ghost use Rattle.post_office.specs.Owners.{IsMadeByOwner};
-ghost use Rattle.crew.specs.Turns.{Adds, HaveEnded, FindsOut, is_last};
+ghost use Rattle.crew.specs.Turns.{Adds, HaveEnded, FindsOut, FitsSteps, is_last};
 
 use crate::crew::Crew;
 use chor_base::{Memory, Why};
@@ -20,8 +19,10 @@ use std::alloc::Global;
 /// What a worker finds at the end of its turn.
 #[derive(Clone, Copy)]
 pub enum Turned {
-    /// The run may go on.
+    /// It made events, and the run may go on.
     Going,
+    /// It made none, and another worker may go on.
+    Resting,
     /// Every process has ended.
     Ended,
     /// No process can step. The first that hasn't ended, and why it can't.
@@ -41,8 +42,8 @@ fn is_end(head: Head) -> bool
 }
 
 impl Crew {
-    // Whether no event is left to note.
-    fn is_noted(&self) -> bool
+    /// Whether no event is left to note.
+    pub fn is_noted(&self) -> bool
         ensures yes { result ≡ true → self.now.notes ≡ [] }
         ensures no { result ≡ false → self.now.notes ≢ [] }
     {
@@ -66,54 +67,36 @@ impl Crew {
         true
     }
 
-    // What the worker finds.
-    fn find_out(&self, endpoints: &Endpoints, office: &Office<'_>, steps: u64) -> Turned
+    // What the worker finds. What is posted is looked at where it has made no event since there were so
+    // many.
+    fn find_out(
+        &self,
+        endpoints: &Endpoints,
+        office: &Office<'_>,
+        steps: u64,
+        before: usize,
+    ) -> Turned
         requires faultless { IsFaultless endpoints.now }
         requires endpoints { office.now.endpoints ≡ endpoints.now }
         requires after { IsUpToDate office.now self.now }
         requires within { length office.now.history ≤ steps }
         ensures { FindsOut steps office.now self.now result }
     {
-        let standing = office.standing();
-        if let Standing::Ended = standing {
-            return Turned::Ended;
-        }
-        if office.history().len() as u64 >= steps {
+        let events = office.history().len();
+        if events as u64 >= steps {
             return Turned::Full(self.have_ended(endpoints));
         }
-        match standing {
+        if events > before {
+            return Turned::Going;
+        }
+        match office.standing() {
+            Standing::Ended => Turned::Ended,
             Standing::Stuck(pid, why) => Turned::Stuck(pid, why),
-            Standing::Ended | Standing::Going => Turned::Going,
+            Standing::Going => Turned::Resting,
         }
     }
 
-    // Makes at most one event that isn't a local one, if there are fewer events than asked for.
-    fn act_within(
-        &mut self,
-        alloc: Global,
-        endpoints: &Endpoints,
-        office: &mut Office<'_>,
-        steps: u64,
-    ) -> Result<(), Memory>
-        requires faultless { IsFaultless endpoints.now }
-        requires endpoints { office.old.endpoints ≡ endpoints.now }
-        requires after { IsUpToDate office.old self.old }
-        requires noted { self.old.notes ≡ [] }
-        requires within { length office.old.history ≤ steps }
-        requires fits { FitsStart office.old }
-        ensures adds { Adds self.old.share office.old office.new }
-        ensures within { length office.new.history ≤ steps }
-        ensures share { OnOk result (self.new.share ≡ self.old.share) }
-        ensures noted { OnOk result (self.new.notes ≡ []) }
-        ensures after { OnOk result (IsUpToDate office.new self.new) }
-    {
-        if office.history().len() as u64 >= steps {
-            return Ok(());
-        }
-        self.act(alloc, endpoints, office)
-    }
-
-    // The second half of a turn: the one event that isn't a local one, and what is posted.
+    // The second half of a turn: the events that aren't local, and what is posted.
     fn move_on(
         &mut self,
         alloc: Global,
@@ -125,21 +108,21 @@ impl Crew {
         requires endpoints { office.old.endpoints ≡ endpoints.now }
         requires after { IsUpToDate office.old self.old }
         requires within { length office.old.history ≤ steps }
-        requires fits { FitsStart office.old }
+        requires fits { FitsSteps endpoints.now steps }
         ensures adds { Adds self.old.share office.old office.new }
         ensures within { length office.new.history ≤ steps }
         ensures share { OnOk result (self.new.share ≡ self.old.share) }
         ensures after { OnOk result (IsUpToDate office.new self.new) }
     {
-        if !self.is_noted() {
-            return Ok(());
+        if self.is_noted() {
+            self.act(alloc, endpoints, office, steps)?;
+            self.post_all(endpoints, office)?;
         }
-        self.act_within(alloc, endpoints, office, steps)?;
-        self.post_all(endpoints, office)
+        Ok(())
     }
 
-    /// Makes a turn: goes through the new entries, notes the local events, makes at most one event that
-    /// isn't a local one, and posts what the processes do.
+    /// Makes a turn: goes through the new entries, notes the local events, makes events that aren't local,
+    /// and posts what the processes do.
     pub fn turn(
         &mut self,
         alloc: Global,
@@ -153,16 +136,17 @@ impl Crew {
         requires owned { All (IsMadeByOwner self.old.share.workers endpoints.now) office.old.history }
         requires others { All (λ x. x.worker ≢ entry_worker self.old) (drop self.old.seen office.old.history) }
         requires within { length office.old.history ≤ steps }
-        requires fits { FitsStart office.old }
+        requires fits { FitsSteps endpoints.now steps }
         ensures adds { Adds self.old.share office.old office.new }
         ensures within { length office.new.history ≤ steps }
         ensures share { OnOk result (self.new.share ≡ self.old.share) }
         ensures after { OnOk result (IsUpToDate office.new self.new) }
         ensures finds { IfOk result (λ turned. FindsOut steps office.new self.new turned) }
     {
+        let before = office.history().len();
         self.catch_up(alloc, endpoints, office)?;
         self.note_all(office, steps)?;
         self.move_on(alloc, endpoints, office, steps)?;
-        Ok(self.find_out(endpoints, office, steps))
+        Ok(self.find_out(endpoints, office, steps, before))
     }
 }

@@ -10,6 +10,10 @@ mod codes;
 #[cfg(test)]
 mod crews;
 #[cfg(test)]
+mod gates;
+#[cfg(test)]
 mod offices;
+#[cfg(test)]
+mod own_events;
 #[cfg(test)]
 mod programs;

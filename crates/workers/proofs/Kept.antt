@@ -1,188 +1,135 @@
 -- What the run that workers share keeps.
-use Rattle.std.proofs.Common.{true, ◌≡◌, ℕ, zero, suc, ◌+◌, ◌-◌, ◌*◌, ◌^◌, ◌<◌, ◌≤◌, List, [], ◌∷◌, ◌++◌, length, refl, sym, ap, ◌∙◌, subst, Option, arith, append-nil, length-append}
-use Rattle.std.specs.Prelude.{All}
-use Rattle.std.proofs.lemmas.List.{map-append}
-use Rattle.std.proofs.lemmas.List.Elements.{All-nil, All-push}
-use mathlib.Core.Option.{some-injective, some-ne-none}
-use Rattle.chor_base.specs.declared.event.Event.{Event}
+use Rattle.std.proofs.Common.{true, false, ◌≡◌, ◌≢◌, ℕ, zero, suc, ◌+◌, ◌*◌, ◌<◌, ◌≤◌, Bool, List, [], ◌∷◌, ◌++◌, length, get_or, take, drop, refl, sym, ap, ◌∙◌, subst, Option, Some, arith, append-nil, length-append}
+use Rattle.std.specs.Prelude.{All, slice_get, slice_set}
+use Rattle.std.proofs.Math.ListN.{replicate}
+use Rattle.std.proofs.lemmas.List.{length-replicate, length-set}
+use Rattle.std.proofs.lemmas.List.Elements.{All-nil}
+use native.Mathlib.Decide.{ℕ_discrete}
+use mathlib.Core.Logic.{dite}
+use Rattle.chor_base.proofs.Lists.{get_set_other}
 use Rattle.chor_base.specs.declared.event.Entry.{Entry}
-use Rattle.chor_base.specs.Meaning.{Hosts}
-use Rattle.chor_host.specs.Functions.{Function, hosts_in}
-use Rattle.endpoint_code.specs.declared.endpoints.Endpoints.{Endpoints}
-use Rattle.endpoint_code.specs.Network.{NetworkState, first_state}
-use Rattle.endpoint_code.specs.NetworkRuns.{NetworkLeads}
-use Rattle.endpoint_code.proofs.Chosen.{chooses_steps}
-use Rattle.post_office.specs.Views.{events_of}
-use Rattle.post_office.proofs.Acting.{leads_on}
-use Rattle.net_core.specs.Views.{NetworkView, IsSame}
-use Rattle.net_core.specs.Heads.{EachStands}
-use Rattle.net_core.specs.Steps.{HasSteppedBy, HasGrown, HasGrownBy, FitsMore, AreFew, AnswersBy}
-use Rattle.net_core.specs.declared.answer.Step.{Step}
-use Rattle.net_core.specs.declared.answer.Step.TheVariants as step
-use Rattle.net_core.proofs.Numbers.{fits_left}
-use Rattle.net_core.proofs.Runs.{fits_first}
-use Rattle.turn_lock.specs.Turns.{AllBy}
-use Rattle.workers.specs.declared.run.Tried.{Tried}
-use Rattle.workers.specs.declared.run.Tried.TheVariants.{Did, Waits, Memory}
-use Rattle.endpoint_code.specs.Scheduled.{Close, Closes}
-use Rattle.post_office.specs.Owners.{owner, IsMadeByOwner}
+use Rattle.chor_base.specs.declared.event.Why.{Why}
+use Rattle.endpoint_code.specs.Network.{Machine, NetworkState}
+use Rattle.endpoint_code.specs.NetworkRuns.{IsNetworkRun, has_ended, all_ended}
+use Rattle.endpoint_code.specs.Scheduled.{ended, limit, stuck}
+use Rattle.endpoint_runs.specs.declared.run.Closed.{Closed as Closing}
+use Rattle.endpoint_runs.specs.declared.run.Closed.TheVariants as closing
+use Rattle.endpoint_runs.specs.Runs.{close_of}
+use Rattle.post_office.specs.Owners.{IsMadeByOwner}
+use Rattle.post_office.specs.Views.{OfficeView, events_of}
+use Rattle.crew.specs.declared.share.Share.{Share}
+use Rattle.crew.specs.declared.turn.Turned.{Turned}
+use Rattle.crew.specs.declared.turn.Turned.TheVariants as found
+use Rattle.crew.specs.Crews.{CrewView, number_at}
+use Rattle.crew.specs.Turns.{Adds, FitsSteps, FindsOut}
+use Rattle.crew.proofs.Finding.{adds_owned, all_of_workers}
+use Rattle.workers.specs.declared.origin.Origin.{Origin}
+use Rattle.workers.specs.declared.run.Progress.{Progress}
+use Rattle.workers.specs.declared.run.Progress.TheVariants.{Open, Closed, Memory}
+use Rattle.workers.specs.Turns.{LeadsTo}
 use Rattle.workers.specs.Runs.{IsRunBy}
-use Rattle.workers.specs.Views.{RunView, IsKept, IsSameRun, GoesOnBy, Tries}
-use Rattle.workers.proofs.Made.{chooser_any}
-
-abbrev pub shared : NetworkView → Hosts → ℕ → ℕ → RunView
-shared v hosts workers steps = record { network = v; hosts = hosts; workers = workers; steps = steps }
+use Rattle.workers.specs.Views.{RunView, origin_of, history_of, IsClosedBy, IsProgress, HasEndedBy, IsKeptBy, IsKept}
 
 -- ---- the first state
 
-pub kept_first : (hosts : Hosts) (workers steps : ℕ) (e : Endpoints) (v : NetworkView) → v.endpoints ≡ e → v.state ≡ first_state e → v.history ≡ [] → AreFew e steps → steps ≤ 1000000 → 1 ≤ workers → IsKept (shared v hosts workers steps)
-kept_first hosts workers steps e v programs state history numbers few some =
-    let none : length v.history ≡ 0 = ap length history in
-    let fits : FitsMore v steps = fits_first e v steps programs state (omega arith) numbers in
-    record {
-      run = subst (λ (h : List Entry). NetworkLeads v.endpoints hosts v.capacity (first_state v.endpoints) (events_of h) v.state) (sym history) (ap first_state programs ∙ sym state);
-      owned = subst (All (IsMadeByOwner workers v.endpoints)) (sym history) (All-nil (IsMadeByOwner workers v.endpoints));
-      within = omega arith;
-      fits = subst (FitsMore v) (omega (arith, none)) fits;
-      few = few;
-      some_worker = some;
-    }
+no_mark : (n w : ℕ) → slice_get (replicate n false) w ≡ Some true → ⊥
+no_mark zero w h = cc
+no_mark (suc n) zero h = cc
+no_mark (suc n) (suc w) h = no_mark n w h
 
--- ---- nothing but room
+pub kept_first : (o : Origin) (h : List Entry) → h ≡ [] → FitsSteps o.endpoints o.steps → 1 ≤ o.workers → IsKeptBy o h Open (replicate o.workers false)
+kept_first o h none fits some = record {
+  owned = subst (All (IsMadeByOwner o.workers o.endpoints)) (sym none) (All-nil (IsMadeByOwner o.workers o.endpoints));
+  within = (let zero : length h ≡ 0 = ap length none in omega (arith, zero));
+  fits = fits;
+  some_worker = some;
+  progress = tt;
+  each = length-replicate o.workers false;
+  ended = λ w at. absurd (no_mark o.workers w at);
+}
 
-abbrev same_view : (old new : NetworkView) → IsSame old new → NetworkView
-same_view old new s = record { endpoints = old.endpoints; capacity = old.capacity; state = old.state; history = old.history; reserved = new.reserved; stopped = old.stopped }
+-- ---- the history goes on
 
-same_path : (old new : NetworkView) (s : IsSame old new) → same_view old new s ≡ new
-same_path old new s = λ i. record { endpoints = sym s.endpoints i; capacity = sym s.capacity i; state = sym s.state i; history = sym s.history i; reserved = new.reserved; stopped = sym s.stopped i }
+pub no_more : (xs ys zs : List Entry) → zs ≡ xs ++ ys → length zs ≤ length xs → zs ≡ xs
+no_more xs [] zs is le = is ∙ append-nil xs
+no_more xs (y ∷ ys) zs is le = absurd (let long : length zs ≡ length xs + length (y ∷ ys) = ap length is ∙ length-append xs (y ∷ ys) in omega (arith, long, le))
 
-pub kept_same : (hosts : Hosts) (workers steps : ℕ) (old new : NetworkView) → IsSame old new → IsKept (shared old hosts workers steps) → IsKept (shared new hosts workers steps)
-kept_same hosts workers steps old new s k = subst (λ (v : NetworkView). IsKept (shared v hosts workers steps)) (same_path old new s) (record {
-  run = k.run;
-  owned = k.owned;
-  within = k.within;
-  fits = record { sid = k.fits.sid; machines = k.fits.machines };
-  few = k.few;
+abbrev pub origin : OfficeView → ℕ → ℕ → Origin
+origin v workers steps = record { endpoints = v.endpoints; hosts = v.hosts; capacity = v.capacity; workers = workers; steps = steps }
+
+pub same_origin : (g : Share) (v w : OfficeView) (workers steps : ℕ) → Adds g v w → origin v workers steps ≡ origin w workers steps
+same_origin g v w workers steps a = λ i. record { endpoints = sym a.endpoints i; hosts = sym a.hosts i; capacity = sym a.capacity i; workers = workers; steps = steps }
+
+pub kept_grown : (g : Share) (v w : OfficeView) (workers steps : ℕ) (marks : List Bool) → Adds g v w → g.workers ≡ workers → length w.history ≤ steps → IsKeptBy (origin v workers steps) v.history Open marks → IsKeptBy (origin w workers steps) w.history Open marks
+kept_grown g v w workers steps marks a own within k = subst (λ (o : Origin). IsKeptBy o w.history Open marks) (same_origin g v w workers steps a) (record {
+  owned = subst (λ n. All (IsMadeByOwner n v.endpoints) w.history) own (adds_owned g v w a (subst (λ n. All (IsMadeByOwner n v.endpoints) v.history) (sym own) k.owned));
+  within = within;
+  fits = k.fits;
   some_worker = k.some_worker;
+  progress = tt;
+  each = k.each;
+  ended = λ m at.
+      let e : HasEndedBy (origin v workers steps) v.history m = k.ended m at in
+      let full = e.0 in
+      let same : w.history ≡ v.history = no_more v.history a.entries w.history a.history (omega (arith, full, within)) in
+      subst (λ (h : List Entry). HasEndedBy (origin v workers steps) h m) (sym same) e;
 })
 
--- a network that is stopped is otherwise the same
-pub kept_stopped : (hosts : Hosts) (workers steps : ℕ) (old new : NetworkView) → new ≡ record old { stopped = true } → IsKept (shared old hosts workers steps) → IsKept (shared new hosts workers steps)
-kept_stopped hosts workers steps old new is k = subst (λ (v : NetworkView). IsKept (shared v hosts workers steps)) (sym is) (record {
-  run = k.run;
+-- ---- what is found
+
+pub kept_found : (o : Origin) (h : List Entry) (was found : Progress) (marks : List Bool) → IsProgress o h found → IsKeptBy o h was marks → IsKeptBy o h found marks
+kept_found o h was found marks is k = record { owned = k.owned; within = k.within; fits = k.fits; some_worker = k.some_worker; progress = is; each = k.each; ended = k.ended }
+
+set_mark : (marks : List Bool) (w m : ℕ) → slice_get (slice_set marks w true) m ≡ Some true → m ≢ w → slice_get marks m ≡ Some true
+set_mark marks w m at other = sym (get_set_other marks w m true other) ∙ at
+
+pub kept_marked : (o : Origin) (h : List Entry) (was : Progress) (marks : List Bool) (w : ℕ) → HasEndedBy o h w → IsKeptBy o h was marks → IsKeptBy o h was (slice_set marks w true)
+kept_marked o h was marks w has k = record {
   owned = k.owned;
   within = k.within;
-  fits = record { sid = k.fits.sid; machines = k.fits.machines };
-  few = k.few;
+  fits = k.fits;
   some_worker = k.some_worker;
-})
-
--- ---- one event more
-
-module _ (hosts : Hosts) (workers steps : ℕ) (old new : NetworkView) (p worker : ℕ) (s : HasSteppedBy worker hosts old p new) where
-  abbrev entry : Entry
-  entry = record { worker = worker; event = s.event }
-
-  abbrev next_view : NetworkView
-  next_view = record { endpoints = old.endpoints; capacity = old.capacity; state = s.state; history = old.history ++ entry ∷ []; reserved = new.reserved; stopped = old.stopped }
-
-  next_path : next_view ≡ new
-  next_path = λ i. record { endpoints = sym s.becomes.endpoints i; capacity = sym s.becomes.capacity i; state = sym s.becomes.state i; history = sym s.becomes.history i; reserved = new.reserved; stopped = sym s.becomes.stopped i }
-
-  kept_next : length old.history < steps → p < length old.state.machines → owner workers p ≡ worker → EachStands old.endpoints old.state → HasGrown old next_view → IsKept (shared old hosts workers steps) → IsKept (shared next_view hosts workers steps)
-  kept_next before there owned stands grown k =
-      let e : Endpoints = old.endpoints in
-      let events : events_of (old.history ++ entry ∷ []) ≡ events_of old.history ++ s.event ∷ [] = map-append (λ (x : Entry). x.event) old.history (entry ∷ []) in
-      let count : length (old.history ++ entry ∷ []) ≡ length old.history + 1 = length-append old.history (entry ∷ []) in
-      let left : ℕ = steps - length (old.history ++ entry ∷ []) in
-      let whole : steps - length old.history ≡ 1 + left = omega arith in
-      let by_one : HasGrownBy 1 old next_view = record { sid = grown.sid; machines = (let m = grown.machines in omega arith) } in
-      let stand = stands p there in
-      record {
-        run = subst (λ (h : List Event). NetworkLeads e hosts old.capacity (first_state e) h s.state) (sym events)
-            (leads_on e hosts old.capacity (events_of old.history) s.event (first_state e) old.state s.state k.run (chooses_steps e hosts old.capacity old.state p s.event s.state s.chooses));
-        owned = All-push (IsMadeByOwner workers e) old.history entry k.owned (chooser_any (λ q. owner workers q ≡ worker) e hosts old.capacity old.state p s.event s.state stand.0 stand.1 s.chooses owned);
-        within = omega arith;
-        fits = fits_left old next_view 1 left refl by_one (subst (FitsMore old) whole k.fits);
-        few = k.few;
-        some_worker = k.some_worker;
-      }
-
-  pub kept_more : length old.history < steps → p < length old.state.machines → owner workers p ≡ worker → EachStands old.endpoints old.state → HasGrown old new → IsKept (shared old hosts workers steps) → IsKept (shared new hosts workers steps)
-  kept_more before there owned stands grown k =
-      subst (λ (v : NetworkView). IsKept (shared v hosts workers steps)) next_path (kept_next before there owned stands (subst (λ (v : NetworkView). HasGrown old v) (sym next_path) grown) k)
-
-  alone : AllBy worker (entry ∷ [])
-  alone zero x h = ap (λ (y : Entry). y.worker) (sym (some-injective entry x h))
-  alone (suc j) x h = absurd (some-ne-none x (sym h))
-
-  pub goes_more : GoesOnBy worker (shared old hosts workers steps) (shared new hosts workers steps)
-  goes_more = record {
-    origin = λ i. record { endpoints = s.becomes.endpoints i; hosts = hosts; capacity = s.becomes.capacity i; workers = workers; steps = steps };
-    history = (entry ∷ [], s.becomes.history, alone);
-  }
-
--- ---- a step
-
-module _ (functions : List Function) (hosts : Hosts) (workers steps : ℕ) (old new : NetworkView) (p worker : ℕ) (known : hosts ≡ hosts_in old.endpoints.names functions) where
-  pub kept_by : (r : Step) → AnswersBy worker (hosts_in old.endpoints.names functions) old p r new → length old.history < steps → p < length old.state.machines → owner workers p ≡ worker → EachStands old.endpoints old.state → IsKept (shared old hosts workers steps) → IsKept (shared new hosts workers steps)
-  kept_by step.Did a before there owned stands k = kept_more hosts workers steps old new p worker (subst (λ (table : Hosts). HasSteppedBy worker table old p new) (sym known) a.1) before there owned stands a.2 k
-  kept_by (step.Waits why) a before there owned stands k = kept_same hosts workers steps old new a.1 k
-  kept_by step.Ended a before there owned stands k = kept_same hosts workers steps old new a.1 k
-  kept_by step.Memory a before there owned stands k = kept_same hosts workers steps old new a.2 k
-
-  pub goes_by : AnswersBy worker (hosts_in old.endpoints.names functions) old p step.Did new → GoesOnBy worker (shared old hosts workers steps) (shared new hosts workers steps)
-  goes_by a = goes_more hosts workers steps old new p worker (subst (λ (table : Hosts). HasSteppedBy worker table old p new) (sym known) a.1)
-
--- ---- tries
-
-no_entry : (worker : ℕ) → AllBy worker []
-no_entry worker k x h = absurd (some-ne-none x (sym h))
-
-pub goes_same : (worker : ℕ) (old new : RunView) → IsSameRun old new → GoesOnBy worker old new
-goes_same worker old new s = record {
-  origin = λ i. record { endpoints = s.network.endpoints i; hosts = s.hosts i; capacity = s.network.capacity i; workers = s.workers i; steps = s.steps i };
-  history = ([], s.network.history ∙ sym (append-nil old.network.history), no_entry worker);
+  progress = k.progress;
+  each = length-set marks w true ∙ k.each;
+  ended = λ m at. dite (ℕ_discrete m w)
+      (λ is. subst (HasEndedBy o h) (sym is) has)
+      (λ other. k.ended m (set_mark marks w m at other));
 }
 
-pub same_twice : (a b c : RunView) → IsSameRun a b → IsSameRun b c → IsSameRun a c
-same_twice a b c s t = record {
-  network = record {
-    endpoints = t.network.endpoints ∙ s.network.endpoints;
-    capacity = t.network.capacity ∙ s.network.capacity;
-    state = t.network.state ∙ s.network.state;
-    history = t.network.history ∙ s.network.history;
-    stopped = t.network.stopped ∙ s.network.stopped;
-    room = λ p h. t.network.room p (s.network.room p h);
-  };
-  hosts = t.hosts ∙ s.hosts;
-  workers = t.workers ∙ s.workers;
-  steps = t.steps ∙ s.steps;
-}
+module _ (v : OfficeView) (workers steps : ℕ) (c : CrewView) where
+  pub found_ended : FindsOut steps v c found.Ended → IsClosedBy (origin v workers steps) v.history closing.Ended
+  found_ended f n after = ended (f n after)
 
-pub goes_later : (worker : ℕ) (a b c : RunView) → IsSameRun a b → GoesOnBy worker b c → GoesOnBy worker a c
-goes_later worker a b c s g = record {
-  origin = g.origin ∙ (goes_same worker a b s).origin;
-  history = (g.history.0, g.history.1 ∙ ap (λ (es : List Entry). es ++ g.history.0) s.network.history, g.history.2);
-}
+  pub found_stuck : (p : ℕ) (why : Why) → FindsOut steps v c (found.Stuck p why) → IsClosedBy (origin v workers steps) v.history (closing.Stuck p why)
+  found_stuck p why f n after = let s = f.1 n after in stuck f.0 s.0 s.1
 
-pub tries_later : (worker : ℕ) (a b c : RunView) (r : Tried) → IsSameRun a b → Tries worker b r c → Tries worker a r c
-tries_later worker a b c (Did p) s t = goes_later worker a b c s t
-tries_later worker a b c Waits s t = same_twice a b c s t
-tries_later worker a b c Memory s t = same_twice a b c s t
+  pub found_limit : FindsOut steps v c (found.Full false) → IsClosedBy (origin v workers steps) v.history closing.Limit
+  found_limit f n after = limit (f.1 n after) f.0
 
-pub same_self : (a : RunView) → IsSameRun a a
-same_self a = record { network = record { endpoints = refl; capacity = refl; state = refl; history = refl; stopped = refl; room = λ p h. h }; hosts = refl; workers = refl; steps = refl }
+  pub found_done : c.share.workers ≡ workers → FindsOut steps v c (found.Full true) → HasEndedBy (origin v workers steps) v.history c.share.worker
+  found_done own f = (f.0, λ n after i m at. f.1 n after i m (subst (λ k. slice_get n.machines (i * k + c.share.worker) ≡ Some m) (sym own) at))
 
-pub tries_goes : (worker : ℕ) (a b : RunView) (r : Tried) → Tries worker a r b → GoesOnBy worker a b
-tries_goes worker a b (Did p) t = t
-tries_goes worker a b Waits t = goes_same worker a b t
-tries_goes worker a b Memory t = goes_same worker a b t
+-- ---- all workers
 
--- ---- a run that is closed
+marked : (marks : List Bool) (w : ℕ) → All (λ b. b ≡ true) marks → w < length marks → slice_get marks w ≡ Some true
+marked [] w all lt = absurd (omega (arith, lt))
+marked (b ∷ bs) zero all lt = ap (λ x. Some x) (all 0 b (omega arith))
+marked (b ∷ bs) (suc w) all lt = marked bs w (λ i d le. all (suc i) d (omega (arith, le))) (omega (arith, lt))
 
-pub run_by : (v : RunView) (entries : List Entry) (close : Close) → IsKept v → entries ≡ v.network.history → Closes v.network.endpoints v.network.capacity v.steps v.network.state (length v.network.history) close
-    → IsRunBy v.workers v.steps v.network.capacity v.network.endpoints v.hosts entries close
-run_by v entries close k history closes =
-    subst (λ (h : List Entry). IsRunBy v.workers v.steps v.network.capacity v.network.endpoints v.hosts h close) (sym history)
-    (record { last = v.network.state; run = k.run; within = k.within; owned = k.owned; closes = closes })
+pub all_marked : (o : Origin) (h : List Entry) (was : Progress) (marks : List Bool) → IsKeptBy o h was marks → All (λ b. b ≡ true) marks → IsClosedBy o h closing.Ended
+all_marked o h was marks k all n after =
+    let some = k.some_worker in
+    let each = k.each in
+    ended (all_of_workers o.endpoints n.machines o.workers (omega (arith, some)) (λ w lt i m at. (k.ended w (marked marks w all (omega (arith, lt, each)))).1 n after i m at))
+
+-- ---- what is told
+
+pub found_in : (v u : RunView) (c : CrewView) (t s : Turned) → v ≡ u → t ≡ s → FindsOut u.steps u.office c t → FindsOut v.steps v.office c s
+found_in v u c t s same is f = subst (λ (w : RunView). FindsOut w.steps w.office c s) (sym same) (subst (λ (x : Turned). FindsOut u.steps u.office c x) is f)
+
+pub report_of : (v : RunView) (entries : List Entry) (closed : Closing) (n : NetworkState) → entries ≡ history_of v → IsKept v → LeadsTo (origin_of v) entries n → IsClosedBy (origin_of v) (history_of v) closed
+    → IsRunBy v.workers v.steps v.office.capacity v.office.endpoints v.office.hosts entries (close_of closed)
+report_of v entries closed n same k leads closes =
+    let here : LeadsTo (origin_of v) (history_of v) n = subst (λ (h : List Entry). LeadsTo (origin_of v) h n) same leads in
+    subst (λ (h : List Entry). IsRunBy v.workers v.steps v.office.capacity v.office.endpoints v.office.hosts h (close_of closed)) (sym same)
+    (record { last = n; run = here; within = k.within; owned = k.owned; closes = closes n here })

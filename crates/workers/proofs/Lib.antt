@@ -1,4 +1,4 @@
 pub mod Takes
-pub mod Made
 pub mod Kept
+pub mod Following
 pub mod Crossing

@@ -1,63 +1,64 @@
--- What contracts see of the run of a network that workers share.
-use Rattle.std.specs.Prelude.{ℕ, ◌≡◌, ◌≤◌, ◌-◌, List, length, All}
+-- What contracts see of a run that workers share.
+use Rattle.std.specs.Prelude.{ℕ, ◌≡◌, ◌≤◌, ◌+◌, ◌*◌, Bool, true, List, length, Some, slice_get, All}
 use Rattle.chor_base.specs.declared.event.Entry.{Entry}
-use Rattle.chor_base.specs.Meaning.{Hosts}
-use Rattle.chor_host.specs.Functions.{Function, names_of, hosts_in}
-use Rattle.endpoint_code.specs.Faults.{AsksKnown, is_listed}
-use Rattle.endpoint_code.specs.NetworkRuns.{IsNetworkRun}
-use Rattle.post_office.specs.Views.{events_of}
-use Rattle.net_core.specs.Views.{NetworkView, IsSame}
-use Rattle.net_core.specs.Steps.{FitsMore}
-use Rattle.workers.specs.declared.origin.Origin.{Origin}
-use Rattle.workers.specs.declared.run.Tried.{Tried}
-use Rattle.workers.specs.declared.run.Tried.TheVariants.{Did, Waits, Memory}
+use Rattle.endpoint_code.specs.Network.{Machine, NetworkState}
+use Rattle.endpoint_code.specs.NetworkRuns.{has_ended}
+use Rattle.endpoint_code.specs.Scheduled.{Closes}
+use Rattle.endpoint_runs.specs.declared.run.Closed.{Closed as Closing}
+use Rattle.endpoint_runs.specs.Runs.{close_of}
 use Rattle.post_office.specs.Owners.{IsMadeByOwner}
-use Rattle.workers.specs.Turns.{GoesOn}
+use Rattle.post_office.specs.Views.{OfficeView}
+use Rattle.crew.specs.Turns.{FitsSteps}
+use Rattle.workers.specs.declared.origin.Origin.{Origin}
+use Rattle.workers.specs.declared.run.Task.{Task}
+use Rattle.workers.specs.declared.run.Progress.{Progress}
+use Rattle.workers.specs.declared.run.Progress.TheVariants.{Open, Closed, Memory}
+use Rattle.workers.specs.Turns.{LeadsTo}
 
--- the network, what its host functions may answer, the number of workers, and how many events are asked for
+-- The office, the number of workers, and how many events are asked for. Then what workers have found of the run, and of each
+-- worker whether all its processes have ended at the end of a run of as many events
 pub record RunView : Type 0 where
-  pub network : NetworkView
-  pub hosts : Hosts
+  pub office : OfficeView
   pub workers : ℕ
   pub steps : ℕ
+  pub progress : Progress
+  pub ended : List Bool
 
 -- where a run comes from: all that never changes
 abbrev pub origin_of : RunView → Origin
-origin_of v = record { endpoints = v.network.endpoints; hosts = v.hosts; capacity = v.network.capacity; workers = v.workers; steps = v.steps }
-
--- these host functions are those of the origin, and its programs ask no others
-pub record Suits (functions : List Function) (o : Origin) : Type 0 where
-  pub hosts : o.hosts ≡ hosts_in o.endpoints.names functions
-  pub asks : AsksKnown (is_listed (names_of functions) o.endpoints) o.endpoints
+origin_of v = record { endpoints = v.office.endpoints; hosts = v.office.hosts; capacity = v.office.capacity; workers = v.workers; steps = v.steps }
 
 abbrev pub history_of : RunView → List Entry
-history_of v = v.network.history
+history_of v = v.office.history
 
--- The history is a run of the origin, which has led to the network's state, and has no more events than asked for, each made by
--- the worker that owns a process which makes it. The events still asked for fit
-pub record IsKept (v : RunView) : Type 0 where
-  pub run : IsNetworkRun v.network.endpoints v.hosts v.network.capacity (events_of v.network.history) v.network.state
-  pub owned : All (IsMadeByOwner v.workers v.network.endpoints) v.network.history
-  pub within : length v.network.history ≤ v.steps
-  pub fits : FitsMore v.network (v.steps - length v.network.history)
-  pub few : v.steps ≤ 1000000
-  pub some_worker : 1 ≤ v.workers
+-- the state after these entries closes the run so
+abbrev pub IsClosedBy : Origin → List Entry → Closing → Type 0
+IsClosedBy o h closed = (n : NetworkState) → LeadsTo o h n → Closes o.endpoints o.capacity o.steps n (length h) (close_of closed)
 
--- nothing has changed but room
-pub record IsSameRun (old new : RunView) : Type 0 where
-  pub network : IsSame old.network new.network
-  pub hosts : new.hosts ≡ old.hosts
-  pub workers : new.workers ≡ old.workers
-  pub steps : new.steps ≡ old.steps
+-- what was found of the run is true after these entries
+abbrev pub IsProgress : Origin → List Entry → Progress → Type 0
+IsProgress o h Open = Unit {0}
+IsProgress o h (Closed closed) = IsClosedBy o h closed
+IsProgress o h Memory = Unit {0}
 
--- the history has grown by events of one worker, if by any
-pub record GoesOnBy (worker : ℕ) (old new : RunView) : Type 0 where
-  pub origin : origin_of new ≡ origin_of old
-  pub history : GoesOn worker old.network.history new.network.history
+-- there are as many entries as asked for, and all processes of this worker have ended, which is counted from 0
+abbrev pub HasEndedBy : Origin → List Entry → ℕ → Type 0
+HasEndedBy o h w = (length h ≡ o.steps) × ((n : NetworkState) → LeadsTo o h n → (i : ℕ) (m : Machine) → slice_get n.machines (i * o.workers + w) ≡ Some m → has_ended o.endpoints m ≡ true)
 
--- What a try at processes of a worker answers: one of them made its event; or none can make one, and nothing has changed but
--- room; or memory ran out
-abbrev pub Tries : ℕ → RunView → Tried → RunView → Type 0
-Tries worker old (Did p) new = GoesOnBy worker old new
-Tries worker old Waits new = IsSameRun old new
-Tries worker old Memory new = IsSameRun old new
+-- Each entry is of the worker that owns a process which makes its event, and there are no more than asked for. What was found
+-- is true, also of each worker that is marked as ended
+pub record IsKeptBy (o : Origin) (h : List Entry) (found : Progress) (marks : List Bool) : Type 0 where
+  pub owned : All (IsMadeByOwner o.workers o.endpoints) h
+  pub within : length h ≤ o.steps
+  pub fits : FitsSteps o.endpoints o.steps
+  pub some_worker : 1 ≤ o.workers
+  pub progress : IsProgress o h found
+  pub each : length marks ≡ o.workers
+  pub ended : (w : ℕ) → slice_get marks w ≡ Some true → HasEndedBy o h w
+
+abbrev pub IsKept : RunView → Type 0
+IsKept v = IsKeptBy (origin_of v) (history_of v) v.progress v.ended
+
+-- a run by its parts
+abbrev pub run_of : OfficeView → Task → Progress → List Bool → RunView
+run_of office task progress ended = record { office = office; workers = task.workers; steps = task.steps; progress = progress; ended = ended }

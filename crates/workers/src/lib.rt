@@ -1,14 +1,18 @@
-//! Workers that run the network of endpoint programs together, each in its turn.
+//! Workers that run the network of endpoint programs together. Each makes the local events of its own
+//! processes by itself, and all others in its turn.
 #![tactic(auto)]
 
-mod crew;
-mod desk;
+mod bells;
+mod desks;
+mod next;
 mod origin;
-mod owner;
+mod programs;
 mod run;
 mod running;
-mod shared;
-mod work;
+mod seats;
+mod side_by_side;
+mod turns;
+mod worker;
 
 pub use origin::Origin;
 pub use run::Task;

@@ -1,23 +1,23 @@
-//! The run of a network that workers share.
+//! The run that workers share.
 
-ghost use Rattle.std.specs.Prelude.{◌≡◌, ◌<◌, ◌≤◌, [], length, IfOk};
+ghost use Rattle.std.specs.Prelude.{◌≡◌, ◌<◌, ◌≤◌, ◌^◌, [], true, false, length, IfOk, List as AnyList};
 ghost use Rattle.chor_host.specs.Functions.{names_of, hosts_in};
 ghost use Rattle.chor_host.specs.Tables.{functions_of};
-ghost use Rattle.endpoint_code.specs.Faults.{IsFaultlessWith};
-ghost use Rattle.endpoint_code.specs.Scheduled.{Closes};
-ghost use Rattle.endpoint_runs.specs.Runs.{close_of};
-ghost use Rattle.post_office.specs.Owners.{owner};
-ghost use Rattle.workers.specs.Views.{origin_of, Suits, IsKept, GoesOnBy, Tries};
+ghost use Rattle.endpoint_code.specs.Faults.{IsFaultless};
+ghost use Rattle.endpoint_code.specs.Network.{NetworkState};
+ghost use Rattle.crew.specs.Turns.{FindsOut};
+ghost use Rattle.workers.specs.Turns.{LeadsTo};
+ghost use Rattle.workers.specs.Views.{origin_of, history_of, IsClosedBy, IsKept};
 
+use crate::next::{Next, Shared};
 use crate::origin::Origin;
-use crate::owner::owner;
-use crate::shared::{Shared, Turned};
-use chor_base::{Entry, List, Meaning, Memory, NameId};
+use chor_base::{Entry, List, Memory};
 use chor_host::HostTable;
+use crew::{Crew, Turned};
 use endpoint_code::Endpoints;
 use endpoint_runs::Closed;
-use net_core::{Network, Picked, Step, are_few};
-use post_office::known_hosts;
+use net_core::are_few;
+use post_office::Office;
 use std::alloc::Global;
 use std::marker::Model;
 use turn_lock::Told;
@@ -29,29 +29,30 @@ pub struct Task {
     pub steps: u64,
 }
 
-/// What became of a try at processes.
-#[derive(Clone, Copy, PartialEq, Eq)]
-pub enum Tried {
-    /// The process of this number made its event.
-    Did(u32),
-    /// None can make one.
-    Waits,
-    /// Memory ran out before an event was made.
+/// What workers have found of a run.
+#[derive(Clone, Copy)]
+pub enum Progress {
+    /// It may go on.
+    Open,
+    /// It is closed so.
+    Closed(Closed),
+    /// One of them ran out of memory.
     Memory,
 }
 
-/// The run of a network that workers make together. Its events so far are a run from the first state,
-/// and each has the worker that owns its process.
+/// The run of a network that workers make together: the office, in which its events so far are, and what
+/// the workers have found.
 #[derive(Drop)]
 pub struct SharedRun<'a> {
-    network: Network<'a>,
-    // What the host functions may answer, by the numbers of their names.
-    hosts: Vec<(NameId, Meaning)>,
+    office: Office<'a>,
     task: Task,
+    progress: Progress,
+    // Of each worker whether all its processes have ended, at the end of a run of as many events as asked for.
+    ended: Vec<bool>,
 }
 
 impl<'a> Model for SharedRun<'a> {
-    ghost use Rattle.workers.specs.Views.{RunView, IsKept};
+    ghost use Rattle.workers.specs.Views.{RunView, run_of, IsKept};
 
     ghost Value = { RunView };
 
@@ -61,9 +62,9 @@ impl<'a> Model for SharedRun<'a> {
 
     ghost coded = { Prim.hlevel (codes, whole.the_row.coded, fin.code) };
 
-    ghost view = { λ a. record { network = a.network; hosts = a.hosts.items; workers = a.task.workers; steps = a.task.steps } };
+    ghost view = { λ a. run_of a.office a.task a.progress a.ended.items };
 
-    ghost invariant = { λ a. IsKept (record { network = a.network; hosts = a.hosts.items; workers = a.task.workers; steps = a.task.steps }) };
+    ghost invariant = { λ a. IsKept (run_of a.office a.task a.progress a.ended.items) };
 }
 
 impl Told for SharedRun<'_> {
@@ -77,8 +78,7 @@ impl Told for SharedRun<'_> {
 }
 
 impl<'a> SharedRun<'a> {
-    /// The first state, and no event yet. Where numbers of processes could reach 2^32 it answers want
-    /// of memory.
+    /// No event yet. Where numbers of processes could reach 2^32 it answers want of memory.
     pub fn new(
         alloc: Global,
         endpoints: &'a Endpoints,
@@ -86,138 +86,118 @@ impl<'a> SharedRun<'a> {
         capacity: Option<u32>,
         task: Task,
     ) -> Result<SharedRun<'a>, Memory>
-        requires faultless { IsFaultlessWith (names_of (functions_of hosts.now)) endpoints.now }
+        requires faultless { IsFaultless endpoints.now }
         requires workers { 1 ≤ task.workers }
         requires few { task.steps ≤ 1000000 }
-        ensures endpoints { IfOk result (λ run. run.network.endpoints ≡ endpoints.now) }
-        ensures capacity { IfOk result (λ run. run.network.capacity ≡ capacity) }
-        ensures hosts { IfOk result (λ run. run.hosts ≡ hosts_in endpoints.now.names (functions_of hosts.now)) }
+        ensures endpoints { IfOk result (λ run. run.office.endpoints ≡ endpoints.now) }
+        ensures capacity { IfOk result (λ run. run.office.capacity ≡ capacity) }
+        ensures hosts { IfOk result (λ run. run.office.hosts ≡ hosts_in endpoints.now.names (functions_of hosts.now)) }
         ensures task { IfOk result (λ run. (run.workers ≡ task.workers) × (run.steps ≡ task.steps)) }
-        ensures history { IfOk result (λ run. run.network.history ≡ []) }
+        ensures history { IfOk result (λ run. run.office.history ≡ []) }
+        ensures processes { IfOk result (λ run. length endpoints.now.processes < 2 ^ 32) }
     {
-        if !are_few(endpoints, task.steps as usize) {
+        if !are_few(endpoints, task.steps as usize + 1) {
             return Err(Memory);
         }
-        let hosts = known_hosts(alloc, &endpoints.names, hosts)?;
-        let network = Network::new(alloc, endpoints, capacity)?;
+        let office = Office::new(alloc, endpoints, hosts, capacity)?;
+        let ended = vec![in alloc; false; task.workers as usize]?;
         Ok(SharedRun {
-            network,
-            hosts,
+            office,
             task,
+            progress: Progress::Open,
+            ended,
         })
     }
 
-    // How many events there are.
-    fn events(&self) -> u64
-        ensures { result ≡ length self.now.network.history }
+    // Whether the run is closed, or a worker ran out of memory.
+    fn is_over(&self) -> bool
+        ensures { result ≡ false → self.now.progress ≡ Progress.Open }
     {
-        self.network.history().len() as u64
-    }
-
-    // Makes the event of a process that a worker owns, if the process can make one.
-    fn try_process(&mut self, worker: u32, pid: u32, hosts: &HostTable) -> Tried
-        requires there { pid < length self.old.network.state.machines }
-        requires owned { owner self.old.workers pid ≡ worker }
-        requires before { length self.old.network.history < self.old.steps }
-        requires hosts { Suits (functions_of hosts.now) (origin_of self.old) }
-        ensures { Tries worker self.old result self.new }
-    {
-        // that each process stands at a node
-        let _count = self.network.count();
-        match self.network.step_as(worker, pid, hosts) {
-            Step::Did => Tried::Did(pid),
-            Step::Waits(_) => Tried::Waits,
-            Step::Ended => Tried::Waits,
-            Step::Memory => Tried::Memory,
+        match self.progress {
+            Progress::Open => false,
+            Progress::Closed(_) | Progress::Memory => true,
         }
     }
 
-    // Tries the processes that a worker owns, from a number on up to below another, until one makes
-    // its event.
-    fn try_among(&mut self, worker: u32, from: u32, to: u32, hosts: &HostTable) -> Tried
-        requires there { to ≤ length self.old.network.state.machines }
-        requires before { length self.old.network.history < self.old.steps }
-        requires hosts { Suits (functions_of hosts.now) (origin_of self.old) }
-        ensures { Tries worker self.old result self.new }
+    // Takes down what a worker has found.
+    fn settle(&mut self, crew: &Crew, turned: Turned) -> Next
+        requires finds { FindsOut self.old.steps self.old.office crew.now turned }
+        requires workers { crew.now.share.workers ≡ self.old.workers }
+        ensures office { self.new.office ≡ self.old.office }
+        ensures task { (self.new.workers ≡ self.old.workers) × (self.new.steps ≡ self.old.steps) }
     {
-        for pid in from..to {
-            if owner(self.task.workers, pid) == worker {
-                match self.try_process(worker, pid, hosts) {
-                    Tried::Waits => {}
-                    tried => return tried,
-                }
+        match turned {
+            Turned::Going => return Next::Goes,
+            Turned::Resting => return Next::Waits,
+            Turned::Ended => self.progress = Progress::Closed(Closed::Ended),
+            Turned::Stuck(pid, why) => self.progress = Progress::Closed(Closed::Stuck(pid, why)),
+            Turned::Full(false) => self.progress = Progress::Closed(Closed::Limit),
+            Turned::Full(true) => self.ended[crew.worker() as usize] = true,
+        }
+        Next::Ends
+    }
+
+    // Whether each worker is marked: all its processes have ended.
+    fn all_ended(&self) -> bool
+        ensures { result ≡ true → IsClosedBy (origin_of self.now) (history_of self.now) Closed.Ended }
+    {
+        for ended in &self.ended {
+            if !*ended {
+                return false;
             }
         }
-        Tried::Waits
+        true
     }
 
-    // Tries all processes that a worker owns, from a number on and then those before it.
-    fn try_all(&mut self, worker: u32, next: u32, hosts: &HostTable) -> Tried
-        requires before { length self.old.network.history < self.old.steps }
-        requires hosts { Suits (functions_of hosts.now) (origin_of self.old) }
-        ensures { Tries worker self.old result self.new }
-    {
-        let count = self.network.count();
-        let from = next.min(count);
-        match self.try_among(worker, from, count, hosts) {
-            Tried::Waits => self.try_among(worker, 0, from, hosts),
-            tried => tried,
-        }
-    }
-
-    // What a worker does none of whose processes can make an event.
-    fn rest(&self) -> Turned {
-        match self.network.closed(self.task.steps) {
-            Some(_) => Turned::Over,
-            None => Turned::Waits,
-        }
-    }
-
-    /// How the run is closed. One that was stopped before it was closed answers that memory ran out.
+    /// How the run is closed. At as many events as asked for it has ended where all workers' processes
+    /// have. One that was stopped before it was closed answers that memory ran out.
     pub fn close(&self) -> Result<Closed, Memory>
-        ensures { IfOk result (λ closed. Closes self.now.network.endpoints self.now.network.capacity self.now.steps self.now.network.state (length self.now.network.history) (close_of closed)) }
+        ensures { IfOk result (IsClosedBy (origin_of self.now) (history_of self.now)) }
     {
-        match self.network.closed(self.task.steps) {
-            Some(Picked::Ended) => Ok(Closed::Ended),
-            Some(Picked::Limit) => Ok(Closed::Limit),
-            Some(Picked::Stuck(pid, why)) => Ok(Closed::Stuck(pid, why)),
-            Some(Picked::Memory) => unreachable!(),
-            None => Err(Memory),
+        match self.progress {
+            Progress::Closed(closed) => Ok(closed),
+            Progress::Memory => Err(Memory),
+            Progress::Open => if self.all_ended() {
+                Ok(Closed::Ended)
+            } else {
+                Err(Memory)
+            },
         }
     }
 
-    /// The events, of a run of which no more are made.
-    pub fn into_history(self) -> List<Entry>
-        ensures history { result ≡ self.entry.network.history }
-        ensures kept { IsKept self.entry }
+    /// The events.
+    pub fn entries(&self, alloc: Global) -> Result<List<Entry>, Memory>
+        ensures entries { IfOk result (λ entries. entries ≡ history_of self.now) }
+        ensures run { IfOk result (λ entries. (n : NetworkState) × LeadsTo (origin_of self.now) entries n) }
+        ensures kept { IsKept self.now }
     {
-        let SharedRun {
-            network,
-            hosts: _,
-            task: _,
-        } = self;
-        List::from_vec(network.into_history())
+        let history = self.office.history();
+        let mut entries = List::new(alloc);
+        for entry in history {
+            entries.push(entry.copy(alloc)?)?;
+        }
+        Ok(entries)
     }
 }
 
 impl Shared for SharedRun<'_> {
-    ghost use Rattle.workers.specs.Views.{Suits};
+    ghost about = { λ o. o };
 
-    ghost suits = { Suits };
-
-    /// The first process of the worker that can, from the process of this number on and then from the
-    /// first on, makes its event. Where memory runs out, the run is stopped.
-    fn turn(&mut self, worker: u32, next: u32, hosts: &HostTable) -> Turned {
-        if self.network.stopped() || self.events() >= self.task.steps {
-            return Turned::Over;
+    fn turn(&mut self, crew: &mut Crew, endpoints: &Endpoints) -> Next {
+        if self.is_over() {
+            return Next::Ends;
         }
-        match self.try_all(worker, next, hosts) {
-            Tried::Did(pid) => Turned::Went(pid.saturating_add(1)),
-            Tried::Waits => self.rest(),
-            Tried::Memory => {
-                self.network.stop();
-                Turned::Over
+        let alloc = *self.ended.allocator();
+        match crew.turn(alloc, endpoints, &mut self.office, self.task.steps) {
+            Ok(turned) => self.settle(crew, turned),
+            Err(_) => {
+                self.progress = Progress::Memory;
+                Next::Ends
             }
         }
+    }
+
+    fn stop(&mut self) {
+        self.progress = Progress::Memory;
     }
 }
