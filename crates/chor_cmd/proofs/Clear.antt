@@ -36,5 +36,5 @@ module _ (functions : List Function) where
   is_clear (Gen n whole) = tt
   is_clear (Link options) = tt
   is_clear (Order form) = tt
-  is_clear Conform = tt
-  is_clear (Resume options) = tt
+  is_clear Conform = λ bytes. (sources_exclude Views bytes, λ log. tt)
+  is_clear (Resume options) = λ bytes. (sources_exclude All bytes, λ log. tt)

@@ -30,7 +30,7 @@ use Rattle.chor_cmd.specs.Outputs.{usage_line, refused_line, read_fault_line, to
 use Rattle.chor_cmd.specs.Endings.{Told, MayTell, Goes, Ends, usage, read_fault, goes, HasWritten}
 use Rattle.chor_cmd.specs.Calls.{Call, HasEnded}
 use Rattle.chor_cmd.proofs.Written.{written_so}
-use Rattle.chor_cmd.specs.Rows.{Row, Reads, Judges, Writes, Exactly, IsFine, ArePrograms, OfSource, Executes, executes, source_limit, programs_limit, after_source, after_programs, on_source, row_of}
+use Rattle.chor_cmd.specs.Rows.{Row, Reads, Judges, Writes, AtMost, Exactly, IsFine, ArePrograms, OfSource, Executes, executes, source_limit, programs_limit, after_source, after_programs, on_source, row_of}
 use Rattle.chor_cmd.specs.Stops.{HasRead, HasReadFile, HasReadSource, HasReadPrograms, IsNoText, IsUnread, IsStop, AnswersBy, Answers, StopSays, AnswerSays, stop_of}
 
 -- ---- errors
@@ -74,21 +74,21 @@ module _ (limit : ℕ) (before after : ShelfState) (name : List ℕ) where
 
   module _ (names : List (List ℕ)) where
     -- a file that is read next
-    pub stops_reading : (next : List ℕ → Row) (stop : Stop) → IsUnread limit (λ bytes r. ⊥) before after name stop → IsStop (Reads limit next) (name ∷ names) before after stop
+    pub stops_reading : (next : List ℕ → Row) (stop : Stop) → IsUnread limit (λ bytes r. ⊥) before after name stop → IsStop (Reads (AtMost limit) next) (name ∷ names) before after stop
     stops_reading next (Refused r) h = absurd h.2
     stops_reading next (ReadFault w) (is, risen) = ((0, omega arith, sym is), subst (λ (n : List ℕ). Risen (before.faults n) (after.faults n)) (sym is) risen)
-    stops_reading next (TooLarge w) (is, (bytes, told, long)) = (bytes, told, inl (long, (refl, ap too_large_line is)))
+    stops_reading next (TooLarge w) (is, (bytes, told, long)) = (bytes, told, inl (λ few. absurd (omega (arith, few, long)), (refl, ap too_large_line is)))
     stops_reading next Memory h = tt
 
     -- and judged
     module _ (Fine : List ℕ → Type 0) (Broken : List ℕ → Refusal → Type 0) (next : List ℕ → Row) where
       abbrev judging : Row
-      judging = Reads limit (λ bytes. Judges (Fine bytes) (Broken bytes) (next bytes))
+      judging = Reads (AtMost limit) (λ bytes. Judges (Fine bytes) (Broken bytes) (next bytes))
 
       pub stops_judging : (stop : Stop) → IsUnread limit Broken before after name stop → IsStop judging (name ∷ names) before after stop
       stops_judging (Refused r) h = (h.0, h.1.0, inr (h.1.1, inl (r, h.2, (refl, refl))))
       stops_judging (ReadFault w) (is, risen) = ((0, omega arith, sym is), subst (λ (n : List ℕ). Risen (before.faults n) (after.faults n)) (sym is) risen)
-      stops_judging (TooLarge w) (is, (bytes, told, long)) = (bytes, told, inl (long, (refl, ap too_large_line is)))
+      stops_judging (TooLarge w) (is, (bytes, told, long)) = (bytes, told, inl (λ few. absurd (omega (arith, few, long)), (refl, ap too_large_line is)))
       stops_judging Memory h = tt
 
       -- what is made of the files after it

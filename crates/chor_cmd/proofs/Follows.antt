@@ -1,5 +1,5 @@
 -- What follows for a call, whichever file or programs its bytes are the text of.
-use Rattle.std.proofs.Common.{◌≡◌, inl, inr, ℕ, Bool, List, [], ◌∷◌, length, refl, ap, ◌∙◌, subst, arith}
+use Rattle.std.proofs.Common.{◌≡◌, inl, inr, ℕ, Bool, List, [], ◌∷◌, refl, sym, ◌∙◌, subst}
 use Rattle.chor_print.specs.Text.{canonical_text}
 use Rattle.command_words.specs.declared.words.Command.TheVariants.{Fmt, Exec}
 use Rattle.source_check.specs.declared.rules.Rules.TheVariants.{Grammar}
@@ -10,7 +10,7 @@ use Rattle.chor_cmd.specs.declared.status.Status.{Status}
 use Rattle.chor_cmd.specs.declared.status.Status.TheVariants.{Done}
 use Rattle.chor_cmd.specs.Status.{status_of}
 use Rattle.chor_cmd.specs.Endings.{MayTell, Goes}
-use Rattle.chor_cmd.specs.Rows.{OfSource, Executes, executes, row_of}
+use Rattle.chor_cmd.specs.Rows.{AtMost, OfSource, Executes, executes, source_limit, row_of}
 use Rattle.chor_cmd.specs.Follows.{WritesCanonical, KeepsCanonical, ExecutesThese}
 use Rattle.chor_cmd.proofs.SameTexts.{text_alike, text_is_source, text_of_text}
 use Rattle.chor_cmd.proofs.Settles.{same_bytes, grows, by_table}
@@ -27,7 +27,7 @@ keeps_canonical call ended name bytes f i form told few =
     grows call (Goes (MayTell call.shelf.files) (name ∷ []) (row_of call.functions Fmt)) (λ s t. (s ≡ Done) × (t ≡ canonical_text f)) by_way (by_table call ended Fmt (name ∷ []) form)
   where
     by_way : (s : Status) (t : List ℕ) → Goes (MayTell call.shelf.files) (name ∷ []) (row_of call.functions Fmt) s t → (s ≡ Done) × (t ≡ canonical_text f)
-    by_way s t (b, may, inl (long, is)) = absurd (let same = same_bytes call.shelf.files name b (canonical_text f) may told in omega (arith, ap length same, few, long))
+    by_way s t (b, may, inl (long, is)) = absurd (long (subst (AtMost source_limit) (sym (same_bytes call.shelf.files name b (canonical_text f) may told)) few))
     by_way s t (b, may, inr (less, inl (r, unread v none, is))) =
         absurd (text_is_source bytes f i r.rule r.place (subst (λ (y : List ℕ). IsNoSource y r.rule r.place) (same_bytes call.shelf.files name b (canonical_text f) may told) v))
     by_way s t (b, may, inr (less, inl (r, broken k w, is))) = absurd w

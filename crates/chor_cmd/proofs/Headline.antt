@@ -29,7 +29,7 @@ use Rattle.chor_cmd.specs.Runs.{IsAskedRun, TranscriptBy}
 use Rattle.chor_cmd.proofs.AskedRuns.{scheduled_asked, closed_asked}
 use Rattle.chor_cmd.specs.Outputs.{IsRunText, IsReplayOf, replayed_line, unmatched_line}
 use Rattle.chor_cmd.specs.Endings.{MayTell, Tells, Goes}
-use Rattle.chor_cmd.specs.Rows.{Row, Reads, Judges, Closes, IsRefused, programs_limit, events_limit, Executes, executes, Replays, replays, misses, row_of}
+use Rattle.chor_cmd.specs.Rows.{Row, Reads, Judges, Closes, AtMost, IsRefused, programs_limit, events_limit, Executes, executes, Replays, replays, misses, row_of}
 use Rattle.chor_cmd.specs.Calls.{Call, Must, Comes, HasEnded, IsSettled, ReplaySays, IsBrokenFirst, IsBrokenNext, RunsSource, RunsProjected, AcceptsRuns, RefusesBroken}
 use Rattle.chor_cmd.proofs.Replayed.{one_answer}
 use Rattle.chor_cmd.proofs.Settles.{same_bytes, grows, by_table}
@@ -71,7 +71,7 @@ module _ (call : Call) where
       by_way : (options : Options) (name source : List ℕ) (f : File) (e : Endpoints) → AreProjected call.functions source f e → Tells call.shelf.files name (endpoints_text e) → length (endpoints_text e) ≤ programs_limit
           → (s : Status) (t : List ℕ) → Goes (MayTell call.shelf.files) (name ∷ []) (row_of call.functions (Exec options)) s t → (s ≡ Done) × IsRunText call.functions f options t
       by_way options name source f e p told few s t (b, may, inl (long, is)) =
-          absurd (let same = same_bytes call.shelf.files name b (endpoints_text e) may told in omega (arith, ap length same, few, long))
+          absurd (long (subst (AtMost programs_limit) (sym (same_bytes call.shelf.files name b (endpoints_text e) may told)) few))
       by_way options name source f e p told few s t (b, may, inr (less, inl (r, v, is))) =
           absurd (taken call.functions source f e p r (subst (λ (y : List ℕ). ViolatesPrograms (names_of call.functions) y r) (same_bytes call.shelf.files name b (endpoints_text e) may told) v))
       by_way options name source f e p told few s t (b, may, inr (less, inr (fine, x))) =
@@ -111,11 +111,11 @@ module _ (call : Call) where
     refused_by : (row : Row) (name : List ℕ) (names : List (List ℕ)) (bytes : List ℕ) (r : Refusal) → Tells call.shelf.files name bytes → IsBrokenFirst row bytes r → Must (Tells call.shelf.files) (Comes call) (name ∷ names) row → Comes call (IsRefused r)
     refused_by (Closes Says) name names bytes r told b m = absurd b
     refused_by (Judges Fine Broken next) name names bytes r told b m = absurd b
-    refused_by (Reads limit next) name names bytes r told b m = let n = m bytes told in go (next bytes) b.1 (n.1 b.0)
+    refused_by (Reads Fits next) name names bytes r told b m = let n = m bytes told in go (next bytes) b.1 (n.1 b.0)
       where
         go : (row : Row) → IsBrokenNext row r → Must (Tells call.shelf.files) (Comes call) names row → Comes call (IsRefused r)
         go (Judges Fine Broken more) broken m = m.0 r broken
-        go (Reads limit next) broken m = absurd broken
+        go (Reads Fits next) broken m = absurd broken
         go (Closes Says) broken m = absurd broken
 
     pub refuses_broken : RefusesBroken call

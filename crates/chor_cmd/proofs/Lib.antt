@@ -1,6 +1,7 @@
 pub mod Written
 pub mod Fetched
 pub mod Exits
+pub mod ShortLogs
 pub mod AskedRuns
 pub mod RunTexts
 pub mod SameTexts

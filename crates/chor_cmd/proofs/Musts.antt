@@ -1,5 +1,5 @@
 -- What a row may come to is what it comes to, where its judgements exclude each other and the files are told.
-use Rattle.std.proofs.Common.{◌≡◌, ◌<◌, ◌≤◌, inl, inr, ℕ, List, [], ◌∷◌, length, ap, subst, arith}
+use Rattle.std.proofs.Common.{◌≡◌, inl, inr, ℕ, List, [], ◌∷◌, sym, subst}
 use Rattle.chor_base.specs.declared.rule.Refusal.{Refusal}
 use Rattle.chor_cmd.specs.declared.status.Status.{Status}
 use Rattle.chor_cmd.specs.Rows.{Row, Reads, Judges, Closes, IsRefused}
@@ -14,7 +14,7 @@ pub record Excludes (Fine : Type 0) (Broken : Refusal → Type 0) : Type 0 where
 abbrev pub IsClear : Row → Type 0
 IsClear (Closes Says) = Unit {0}
 IsClear (Judges Fine Broken next) = Excludes Fine Broken × IsClear next
-IsClear (Reads limit next) = (bytes : List ℕ) → IsClear (next bytes)
+IsClear (Reads Fits next) = (bytes : List ℕ) → IsClear (next bytes)
 
 -- what is said of an ending follows from what is said of it more exactly
 abbrev pub Grows : ((Status → List ℕ → Type 0) → Type 0) → Type 1
@@ -35,16 +35,16 @@ module _ (May Has : List ℕ → List ℕ → Type 0) (same : (name b d : List �
       to_next : Fine → (s : Status) (t : List ℕ) → Goes May names (Judges Fine Broken next) s t → Goes May names next s t
       to_next fine s t (inl (q, b, is)) = absurd (clear.0.never q fine b)
       to_next fine s t (inr (f, g)) = g
-  must (Reads limit next) [] clear come = tt
-  must (Reads limit next) (name ∷ names) clear come = λ bytes has. (
-    λ long. grows (Goes May (name ∷ names) (Reads limit next)) (IsTooLarge name) (to_long bytes has long) come,
-    λ few. must (next bytes) names (clear bytes) (grows (Goes May (name ∷ names) (Reads limit next)) (Goes May names (next bytes)) (to_next bytes has few) come),
+  must (Reads Fits next) [] clear come = tt
+  must (Reads Fits next) (name ∷ names) clear come = λ bytes has. (
+    λ long. grows (Goes May (name ∷ names) (Reads Fits next)) (IsTooLarge name) (to_long bytes has long) come,
+    λ few. must (next bytes) names (clear bytes) (grows (Goes May (name ∷ names) (Reads Fits next)) (Goes May names (next bytes)) (to_next bytes has few) come),
   )
     where
-      to_long : (bytes : List ℕ) → Has name bytes → limit < length bytes → (s : Status) (t : List ℕ) → Goes May (name ∷ names) (Reads limit next) s t → IsTooLarge name s t
+      to_long : (bytes : List ℕ) → Has name bytes → (Fits bytes → ⊥) → (s : Status) (t : List ℕ) → Goes May (name ∷ names) (Reads Fits next) s t → IsTooLarge name s t
       to_long bytes has long s t (b, may, inl (l, is)) = is
-      to_long bytes has long s t (b, may, inr (few, g)) = absurd (omega (arith, ap length (same name b bytes may has), few, long))
+      to_long bytes has long s t (b, may, inr (few, g)) = absurd (long (subst Fits (same name b bytes may has) few))
 
-      to_next : (bytes : List ℕ) → Has name bytes → length bytes ≤ limit → (s : Status) (t : List ℕ) → Goes May (name ∷ names) (Reads limit next) s t → Goes May names (next bytes) s t
-      to_next bytes has few s t (b, may, inl (l, is)) = absurd (omega (arith, ap length (same name b bytes may has), few, l))
+      to_next : (bytes : List ℕ) → Has name bytes → Fits bytes → (s : Status) (t : List ℕ) → Goes May (name ∷ names) (Reads Fits next) s t → Goes May names (next bytes) s t
+      to_next bytes has few s t (b, may, inl (l, is)) = absurd (l (subst Fits (sym (same name b bytes may has)) few))
       to_next bytes has few s t (b, may, inr (f, g)) = subst (λ (y : List ℕ). Goes May names (next y) s t) (same name b bytes may has) g

@@ -43,9 +43,9 @@ pub record Call : Type 0 where
 abbrev pub Must : (List ℕ → List ℕ → Type 0) → ((Status → List ℕ → Type 0) → Type 0) → List (List ℕ) → Row → Type 0
 Must Has Come names (Closes Says) = Come Says
 Must Has Come names (Judges Fine Broken next) = ((r : Refusal) → Broken r → Come (IsRefused r)) × (Fine → Must Has Come names next)
-Must Has Come [] (Reads limit next) = Unit {0}
-Must Has Come (name ∷ names) (Reads limit next) =
-    (bytes : List ℕ) → Has name bytes → (limit < length bytes → Come (IsTooLarge name)) × (length bytes ≤ limit → Must Has Come names (next bytes))
+Must Has Come [] (Reads Fits next) = Unit {0}
+Must Has Come (name ∷ names) (Reads Fits next) =
+    (bytes : List ℕ) → Has name bytes → ((Fits bytes → ⊥) → Come (IsTooLarge name)) × (Fits bytes → Must Has Come names (next bytes))
 
 -- ---- what a replay says
 
@@ -59,12 +59,12 @@ ReplaySays (Err NoMemory) = λ status text. Unit {0}
 -- what is judged next is broken so
 abbrev pub IsBrokenNext : Row → Refusal → Type 0
 IsBrokenNext (Judges Fine Broken next) r = Broken r
-IsBrokenNext (Reads limit next) r = ⊥
+IsBrokenNext (Reads Fits next) r = ⊥
 IsBrokenNext (Closes Says) r = ⊥
 
 -- the first file is read, and is broken so
 abbrev pub IsBrokenFirst : Row → List ℕ → Refusal → Type 0
-IsBrokenFirst (Reads limit next) bytes r = (length bytes ≤ limit) × IsBrokenNext (next bytes) r
+IsBrokenFirst (Reads Fits next) bytes r = Fits bytes × IsBrokenNext (next bytes) r
 IsBrokenFirst (Judges Fine Broken next) bytes r = ⊥
 IsBrokenFirst (Closes Says) bytes r = ⊥
 

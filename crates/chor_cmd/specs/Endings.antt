@@ -40,7 +40,7 @@ FetchesOnly words shelf shelf' = (other : List ℕ) → (NamesFile words other �
 
 -- ---- how a row may go
 
--- a file of this name is longer than its limit
+-- a file of this name is more than it may be
 abbrev pub IsTooLarge : List ℕ → Status → List ℕ → Type 0
 IsTooLarge name = Exactly TooLarge (too_large_line name)
 
@@ -49,9 +49,9 @@ IsTooLarge name = Exactly TooLarge (too_large_line name)
 abbrev pub Goes : (List ℕ → List ℕ → Type 0) → List (List ℕ) → Row → Status → List ℕ → Type 0
 Goes Has names (Closes Says) status text = Says status text
 Goes Has names (Judges Fine Broken next) status text = ((r : Refusal) × Broken r × IsRefused r status text) ⊎ (Fine × Goes Has names next status text)
-Goes Has [] (Reads limit next) status text = ⊥
-Goes Has (name ∷ names) (Reads limit next) status text =
-    (bytes : List ℕ) × Has name bytes × (((limit < length bytes) × IsTooLarge name status text) ⊎ ((length bytes ≤ limit) × Goes Has names (next bytes) status text))
+Goes Has [] (Reads Fits next) status text = ⊥
+Goes Has (name ∷ names) (Reads Fits next) status text =
+    (bytes : List ℕ) × Has name bytes × (((Fits bytes → ⊥) × IsTooLarge name status text) ⊎ (Fits bytes × Goes Has names (next bytes) status text))
 
 -- ---- what each status says
 

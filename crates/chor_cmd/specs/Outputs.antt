@@ -12,12 +12,16 @@ use Rattle.transcript.specs.Text.{transcript}
 use Rattle.command_words.specs.declared.options.Options.{Options}
 use Rattle.chor_host.specs.Functions.{Function, names_of, hosts_in}
 use Rattle.simulation.specs.Runs.{close_of}
-use Rattle.source_check.specs.declared.rules.Rules.TheVariants.{All}
+use Rattle.source_check.specs.declared.rules.Rules.TheVariants.{All, Views}
 use Rattle.source_check.specs.Source.{IsAccepted}
 use Rattle.replay.specs.declared.answer.Replayed.{Replayed}
 use Rattle.replay.specs.declared.answer.ReplayFault.{ReplayFault}
 use Rattle.program_runs.specs.Books.{book_of}
 use Rattle.accepted_replays.specs.Sources.{ReplaysSource}
+use Rattle.accepted_resumes.specs.Sources.{IsResumedOf, StopsResume}
+use Rattle.conforming_logs.specs.Logs.{ConformsSource}
+use Rattle.resume.specs.declared.resuming.Plan.{Plan}
+use Rattle.simulation.specs.Accepted.{AcceptedView}
 use Rattle.generated_runs.specs.Texts.{IsGeneratedText, IsSummary}
 use Rattle.endpoint_check.specs.Programs.{AreProgramsOf}
 use Rattle.chor_cmd.specs.Runs.{IsAskedRun, IsAskedTranscript}
@@ -90,7 +94,15 @@ replayed_line r = codes "replayed " ++ decimal r.count ++ codes " " ++ state_wor
 abbrev pub unmatched_line : ℕ → List ℕ
 unmatched_line i = codes "unmatched " ++ decimal i ++ 10 ∷ []
 
+-- `conforms 10`
+abbrev pub conforms_line : ℕ → List ℕ
+conforms_line n = codes "conforms " ++ decimal n ++ 10 ∷ []
+
 -- ---- answers
+
+-- how a run goes on that the options of `resume` ask for
+abbrev pub plan_of : Options → Plan
+plan_of options = record { capacity = None; schedule = record { seed = options.seed; steps = options.steps } }
 
 -- the bytes are the text of endpoint programs without fault, and the text is the transcript of a run of them, as the options ask
 -- for it, which is stuck or not
@@ -104,6 +116,26 @@ pub record IsReplayOf (functions : List Function) (bytes events : List ℕ) (ans
   pub file : File
   pub accepted : IsAccepted All (names_of functions) bytes file
   pub replays : ReplaysSource file (hosts_in file.names functions) None events answer
+
+-- the bytes are the text of a source that violates no rule, and the text is the transcript of a run of its choreography that goes on
+-- after the events of this log, as the options ask for it
+pub record IsResumedRun (functions : List Function) (options : Options) (bytes log text : List ℕ) : Type 0 where
+  pub accepted : AcceptedView
+  pub source : IsAccepted All (names_of functions) bytes accepted.typed.file
+  pub projects : Projects accepted.typed.file accepted.endpoints
+  pub resumes : IsResumedOf accepted functions (plan_of options) log text
+
+-- the bytes are the text of a source that violates no rule, and this is why no run of its choreography goes on after this log
+pub record IsResumeFault (functions : List Function) (bytes log : List ℕ) (fault : ReplayFault) : Type 0 where
+  pub file : File
+  pub accepted : IsAccepted All (names_of functions) bytes file
+  pub stops : StopsResume file (hosts_in file.names functions) None log fault
+
+-- the bytes are the text of a source whose names, protocols and views have no fault, and so a log is judged by its protocols
+pub record IsConformingOf (functions : List Function) (bytes log : List ℕ) (answer : Result Replayed ReplayFault) : Type 0 where
+  pub file : File
+  pub accepted : IsAccepted Views (names_of functions) bytes file
+  pub conforms : ConformsSource file log answer
 
 -- what `gen` writes: the generated file's text, or how many events, sessions and processes its run has
 abbrev pub IsGenerated : List Function → ℕ → Bool → List ℕ → Type 0

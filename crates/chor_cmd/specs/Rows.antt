@@ -1,5 +1,5 @@
 -- What each command makes of its files: one row for each (this project's own).
-use Rattle.std.specs.Prelude.{ℕ, ◌≡◌, Bool, List, Ok, Err, codes}
+use Rattle.std.specs.Prelude.{ℕ, ◌≡◌, ◌≤◌, Bool, List, length, Ok, Err, codes}
 use Rattle.chor_base.specs.declared.rule.Refusal.{Refusal}
 use Rattle.chor_tree.specs.declared.file.File.{File}
 use Rattle.chor_host.specs.Functions.{Function, names_of}
@@ -7,6 +7,7 @@ use Rattle.chor_print.specs.Text.{canonical_text}
 use Rattle.local_types.specs.Texts.{IsTypesText}
 use Rattle.replay.specs.declared.answer.Replayed.{Replayed}
 use Rattle.replay.specs.declared.answer.ReplayFault.TheVariants.{Unmatched as unlike}
+use Rattle.event_files.specs.FewLines.{HasFewLines}
 use Rattle.command_words.specs.declared.words.Command.{Command}
 use Rattle.command_words.specs.declared.words.Command.TheVariants.{Check, Fmt, Types, Project, Run, Exec, Link, Replay, Order, Conform, Resume, Gen}
 use Rattle.command_words.specs.declared.options.Options.{Options}
@@ -18,14 +19,14 @@ use Rattle.endpoint_check.specs.Programs.{AreProgramsOf, ViolatesPrograms}
 use Rattle.chor_cmd.specs.declared.status.Status.{Status}
 use Rattle.chor_cmd.specs.declared.status.Status.TheVariants.{Done, Refused, Usage, Unmatched}
 use Rattle.chor_cmd.specs.Status.{status_of}
-use Rattle.chor_cmd.specs.Outputs.{IsProjectionText, IsRunText, IsExecution, IsReplayOf, IsGenerated, usage_line, refused_line, replayed_line, unmatched_line}
+use Rattle.chor_cmd.specs.Outputs.{IsProjectionText, IsRunText, IsExecution, IsReplayOf, IsResumedRun, IsResumeFault, IsConformingOf, IsGenerated, usage_line, refused_line, replayed_line, unmatched_line, conforms_line}
 
 -- ---- rows
 
--- How a call goes on: it reads its next file, which has at most so many bytes; or what was read is judged, and it goes on where
--- that is fine and is refused where it is broken; or it ends, with a status and a text of which this is said
+-- How a call goes on: it reads its next file, and goes on where its bytes are no more than they may be; or what was read is judged,
+-- and it goes on where that is fine and is refused where it is broken; or it ends, with a status and a text of which this is said
 pub data Row : Type 1 where
-  Reads : (limit : ℕ) (next : List ℕ → Row) → Row
+  Reads : (Fits : List ℕ → Type 0) (next : List ℕ → Row) → Row
   Judges : (Fine : Type 0) (Broken : Refusal → Type 0) (next : Row) → Row
   Closes : (Says : Status → List ℕ → Type 0) → Row
 
@@ -41,6 +42,10 @@ IsRefused r = Exactly Refused (refused_line r)
 abbrev pub Writes : (List ℕ → Type 0) → Row
 Writes Says = Closes (λ status text. (status ≡ Done) × Says text)
 
+-- at most so many bytes
+abbrev pub AtMost : ℕ → List ℕ → Type 0
+AtMost limit bytes = length bytes ≤ limit
+
 -- how many bytes a source has at most: 1 MiB
 abbrev pub source_limit : ℕ
 source_limit = 1048576
@@ -55,7 +60,19 @@ events_limit = 67108864
 
 -- an events file is read, of which this is said
 abbrev pub after_events : (List ℕ → Status → List ℕ → Type 0) → Row
-after_events Says = Reads events_limit (λ log. Closes (Says log))
+after_events Says = Reads (AtMost events_limit) (λ log. Closes (Says log))
+
+-- how many whole lines there are at most of a run that goes on
+abbrev pub lines_limit : ℕ
+lines_limit = 1000000
+
+-- the bytes are no more than an events file has, nor are its whole lines
+abbrev pub IsShortLog : List ℕ → Type 0
+IsShortLog log = AtMost events_limit log × HasFewLines lines_limit log
+
+-- an events file with few lines is read, of which this is said
+abbrev pub after_short_log : (List ℕ → Status → List ℕ → Type 0) → Row
+after_short_log Says = Reads IsShortLog (λ log. Closes (Says log))
 
 -- a command that isn't there yet
 abbrev pub not_yet : Row
@@ -84,11 +101,11 @@ module _ (functions : List Function) where
 
   -- a command that reads a source first
   abbrev pub after_source : Rules → (List ℕ → Row) → Row
-  after_source rules next = Reads source_limit (λ bytes. judged rules bytes (next bytes))
+  after_source rules next = Reads (AtMost source_limit) (λ bytes. judged rules bytes (next bytes))
 
   -- a command that reads endpoint programs first
   abbrev pub after_programs : (List ℕ → Row) → Row
-  after_programs next = Reads programs_limit (λ bytes. judged_programs bytes (next bytes))
+  after_programs next = Reads (AtMost programs_limit) (λ bytes. judged_programs bytes (next bytes))
 
   -- a command on one source
   abbrev pub on_source : Rules → (File → List ℕ → Type 0) → Row
@@ -103,6 +120,16 @@ module _ (functions : List Function) where
     replays : (r : Replayed) → IsReplayOf functions bytes log (Ok r) → Replays bytes log Done (replayed_line r)
     misses : (i : ℕ) → IsReplayOf functions bytes log (Err (unlike i)) → Replays bytes log Unmatched (unmatched_line i)
 
+  -- a run goes on, or comes to a line that doesn't match
+  pub data Resumes (options : Options) (bytes log : List ℕ) : Status → List ℕ → Type 0 where
+    resumes : {text : List ℕ} → IsResumedRun functions options bytes log text → Resumes options bytes log Done text
+    stops : (i : ℕ) → IsResumeFault functions bytes log (unlike i) → Resumes options bytes log Unmatched (unmatched_line i)
+
+  -- a log conforms, or comes to a line that doesn't match
+  pub data Conforms (bytes log : List ℕ) : Status → List ℕ → Type 0 where
+    conforms : (r : Replayed) → IsConformingOf functions bytes log (Ok r) → Conforms bytes log Done (conforms_line r.count)
+    strays : (i : ℕ) → IsConformingOf functions bytes log (Err (unlike i)) → Conforms bytes log Unmatched (unmatched_line i)
+
   -- THE TABLE, where these host functions are there
   abbrev pub row_of : Command → Row
   row_of Check = on_source All (λ f text. text ≡ codes "ok\n")
@@ -115,5 +142,5 @@ module _ (functions : List Function) where
   row_of (Gen n whole) = Writes (IsGenerated functions n whole)
   row_of (Link options) = not_yet
   row_of (Order form) = not_yet
-  row_of Conform = not_yet
-  row_of (Resume options) = not_yet
+  row_of Conform = after_source Views (λ bytes. after_events (Conforms bytes))
+  row_of (Resume options) = after_source All (λ bytes. after_short_log (Resumes options bytes))

@@ -18,7 +18,7 @@ use Rattle.chor_cmd.specs.declared.ending.Stop.{Stop}
 use Rattle.chor_cmd.specs.declared.ending.Stop.TheVariants.{Refused, ReadFault, TooLarge, Memory}
 use Rattle.chor_cmd.specs.Outputs.{refused_line, read_fault_line, too_large_line}
 use Rattle.chor_cmd.specs.Endings.{MayTell, Goes, IsTooLarge}
-use Rattle.chor_cmd.specs.Rows.{Row, Exactly, IsRefused, source_limit, programs_limit, row_of}
+use Rattle.chor_cmd.specs.Rows.{Row, Exactly, IsRefused, IsShortLog, source_limit, programs_limit, row_of}
 
 -- why a command stops for what was denied
 abbrev pub stop_of : Denied → Stop
@@ -58,6 +58,19 @@ IsUnread limit Broken shelf shelf' name (Refused r) = (bytes : List ℕ) × HasR
 IsUnread limit Broken shelf shelf' name (ReadFault w) = (w.now ≡ name) × Risen (shelf.faults name) (shelf'.faults name)
 IsUnread limit Broken shelf shelf' name (TooLarge w) = (w.now ≡ name) × ((bytes : List ℕ) × MayTell shelf.files name bytes × (limit < length bytes))
 IsUnread limit Broken shelf shelf' name Memory = Unit {0}
+
+-- ---- an events file after which a run goes on
+
+-- it may have these bytes, which are no more than they may be
+abbrev pub HasReadLog : ShelfState → List ℕ → List ℕ → Type 0
+HasReadLog shelf name log = MayTell shelf.files name log × IsShortLog log
+
+-- Why it wasn't read: reading it failed, which was counted; it may be more; or memory ran out
+abbrev pub IsUnreadLog : ShelfState → ShelfState → List ℕ → Stop → Type 0
+IsUnreadLog shelf shelf' name (Refused r) = ⊥
+IsUnreadLog shelf shelf' name (ReadFault w) = (w.now ≡ name) × Risen (shelf.faults name) (shelf'.faults name)
+IsUnreadLog shelf shelf' name (TooLarge w) = (w.now ≡ name) × ((bytes : List ℕ) × MayTell shelf.files name bytes × (IsShortLog bytes → ⊥))
+IsUnreadLog shelf shelf' name Memory = Unit {0}
 
 -- ---- a command
 

@@ -13,6 +13,7 @@ ghost use Rattle.chor_cmd.specs.Runs.{AsksNoWorkers, workers_of};
 ghost use Rattle.chor_cmd.specs.Stops.{Answers, TouchesOnly};
 
 use crate::checking::check;
+use crate::conforming::conform_events;
 use crate::ending::{Ending, Stop};
 use crate::executing::{execute, execute_by};
 use crate::finishing::{finish, write};
@@ -20,6 +21,7 @@ use crate::formatting::format;
 use crate::generating::generate;
 use crate::projecting::project;
 use crate::replaying::replay_events;
+use crate::resuming::resume_run;
 use crate::running::{run, run_by};
 use crate::status::Status;
 use crate::typing::types;
@@ -165,9 +167,11 @@ fn answer<'a, F: Shelf>(
         Command::Exec(options) => execute(alloc, &files[0], options, hosts, shelf),
         Command::Replay => replay_events(alloc, &files[0], &files[1], hosts, shelf),
         Command::Gen(count, whole) => Ok(generate(alloc, count, whole, hosts)?),
-        Command::Link(_) | Command::Order(_) | Command::Conform | Command::Resume(_) => {
-            Ok(not_yet(alloc)?)
+        Command::Conform => conform_events(alloc, &files[0], &files[1], hosts, shelf),
+        Command::Resume(options) => {
+            resume_run(alloc, (&files[0], &files[1]), options, hosts, shelf)
         }
+        Command::Link(_) | Command::Order(_) => Ok(not_yet(alloc)?),
     }
 }
 

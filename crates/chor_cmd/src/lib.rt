@@ -3,6 +3,7 @@
 
 mod checking;
 mod command;
+mod conforming;
 mod ending;
 mod executing;
 mod finishing;
@@ -11,6 +12,7 @@ mod generating;
 mod laws;
 mod projecting;
 mod replaying;
+mod resuming;
 mod running;
 mod sources;
 mod status;

@@ -111,7 +111,8 @@ fn state_word(ended: bool) -> &'static [u8]
     }
 }
 
-fn unmatched_line(alloc: Global, number: u64) -> Result<Vec<u8>, Memory>
+/// The line that tells the number of the first line that doesn't match.
+pub fn unmatched_line(alloc: Global, number: u64) -> Result<Vec<u8>, Memory>
     ensures { IfOk result (λ line. line.items ≡ unmatched_line number) }
 {
     let mut line = b"unmatched ".to_vec(alloc)?;
