@@ -34,7 +34,7 @@ module _ (functions : List Function) where
   is_clear (Exec options) = λ bytes. (programs_exclude bytes, tt)
   is_clear Replay = λ bytes. (sources_exclude All bytes, λ log. tt)
   is_clear (Gen n whole) = tt
-  is_clear (Link options) = tt
-  is_clear (Order form) = tt
+  is_clear (Link options) = λ source. (sources_exclude All source, λ units. (programs_exclude units, tt))
+  is_clear (Order form) = λ bytes. (sources_exclude All bytes, λ log. tt)
   is_clear Conform = λ bytes. (sources_exclude Views bytes, λ log. tt)
   is_clear (Resume options) = λ bytes. (sources_exclude All bytes, λ log. tt)

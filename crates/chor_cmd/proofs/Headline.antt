@@ -1,5 +1,5 @@
 -- The headline's sentences follow from how the rows go.
-use Rattle.std.proofs.Common.{◌≡◌, ◌≤◌, inl, inr, ℕ, zero, suc, Bool, true, false, List, [], ◌∷◌, length, refl, sym, ap, ◌∙◌, subst, arith}
+use Rattle.std.proofs.Common.{◌≡◌, ◌≢◌, ◌≤◌, inl, inr, ℕ, zero, suc, Bool, true, false, List, [], ◌∷◌, length, refl, sym, ap, ◌∙◌, subst, arith}
 use Rattle.std.specs.Prelude.{Result, Ok, Err, None}
 use Rattle.chor_base.specs.declared.rule.Refusal.{Refusal}
 use Rattle.chor_tree.specs.declared.file.File.{File}
@@ -9,8 +9,9 @@ use Rattle.chor_host.specs.Functions.{Function, hosts_in, names_of}
 use Rattle.replay.specs.declared.answer.Replayed.{Replayed}
 use Rattle.replay.specs.declared.answer.ReplayFault.{ReplayFault}
 use Rattle.replay.specs.declared.answer.ReplayFault.TheVariants.{Unmatched as unlike, Memory as NoMemory}
-use Rattle.command_words.specs.declared.words.Command.TheVariants.{Run, Exec, Replay}
+use Rattle.command_words.specs.declared.words.Command.TheVariants.{Run, Exec, Link, Replay, Order}
 use Rattle.command_words.specs.declared.options.Options.{Options}
+use Rattle.command_words.specs.declared.order_form.OrderForm.{OrderForm}
 use Rattle.endpoint_code.specs.declared.endpoints.Endpoints.{Endpoints}
 use Rattle.endpoint_code.specs.Network.{NetworkState}
 use Rattle.endpoint_code.specs.Scheduled.{Close, Ended, Limit, Stuck as Stands}
@@ -23,14 +24,14 @@ use Rattle.accepted_files.specs.Closing.{ClosesWell}
 use Rattle.projected_programs.specs.Laws.{AreExact, AreProjected, ProjectedTextIsTaken, ProjectedTextRuns}
 use Rattle.projected_programs.specs.LawsBy.{ProjectedTextRunsByWorkers}
 use Rattle.chor_cmd.specs.declared.status.Status.{Status}
-use Rattle.chor_cmd.specs.declared.status.Status.TheVariants.{Done}
+use Rattle.chor_cmd.specs.declared.status.Status.TheVariants.{Done, Unmatched}
 use Rattle.chor_cmd.specs.Status.{status_of}
 use Rattle.chor_cmd.specs.Runs.{IsAskedRun, TranscriptBy}
 use Rattle.chor_cmd.proofs.AskedRuns.{scheduled_asked, closed_asked}
 use Rattle.chor_cmd.specs.Outputs.{IsRunText, IsReplayOf, replayed_line, unmatched_line}
 use Rattle.chor_cmd.specs.Endings.{MayTell, Tells, Goes}
-use Rattle.chor_cmd.specs.Rows.{Row, Reads, Judges, Closes, AtMost, IsRefused, programs_limit, events_limit, Executes, executes, Replays, replays, misses, row_of}
-use Rattle.chor_cmd.specs.Calls.{Call, Must, Comes, HasEnded, IsSettled, ReplaySays, IsBrokenFirst, IsBrokenNext, RunsSource, RunsProjected, AcceptsRuns, RefusesBroken}
+use Rattle.chor_cmd.specs.Rows.{Row, Reads, Judges, Closes, AtMost, IsRefused, programs_limit, events_limit, Executes, executes, Replays, replays, misses, Orders, orders, breaks_off, beyond, row_of}
+use Rattle.chor_cmd.specs.Calls.{Call, Must, Comes, HasEnded, IsSettled, ReplaySays, IsBrokenFirst, IsBrokenNext, RunsSource, RunsProjected, AcceptsRuns, LinksPrograms, OrdersRun, RefusesBroken}
 use Rattle.chor_cmd.proofs.Replayed.{one_answer}
 use Rattle.chor_cmd.proofs.Settles.{same_bytes, grows, by_table}
 
@@ -42,8 +43,8 @@ module _ (functions : List Function) (options : Options) (source : List ℕ) (f 
 
   -- a run as the options ask for it, which isn't stuck, and its transcript
   run_text : (text : List ℕ) (h : List Event) (c : Close) (last : NetworkState) → ClosesWell f e hosts None options.steps h last c → IsAskedRun f e hosts options h c → text ≡ transcript (book_of f) h (closing_text (book_of f) (length h) c) → IsRunText functions f options text
-  run_text text h Ended last well run text_is = record { endpoints = e; projects = p.projects; history = h; ended = true; run = run; text_is = text_is }
-  run_text text h Limit last well run text_is = record { endpoints = e; projects = p.projects; history = h; ended = false; run = run; text_is = text_is }
+  run_text text h Ended last well run text_is = record { endpoints = e; projects = p.projects; tells = record { history = h; ended = true; run = run; text_is = text_is } }
+  run_text text h Limit last well run text_is = record { endpoints = e; projects = p.projects; tells = record { history = h; ended = false; run = run; text_is = text_is } }
   run_text text h (Stands q why) last well run text_is = absurd well
 
   module _ (programs : Endpoints) (read : AreProgramsOf (names_of functions) (endpoints_text e) programs) (text : List ℕ) (stuck : Bool) where
@@ -105,6 +106,29 @@ module _ (call : Call) where
         let judged = m.1 few in
         let n = judged.1 (is.file, is.accepted) log told_log in
         grows call (Replays call.functions bytes log) (ReplaySays answer) (as_answer bytes log answer few_log is) (n.1 few_log)
+
+    -- ---- `link` and `order`
+
+    pub links_programs : LinksPrograms call
+    links_programs = λ options name units_name source units f e form told few told_units few_units accepted are.
+        let m = settled (Link options) (name ∷ units_name ∷ []) form source told in
+        let judged = m.1 few in
+        let n = judged.1 (f, accepted) units told_units in
+        let judged_units = n.1 few_units in
+        judged_units.1 (e, are)
+
+    is_ordered : (form : OrderForm) (bytes log : List ℕ) (r : Replayed) → length log ≤ events_limit → IsReplayOf call.functions bytes log (Ok r) → (s : Status) (t : List ℕ) → Orders call.functions form bytes log s t
+        → (s ≢ Unmatched) × Orders call.functions form bytes log s t
+    is_ordered form bytes log r few told s t (orders o) = (λ is. cc, orders o)
+    is_ordered form bytes log r few told s t (breaks_off i p) = absurd (let same : Err (unlike i) ≡ Ok r = one_answer call.functions bytes log (Err (unlike i)) (Ok r) few p told tt tt in cc)
+    is_ordered form bytes log r few told s t (beyond n o) = (λ is. cc, beyond n o)
+
+    pub orders_run : OrdersRun call
+    orders_run = λ form name log_name bytes log r words_are told few told_log few_log is.
+        let m = settled (Order form) (name ∷ log_name ∷ []) words_are bytes told in
+        let judged = m.1 few in
+        let n = judged.1 (is.file, is.accepted) log told_log in
+        grows call (Orders call.functions form bytes log) (λ s t. (s ≢ Unmatched) × Orders call.functions form bytes log s t) (is_ordered form bytes log r few_log is) (n.1 few_log)
 
     -- ---- refusals
 

@@ -2,6 +2,7 @@ pub mod Written
 pub mod Fetched
 pub mod Exits
 pub mod ShortLogs
+pub mod LinkedFiles
 pub mod AskedRuns
 pub mod RunTexts
 pub mod SameTexts

@@ -1,4 +1,4 @@
--- What is told of an accepted file's run is its transcript.
+-- What is told of a run of an accepted file, or of one that is linked, is its transcript.
 use Rattle.std.proofs.Common.{◌≡◌, ◌∙◌, ℕ, Bool, true, false, List, length, refl, ap}
 use Rattle.chor_host.specs.Functions.{Function}
 use Rattle.transcript.specs.Text.{Words, transcript}
@@ -10,36 +10,31 @@ use Rattle.simulation.specs.ToldBy.{IsToldBy}
 use Rattle.chor_host.specs.Functions.{hosts_in}
 use Rattle.command_words.specs.declared.options.Options.{Options}
 use Rattle.program_runs.specs.Books.{book_of}
-use Rattle.projection.specs.Projects.{Projects}
 use Rattle.chor_base.specs.declared.event.Event.{Event}
-use Rattle.chor_cmd.specs.Outputs.{last_line, IsRunText}
+use Rattle.chor_cmd.specs.Outputs.{last_line, TellsRun}
 use Rattle.chor_cmd.proofs.AskedRuns.{scheduled_asked, closed_asked}
 
 same_line : (w : Words) (ended : Bool) (n : ℕ) → closing_text w n (close_of ended) ≡ last_line ended n
 same_line w true n = refl
 same_line w false n = refl
 
-module _ (functions : List Function) (a : AcceptedView) (options : Options) (w : Words) (text : List ℕ) (same : w ≡ book_of a.typed.file) (projects : Projects a.typed.file a.endpoints) where
+module _ (functions : List Function) (a : AcceptedView) (options : Options) (w : Words) (text : List ℕ) (same : w ≡ book_of a.typed.file) where
   line : (history : List Event) (ended : Bool) → text ≡ transcript w history (closing_text w (length history) (close_of ended)) → text ≡ transcript (book_of a.typed.file) history (last_line ended (length history))
   line history ended is =
       is
       ∙ ap (λ (last : List ℕ). transcript w history last) (same_line w ended (length history))
       ∙ ap (λ (b : Words). transcript b history (last_line ended (length history))) same
 
-  pub run_text : IsToldOf w a functions (record { seed = options.seed; steps = options.steps }) text → IsRunText functions a.typed.file options text
+  pub run_text : IsToldOf w a functions (record { seed = options.seed; steps = options.steps }) text → TellsRun functions a.typed.file a.endpoints options text
   run_text told = record {
-    endpoints = a.endpoints;
-    projects = projects;
     history = told.history;
     ended = told.ended;
     run = scheduled_asked a.typed.file a.endpoints (hosts_in a.typed.file.names functions) options told.history (close_of told.ended) told.run;
     text_is = line told.history told.ended told.text_is;
   }
 
-  pub run_text_by : (options.workers ≡ 0 → ⊥) → IsToldBy w a functions options.steps text → IsRunText functions a.typed.file options text
+  pub run_text_by : (options.workers ≡ 0 → ⊥) → IsToldBy w a functions options.steps text → TellsRun functions a.typed.file a.endpoints options text
   run_text_by some told = record {
-    endpoints = a.endpoints;
-    projects = projects;
     history = told.history;
     ended = told.ended;
     run = closed_asked a.typed.file a.endpoints (hosts_in a.typed.file.names functions) options told.history (close_of told.ended) some told.run;

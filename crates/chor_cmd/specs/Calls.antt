@@ -1,5 +1,5 @@
 -- How a call of the program ends, by the table of its commands (this project's own).
-use Rattle.std.specs.Prelude.{ℕ, ℤ, ◌≡◌, ◌<◌, ◌≤◌, List, [], ◌∷◌, length, Result, Ok, Err}
+use Rattle.std.specs.Prelude.{ℕ, ℤ, ◌≡◌, ◌≢◌, ◌<◌, ◌≤◌, List, [], ◌∷◌, length, Result, Ok, Err}
 use denote.Param.Members.{Mut}
 use Rattle.chor_base.specs.declared.rule.Refusal.{Refusal}
 use Rattle.chor_host.specs.declared.table.HostTable.{HostTable}
@@ -12,12 +12,14 @@ use Rattle.replay.specs.declared.answer.ReplayFault.{ReplayFault}
 use Rattle.replay.specs.declared.answer.ReplayFault.TheVariants.{Unmatched as unlike, Memory as NoMemory}
 use Rattle.command_words.specs.declared.words.Words.{Words}
 use Rattle.command_words.specs.declared.words.Command.{Command}
-use Rattle.command_words.specs.declared.words.Command.TheVariants.{Run, Exec, Replay}
+use Rattle.command_words.specs.declared.words.Command.TheVariants.{Run, Exec, Link, Replay, Order}
 use Rattle.command_words.specs.declared.options.Options.{Options}
+use Rattle.command_words.specs.declared.order_form.OrderForm.{OrderForm}
 use Rattle.command_words.specs.Words.{IsForm, HasForm, NamesFile, HasNoForm}
 use Rattle.source_check.specs.declared.rules.Rules.TheVariants.{All}
 use Rattle.source_check.specs.Source.{IsAccepted}
 use Rattle.endpoint_code.specs.declared.endpoints.Endpoints.{Endpoints}
+use Rattle.endpoint_check.specs.Programs.{AreProgramsOf}
 use Rattle.endpoint_text.specs.Text.{endpoints_text}
 use Rattle.projection.specs.Projects.{Projects}
 use Rattle.chor_cmd.specs.declared.status.Status.{Status}
@@ -25,7 +27,7 @@ use Rattle.chor_cmd.specs.declared.status.Status.TheVariants.{Done, Usage, ReadF
 use Rattle.chor_cmd.specs.Outputs.{IsRunText, IsReplayOf, usage_line, replayed_line, unmatched_line}
 use Rattle.chor_cmd.specs.Endings.{Tells, FetchesOnly, IsTooLarge}
 use Rattle.chor_cmd.specs.Endings.{Ends as MayEndSo, HasEnded as HasEndedSo}
-use Rattle.chor_cmd.specs.Rows.{Row, Reads, Judges, Closes, Exactly, IsRefused, OfSource, source_limit, programs_limit, events_limit, row_of}
+use Rattle.chor_cmd.specs.Rows.{Row, Reads, Judges, Closes, Exactly, IsRefused, OfSource, Links, Orders, source_limit, programs_limit, events_limit, row_of}
 
 -- a call: the host functions that are there, its words, the shelf and the sink before and after it, and the status with which it ends
 pub record Call : Type 0 where
@@ -128,6 +130,22 @@ module _ (call : Call) where
       (name log_name bytes log : List ℕ) (answer : Result Replayed ReplayFault) → IsForm call.words Replay (name ∷ log_name ∷ [])
       → Tells call.shelf.files name bytes → length bytes ≤ source_limit → Tells call.shelf.files log_name log → length log ≤ events_limit
       → IsReplayOf call.functions bytes log answer → Comes (ReplaySays answer)
+
+  -- `link`, for a source that violates no rule and endpoint programs without a fault, both told: a run of the source with these
+  -- programs in their places, or the first of them that doesn't suit its place
+  abbrev pub LinksPrograms : Type 0
+  LinksPrograms =
+      (options : Options) (name units_name source units : List ℕ) (f : File) (e : Endpoints) → IsForm call.words (Link options) (name ∷ units_name ∷ [])
+      → Tells call.shelf.files name source → length source ≤ source_limit → Tells call.shelf.files units_name units → length units ≤ programs_limit
+      → IsAccepted All (names_of call.functions) source f → AreProgramsOf (names_of call.functions) units e → Comes (Links call.functions options source units)
+
+  -- `order`, for a source and an events file that is replayed on it, both told: what is asked for of the order of its events, or a number
+  -- that none of them has
+  abbrev pub OrdersRun : Type 0
+  OrdersRun =
+      (form : OrderForm) (name log_name bytes log : List ℕ) (r : Replayed) → IsForm call.words (Order form) (name ∷ log_name ∷ [])
+      → Tells call.shelf.files name bytes → length bytes ≤ source_limit → Tells call.shelf.files log_name log → length log ≤ events_limit
+      → IsReplayOf call.functions bytes log (Ok r) → Comes (λ status text. (status ≢ Unmatched) × Orders call.functions form bytes log status text)
 
   -- any command, for a first file that is told and that it judges broken: the rule, and where
   abbrev pub RefusesBroken : Type 0

@@ -4,5 +4,6 @@ pub mod Outputs
 pub mod Rows
 pub mod Endings
 pub mod Stops
+pub mod Linkings
 pub mod Calls
 pub mod Follows

@@ -22,6 +22,7 @@ use Rattle.accepted_resumes.specs.Sources.{IsResumedOf, StopsResume}
 use Rattle.conforming_logs.specs.Logs.{ConformsSource}
 use Rattle.resume.specs.declared.resuming.Plan.{Plan}
 use Rattle.simulation.specs.Accepted.{AcceptedView}
+use Rattle.accepted_links.specs.Linked.{AreLinkedPrograms}
 use Rattle.generated_runs.specs.Texts.{IsGeneratedText, IsSummary}
 use Rattle.endpoint_check.specs.Programs.{AreProgramsOf}
 use Rattle.chor_cmd.specs.Runs.{IsAskedRun, IsAskedTranscript}
@@ -40,17 +41,28 @@ abbrev pub last_line : Bool → ℕ → List ℕ
 last_line true n = end_line n
 last_line false n = limit_line n
 
--- The text is the transcript of a run, as the options ask for it, of the network of this file's projection, which asks these host
--- functions: a run of its choreography in which messages are received first in, first out, and sessions follow their
+-- The text is the transcript of a run, as the options ask for it, of the network of these endpoint programs of a file, which asks
+-- these host functions: a run of its choreography in which messages are received first in, first out, and sessions follow their
 -- protocols; with `end` each process has ended, each queue is empty and nothing is left to happen, with `limit` the run
 -- is as long as was asked for and open
+pub record TellsRun (functions : List Function) (f : File) (programs : Endpoints) (options : Options) (text : List ℕ) : Type 0 where
+  pub history : List Event
+  pub ended : Bool
+  pub run : IsAskedRun f programs (hosts_in f.names functions) options history (close_of ended)
+  pub text_is : text ≡ transcript (book_of f) history (last_line ended (length history))
+
+-- the text is that of such a run of this file's projection
 pub record IsRunText (functions : List Function) (f : File) (options : Options) (text : List ℕ) : Type 0 where
   pub endpoints : Endpoints
   pub projects : Projects f endpoints
-  pub history : List Event
-  pub ended : Bool
-  pub run : IsAskedRun f endpoints (hosts_in f.names functions) options history (close_of ended)
-  pub text_is : text ≡ transcript (book_of f) history (last_line ended (length history))
+  pub tells : TellsRun functions f endpoints options text
+
+-- the text is that of such a run of a source's projection with given programs in their places
+pub record IsLinkedRun (functions : List Function) (options : Options) (source units text : List ℕ) : Type 0 where
+  pub file : File
+  pub linked : Endpoints
+  pub programs : AreLinkedPrograms functions source units file linked
+  pub tells : TellsRun functions file linked options text
 
 -- the text is that of endpoint programs that are the projection of this file
 pub record IsProjectionText (f : File) (text : List ℕ) : Type 0 where
@@ -97,6 +109,10 @@ unmatched_line i = codes "unmatched " ++ decimal i ++ 10 ∷ []
 -- `conforms 10`
 abbrev pub conforms_line : ℕ → List ℕ
 conforms_line n = codes "conforms " ++ decimal n ++ 10 ∷ []
+
+-- `refused O1 3`: no event has this number
+abbrev pub beyond_line : ℕ → List ℕ
+beyond_line n = codes "refused O1 " ++ decimal n ++ 10 ∷ []
 
 -- ---- answers
 

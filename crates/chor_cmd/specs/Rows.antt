@@ -1,8 +1,9 @@
 -- What each command makes of its files: one row for each (this project's own).
-use Rattle.std.specs.Prelude.{ℕ, ◌≡◌, ◌≤◌, Bool, List, length, Ok, Err, codes}
+use Rattle.std.specs.Prelude.{ℕ, ◌≡◌, ◌≤◌, Bool, List, length, None, Ok, Err, codes}
+use Rattle.chor_base.specs.declared.event.Event.{Event}
 use Rattle.chor_base.specs.declared.rule.Refusal.{Refusal}
 use Rattle.chor_tree.specs.declared.file.File.{File}
-use Rattle.chor_host.specs.Functions.{Function, names_of}
+use Rattle.chor_host.specs.Functions.{Function, names_of, hosts_in}
 use Rattle.chor_print.specs.Text.{canonical_text}
 use Rattle.local_types.specs.Texts.{IsTypesText}
 use Rattle.replay.specs.declared.answer.Replayed.{Replayed}
@@ -11,15 +12,22 @@ use Rattle.event_files.specs.FewLines.{HasFewLines}
 use Rattle.command_words.specs.declared.words.Command.{Command}
 use Rattle.command_words.specs.declared.words.Command.TheVariants.{Check, Fmt, Types, Project, Run, Exec, Link, Replay, Order, Conform, Resume, Gen}
 use Rattle.command_words.specs.declared.options.Options.{Options}
+use Rattle.command_words.specs.declared.order_form.OrderForm.{OrderForm}
 use Rattle.source_check.specs.declared.rules.Rules.{Rules}
 use Rattle.source_check.specs.declared.rules.Rules.TheVariants.{All, Grammar, Views}
 use Rattle.source_check.specs.Source.{IsAccepted, Violates}
 use Rattle.endpoint_code.specs.declared.endpoints.Endpoints.{Endpoints}
 use Rattle.endpoint_check.specs.Programs.{AreProgramsOf, ViolatesPrograms}
+use Rattle.program_runs.specs.Books.{book_of}
+use Rattle.accepted_links.specs.Linked.{IsLinkRefusal}
+use Rattle.accepted_orders.specs.Numbers.{IsBeyond}
+use Rattle.accepted_orders.specs.Sources.{TellsOrder}
+use Rattle.accepted_replays.specs.Events.{HasSourceEvents}
 use Rattle.chor_cmd.specs.declared.status.Status.{Status}
 use Rattle.chor_cmd.specs.declared.status.Status.TheVariants.{Done, Refused, Usage, Unmatched}
 use Rattle.chor_cmd.specs.Status.{status_of}
-use Rattle.chor_cmd.specs.Outputs.{IsProjectionText, IsRunText, IsExecution, IsReplayOf, IsResumedRun, IsResumeFault, IsConformingOf, IsGenerated, usage_line, refused_line, replayed_line, unmatched_line, conforms_line}
+use Rattle.chor_cmd.specs.Outputs.{IsProjectionText, IsRunText, IsLinkedRun, IsExecution, IsReplayOf, IsResumedRun, IsResumeFault, IsConformingOf, IsGenerated}
+use Rattle.chor_cmd.specs.Outputs.{refused_line, replayed_line, unmatched_line, beyond_line, conforms_line}
 
 -- ---- rows
 
@@ -74,10 +82,6 @@ IsShortLog log = AtMost events_limit log × HasFewLines lines_limit log
 abbrev pub after_short_log : (List ℕ → Status → List ℕ → Type 0) → Row
 after_short_log Says = Reads IsShortLog (λ log. Closes (Says log))
 
--- a command that isn't there yet
-abbrev pub not_yet : Row
-not_yet = Closes (Exactly Usage usage_line)
-
 module _ (functions : List Function) where
   -- the bytes are the text of a source that violates none of these rules
   abbrev pub IsFine : Rules → List ℕ → Type 0
@@ -103,7 +107,7 @@ module _ (functions : List Function) where
   abbrev pub after_source : Rules → (List ℕ → Row) → Row
   after_source rules next = Reads (AtMost source_limit) (λ bytes. judged rules bytes (next bytes))
 
-  -- a command that reads endpoint programs first
+  -- a command that reads endpoint programs next
   abbrev pub after_programs : (List ℕ → Row) → Row
   after_programs next = Reads (AtMost programs_limit) (λ bytes. judged_programs bytes (next bytes))
 
@@ -130,6 +134,21 @@ module _ (functions : List Function) where
     conforms : (r : Replayed) → IsConformingOf functions bytes log (Ok r) → Conforms bytes log Done (conforms_line r.count)
     strays : (i : ℕ) → IsConformingOf functions bytes log (Err (unlike i)) → Conforms bytes log Unmatched (unmatched_line i)
 
+  -- a source is run with given programs in their places, or one of these doesn't suit its place
+  pub data Links (options : Options) (source units : List ℕ) : Status → List ℕ → Type 0 where
+    runs : {text : List ℕ} → IsLinkedRun functions options source units text → Links options source units Done text
+    clashes : {line : List ℕ} → IsLinkRefusal functions source units line → Links options source units Refused line
+
+  -- what is written for a source that violates no rule and an events file that is replayed on it, of its events
+  abbrev pub OfEvents : (File → List Event → Type 0) → List ℕ → List ℕ → Type 0
+  OfEvents Says bytes log = (f : File) × IsAccepted All (names_of functions) bytes f × ((h : List Event) × HasSourceEvents f (hosts_in f.names functions) None log h × Says f h)
+
+  -- What is asked for of the order of events is told, or a line doesn't match, or no event has a number that is asked for
+  pub data Orders (form : OrderForm) (bytes log : List ℕ) : Status → List ℕ → Type 0 where
+    orders : {text : List ℕ} → OfEvents (λ f h. TellsOrder (book_of f) None form h text) bytes log → Orders form bytes log Done text
+    breaks_off : (i : ℕ) → IsReplayOf functions bytes log (Err (unlike i)) → Orders form bytes log Unmatched (unmatched_line i)
+    beyond : (n : ℕ) → OfEvents (λ f h. IsBeyond form (length h) n) bytes log → Orders form bytes log Refused (beyond_line n)
+
   -- THE TABLE, where these host functions are there
   abbrev pub row_of : Command → Row
   row_of Check = on_source All (λ f text. text ≡ codes "ok\n")
@@ -140,7 +159,7 @@ module _ (functions : List Function) where
   row_of (Exec options) = after_programs (λ bytes. Closes (Executes options bytes))
   row_of Replay = after_source All (λ bytes. after_events (Replays bytes))
   row_of (Gen n whole) = Writes (IsGenerated functions n whole)
-  row_of (Link options) = not_yet
-  row_of (Order form) = not_yet
+  row_of (Link options) = after_source All (λ source. after_programs (λ units. Closes (Links options source units)))
+  row_of (Order form) = after_source All (λ bytes. after_events (Orders form bytes))
   row_of Conform = after_source Views (λ bytes. after_events (Conforms bytes))
   row_of (Resume options) = after_source All (λ bytes. after_short_log (Resumes options bytes))

@@ -1,4 +1,4 @@
--- Which runs the options of `run` and `exec` ask for: without workers the scheduled run, with workers any closed run (this project's
+-- Which runs the options of `run`, `exec` and `link` ask for: without workers the scheduled run, with workers any closed run (this project's
 -- own).
 use Rattle.std.specs.Prelude.{ℕ, zero, suc, ◌≡◌, Bool, List, None}
 use Rattle.chor_base.specs.declared.event.Event.{Event}
@@ -8,7 +8,7 @@ use Rattle.chor_tree.specs.declared.file.File.{File}
 use Rattle.command_words.specs.declared.options.Options.{Options}
 use Rattle.command_words.specs.declared.words.Words.{Words}
 use Rattle.command_words.specs.declared.words.Command.{Command}
-use Rattle.command_words.specs.declared.words.Command.TheVariants.{Run, Exec}
+use Rattle.command_words.specs.declared.words.Command.TheVariants.{Run, Exec, Link}
 use Rattle.command_words.specs.Words.{IsForm}
 use Rattle.endpoint_code.specs.declared.endpoints.Endpoints.{Endpoints}
 use Rattle.endpoint_code.specs.Scheduled.{Close}
@@ -38,6 +38,7 @@ IsAskedTranscript functions e options text stuck = TranscriptBy options.workers 
 abbrev pub workers_of : Command → ℕ
 workers_of (Run options) = options.workers
 workers_of (Exec options) = options.workers
+workers_of (Link options) = options.workers
 workers_of _ = 0
 
 -- the words ask for no workers

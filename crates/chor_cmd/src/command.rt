@@ -1,14 +1,11 @@
 //! The call that the program makes.
 
-ghost use Rattle.std.specs.Prelude.{◌≡◌, ◌≢◌, ℕ, List, IfOk};
+ghost use Rattle.std.specs.Prelude.{◌≡◌, ◌≢◌, ℕ, List};
 ghost use Rattle.chor_host.specs.Tables.{functions_of};
 ghost use Rattle.command_words.specs.Words.{AreForm};
 ghost use Rattle.projected_programs.specs.Laws.{ProjectedTextIsTaken, ProjectedTextRuns};
 ghost use Rattle.projected_programs.specs.LawsBy.{ProjectedTextRunsByWorkers};
-ghost use Rattle.chor_cmd.specs.Calls.{Fetches, HasEnded, IsUsage, IsSettled, RunsSource, RunsProjected, AcceptsRuns, RefusesBroken, call_of};
-ghost use Rattle.chor_cmd.specs.Outputs.{usage_line};
-ghost use Rattle.chor_cmd.specs.Rows.{Exactly};
-ghost use Rattle.chor_cmd.specs.declared.status.Status.TheVariants.{Usage};
+ghost use Rattle.chor_cmd.specs.Calls.{Fetches, HasEnded, IsUsage, IsSettled, RunsSource, RunsProjected, AcceptsRuns, LinksPrograms, OrdersRun, RefusesBroken, call_of};
 ghost use Rattle.chor_cmd.specs.Runs.{AsksNoWorkers, workers_of};
 ghost use Rattle.chor_cmd.specs.Stops.{Answers, TouchesOnly};
 
@@ -19,13 +16,15 @@ use crate::executing::{execute, execute_by};
 use crate::finishing::{finish, write};
 use crate::formatting::format;
 use crate::generating::generate;
+use crate::linking::{link, link_by};
+use crate::ordering::order_events;
 use crate::projecting::project;
 use crate::replaying::replay_events;
 use crate::resuming::resume_run;
 use crate::running::{run, run_by};
 use crate::status::Status;
 use crate::typing::types;
-use chor_base::{Memory, Word};
+use chor_base::Word;
 use chor_host::HostTable;
 use chor_io::{Gate, Shelf, Sink};
 use command_words::{Command, Words, form_of};
@@ -52,7 +51,16 @@ use std::thread::Threads;
 /// violates no rule. `gen N` makes a file of N rounds, runs it, and writes how many events, sessions
 /// and processes there were; `gen N --text` writes its canonical text.
 ///
-/// Where the options of `run` or `exec` ask for workers, these make the run, each in its turn, and each
+/// `link FILE ENDPOINTS` does what `run FILE` does, with the endpoint programs of the second file in the
+/// places of those of the choreography; where one of them doesn't suit its place, it writes `refused` with
+/// K1 or K2 and the first that doesn't.
+///
+/// `order FILE EVENTS` replays the events as `replay` does, and writes for each of them the events that
+/// it comes right after in every order that the choreography allows. With `--pair I J` it writes how two
+/// of them stand to each other, and with `--lead J` a transcript of the events that lead to one. For a
+/// number that no event has it writes `refused O1`.
+///
+/// Where the options of `run`, `exec` or `link` ask for workers, these make the run, each in its turn, and each
 /// passes the gate before each of its turns. Then the call waits until all workers have finished. For
 /// all other words it is `alone`.
 pub fn chor<R: Threads + Wait + Sync, F: Shelf, K: Sink, G: Gate + Sync>(
@@ -77,6 +85,8 @@ pub fn chor<R: Threads + Wait + Sync, F: Shelf, K: Sink, G: Gate + Sync>(
     ensures ran { RunsSource (call_of hosts.now words.now (F.state shelf.old) (F.state shelf.new) (K.state out.old) (K.state out.new) result) }
     ensures projected { RunsProjected (call_of hosts.now words.now (F.state shelf.old) (F.state shelf.new) (K.state out.old) (K.state out.new) result) }
     ensures replayed { AcceptsRuns (call_of hosts.now words.now (F.state shelf.old) (F.state shelf.new) (K.state out.old) (K.state out.new) result) }
+    ensures linked { LinksPrograms (call_of hosts.now words.now (F.state shelf.old) (F.state shelf.new) (K.state out.old) (K.state out.new) result) }
+    ensures ordered { OrdersRun (call_of hosts.now words.now (F.state shelf.old) (F.state shelf.new) (K.state out.old) (K.state out.new) result) }
     ensures refused { RefusesBroken (call_of hosts.now words.now (F.state shelf.old) (F.state shelf.new) (K.state out.old) (K.state out.new) result) }
 {
     projected_laws();
@@ -113,6 +123,8 @@ pub fn alone<R: Threads + Sync, F: Shelf, K: Sink>(
     ensures ran { RunsSource (call_of hosts.now words.now (F.state shelf.old) (F.state shelf.new) (K.state out.old) (K.state out.new) result) }
     ensures projected { RunsProjected (call_of hosts.now words.now (F.state shelf.old) (F.state shelf.new) (K.state out.old) (K.state out.new) result) }
     ensures replayed { AcceptsRuns (call_of hosts.now words.now (F.state shelf.old) (F.state shelf.new) (K.state out.old) (K.state out.new) result) }
+    ensures linked { LinksPrograms (call_of hosts.now words.now (F.state shelf.old) (F.state shelf.new) (K.state out.old) (K.state out.new) result) }
+    ensures ordered { OrdersRun (call_of hosts.now words.now (F.state shelf.old) (F.state shelf.new) (K.state out.old) (K.state out.new) result) }
     ensures refused { RefusesBroken (call_of hosts.now words.now (F.state shelf.old) (F.state shelf.new) (K.state out.old) (K.state out.new) result) }
 {
     projected_laws();
@@ -142,6 +154,7 @@ fn workers_of(command: Command) -> u32
     match command {
         Command::Run(options) => options.workers,
         Command::Exec(options) => options.workers,
+        Command::Link(options) => options.workers,
         _ => 0,
     }
 }
@@ -167,23 +180,13 @@ fn answer<'a, F: Shelf>(
         Command::Exec(options) => execute(alloc, &files[0], options, hosts, shelf),
         Command::Replay => replay_events(alloc, &files[0], &files[1], hosts, shelf),
         Command::Gen(count, whole) => Ok(generate(alloc, count, whole, hosts)?),
+        Command::Link(options) => link(alloc, &files[0], &files[1], options, hosts, shelf),
+        Command::Order(form) => order_events(alloc, &files[0], &files[1], form, hosts, shelf),
         Command::Conform => conform_events(alloc, &files[0], &files[1], hosts, shelf),
         Command::Resume(options) => {
             resume_run(alloc, (&files[0], &files[1]), options, hosts, shelf)
         }
-        Command::Link(_) | Command::Order(_) => Ok(not_yet(alloc)?),
     }
-}
-
-// A command that isn't there yet.
-fn not_yet(alloc: Global) -> Result<Ending, Memory>
-    ensures { IfOk result (λ ending. Exactly Usage usage_line ending.status ending.text.items) }
-{
-    let text = b"usage: chor COMMAND ARGUMENTS\n".to_vec(alloc)?;
-    Ok(Ending {
-        text,
-        status: Status::Usage,
-    })
 }
 
 // What a command makes of the files of these names where workers make the run.
@@ -204,6 +207,9 @@ fn answer_by<'a, R: Threads + Wait + Sync, F: Shelf, G: Gate + Sync>(
     match command {
         Command::Run(options) => run_by(rt, alloc, &files[0], options, hosts, shelf, gate),
         Command::Exec(options) => execute_by(rt, alloc, &files[0], options, hosts, shelf, gate),
+        Command::Link(options) => {
+            link_by(rt, alloc, &files[0], &files[1], options, hosts, shelf, gate)
+        }
         _ => answer(alloc, command, files, hosts, shelf),
     }
 }

@@ -10,6 +10,8 @@ mod finishing;
 mod formatting;
 mod generating;
 mod laws;
+mod linking;
+mod ordering;
 mod projecting;
 mod replaying;
 mod resuming;

@@ -3,10 +3,9 @@
 ghost use Rattle.std.specs.Prelude.{◌≡◌, ◌≢◌, [], ◌∷◌, IfOk};
 ghost use Rattle.chor_host.specs.Tables.{functions_of};
 ghost use Rattle.chor_tree.specs.Names.{names_in};
-ghost use Rattle.projection.specs.Projects.{Projects};
 ghost use Rattle.command_words.specs.declared.words.Command.TheVariants.{Run};
 ghost use Rattle.chor_cmd.specs.Endings.{host_names};
-ghost use Rattle.chor_cmd.specs.Outputs.{IsRunText};
+ghost use Rattle.chor_cmd.specs.Outputs.{TellsRun};
 ghost use Rattle.chor_cmd.specs.Stops.{Answers, TouchesOnly};
 
 use crate::ending::{Ending, Stop};
@@ -70,16 +69,16 @@ pub fn run_by<'a, R: Threads + Wait + Sync, F: Shelf, G: Gate + Sync>(
     })
 }
 
-// The transcript of the scheduled run of a file that is accepted with these host functions.
-fn scheduled_text(
+/// The transcript of the scheduled run of a file that is accepted with these host functions, or of one
+/// that is linked.
+pub fn scheduled_text(
     alloc: Global,
     accepted: &Accepted,
     options: Options,
     hosts: &HostTable,
 ) -> Result<Vec<u8>, Memory>
     requires hosts { accepted.now.typed.hosts ≡ host_names hosts.now }
-    requires projects { Projects accepted.now.typed.file accepted.now.endpoints }
-    ensures { IfOk result (λ text. IsRunText (functions_of hosts.now) accepted.now.typed.file options text.items) }
+    ensures { IfOk result (λ text. TellsRun (functions_of hosts.now) accepted.now.typed.file accepted.now.endpoints options text.items) }
 {
     let file = accepted.typed().file();
     let processes = names_of(alloc, file.processes.as_slice())?;
@@ -96,8 +95,8 @@ fn scheduled_text(
     Ok(text)
 }
 
-// The transcript of a run that workers make.
-fn text_by<R: Threads + Wait + Sync, G: Gate + Sync>(
+/// The transcript of such a file's run that workers make.
+pub fn text_by<R: Threads + Wait + Sync, G: Gate + Sync>(
     rt: &R,
     alloc: Global,
     accepted: &Accepted,
@@ -106,9 +105,8 @@ fn text_by<R: Threads + Wait + Sync, G: Gate + Sync>(
     gate: &G,
 ) -> Result<Vec<u8>, Memory>
     requires hosts { accepted.now.typed.hosts ≡ host_names hosts.now }
-    requires projects { Projects accepted.now.typed.file accepted.now.endpoints }
     requires workers { options.workers ≢ 0 }
-    ensures { IfOk result (λ text. IsRunText (functions_of hosts.now) accepted.now.typed.file options text.items) }
+    ensures { IfOk result (λ text. TellsRun (functions_of hosts.now) accepted.now.typed.file accepted.now.endpoints options text.items) }
 {
     let file = accepted.typed().file();
     let processes = names_of(alloc, file.processes.as_slice())?;

@@ -12,4 +12,6 @@ pub returns-clause-answers : goal.returns-clause-answers
 returns-clause-answers g c =
     let functions = functions_of c.args.hosts.now in
     let before = g.F.Shelf.state c.args.shelf.now in
-    one_is_done functions before before c.args.name.now All (λ f. IsRunText functions f c.args.options) c.in_ok-accepted.accepted.typed.file c.in_ok-text.text.items c.in_ok-accepted.ensures.accepted c.in_ok-text.ensures
+    let a = c.in_ok-accepted.accepted in
+    let says : IsRunText functions a.typed.file c.args.options c.in_ok-text.text.items = record { endpoints = a.endpoints; projects = c.in_ok-accepted.ensures.projects; tells = c.in_ok-text.ensures } in
+    one_is_done functions before before c.args.name.now All (λ f. IsRunText functions f c.args.options) a.typed.file c.in_ok-text.text.items c.in_ok-accepted.ensures.accepted says

@@ -14,4 +14,4 @@ returns g c =
     let processes : c.in_ok-processes.processes ≡ names_in file.processes = c.in_ok-processes.ensures ∙ ap names_in c.as_slice.ensures in
     let book : Words = record { names = file.names; texts = file.texts; processes = c.in_ok-processes.processes } in
     let is : book ≡ book_of accepted.typed.file = (λ i. record { names = file.names; texts = file.texts; processes = processes i }) ∙ ap book_of same in
-    run_text_by (functions_of c.args.hosts.now) accepted c.args.options book c.in_ok-text.text.items is c.requires.projects c.requires.workers c.in_ok-text.ensures
+    run_text_by (functions_of c.args.hosts.now) accepted c.args.options book c.in_ok-text.text.items is c.requires.workers c.in_ok-text.ensures
