@@ -1,1 +1,2 @@
 pub mod Resumes
+pub mod Laws

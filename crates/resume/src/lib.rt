@@ -3,6 +3,8 @@
 
 mod following;
 mod going;
+mod laws;
 mod resuming;
 
+pub use laws::fronts_are_resumed;
 pub use resuming::{Plan, resume};
