@@ -9,11 +9,11 @@ use Rattle.source_check.specs.Source.{Violates}
 use Rattle.source_check.proofs.OneFault as sources
 use Rattle.endpoint_check.specs.Programs.{ViolatesPrograms}
 use Rattle.endpoint_laws.proofs.Verdicts as programs
-use Rattle.chor_cmd.specs.Rows.{IsFine, ArePrograms, row_of}
+use Rattle.chor_cmd.specs.Rows.{IsFineSource, ArePrograms, row_of}
 use Rattle.chor_cmd.proofs.Musts.{Excludes, IsClear}
 
 module _ (functions : List Function) where
-  sources_exclude : (rules : Rules) (bytes : List ℕ) → Excludes (IsFine functions rules bytes) (Violates rules (names_of functions) bytes)
+  sources_exclude : (rules : Rules) (bytes : List ℕ) → Excludes (IsFineSource functions rules bytes) (Violates rules (names_of functions) bytes)
   sources_exclude rules bytes = record {
     one = λ r q v w. sources.one_refusal rules (names_of functions) bytes r q v w;
     never = λ r f v. sources.never_refused rules (names_of functions) bytes f.0 r f.1 v;

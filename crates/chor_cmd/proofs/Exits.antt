@@ -30,8 +30,8 @@ use Rattle.chor_cmd.specs.Outputs.{usage_line, refused_line, read_fault_line, to
 use Rattle.chor_cmd.specs.Endings.{Told, MayTell, Goes, Ends, usage, read_fault, goes, HasWritten}
 use Rattle.chor_cmd.specs.Calls.{Call, HasEnded}
 use Rattle.chor_cmd.proofs.Written.{written_so}
-use Rattle.chor_cmd.specs.Rows.{Row, Reads, Judges, Writes, AtMost, Exactly, IsFine, ArePrograms, OfSource, Executes, executes, source_limit, programs_limit, after_source, after_programs, on_source, row_of}
-use Rattle.chor_cmd.specs.Stops.{HasRead, HasReadFile, HasReadSource, HasReadPrograms, IsNoText, IsUnread, IsStop, AnswersBy, Answers, StopSays, AnswerSays, stop_of}
+use Rattle.chor_cmd.specs.Rows.{Row, Reads, Judges, Writes, AtMost, Exactly, IsFineSource, ArePrograms, OfSource, Executes, executes, source_limit, programs_limit, after_source, after_programs, on_source, row_of}
+use Rattle.chor_cmd.specs.Stops.{HasFetched, HasFetchedFile, HasFetchedSource, HasFetchedPrograms, IsNoText, IsUnread, IsStop, AnswersByRow, Answers, StopSays, AnswerSays, stop_of}
 
 -- ---- errors
 
@@ -41,11 +41,11 @@ err_is P (Ok x) e h p = absurd h
 err_is P (Err d) e h p = subst P (sym h) p
 
 module _ (row : Row) (names : List (List ℕ)) (before after : ShelfState) where
-  pub stopped : (r : Result Ending Stop) (stop : Stop) → IsErrAnd r (λ s. s ≡ stop) → IsStop row names before after stop → AnswersBy row names before after r
+  pub stopped : (r : Result Ending Stop) (stop : Stop) → IsErrAnd r (λ s. s ≡ stop) → IsStop row names before after stop → AnswersByRow row names before after r
   stopped (Ok e) stop is h = absurd is
   stopped (Err s) stop is h = subst (IsStop row names before after) (sym is) h
 
-  pub out_of_memory : (r : Result Ending Stop) → IsErrAnd r (λ s. s ≡ Memory) → AnswersBy row names before after r
+  pub out_of_memory : (r : Result Ending Stop) → IsErrAnd r (λ s. s ≡ Memory) → AnswersByRow row names before after r
   out_of_memory r is = stopped r Memory is tt
 
 -- a name among some is among more
@@ -68,7 +68,7 @@ module _ (limit : ℕ) (before after : ShelfState) (name : List ℕ) where
   unread_so P Q so Memory h = h
 
   -- bytes that were read and are denied
-  pub denied_so : (Broken : List ℕ → Refusal → Type 0) (bytes : List ℕ) → HasRead limit before name bytes → (d : Denied) → ((r : Refusal) → d ≡ denied.Refused r → Broken bytes r) → IsUnread limit Broken before after name (stop_of d)
+  pub denied_so : (Broken : List ℕ → Refusal → Type 0) (bytes : List ℕ) → HasFetched limit before name bytes → (d : Denied) → ((r : Refusal) → d ≡ denied.Refused r → Broken bytes r) → IsUnread limit Broken before after name (stop_of d)
   denied_so Broken bytes read (denied.Refused r) so = (bytes, read, so r refl)
   denied_so Broken bytes read denied.Memory so = tt
 
@@ -92,11 +92,11 @@ module _ (limit : ℕ) (before after : ShelfState) (name : List ℕ) where
       stops_judging Memory h = tt
 
       -- what is made of the files after it
-      module _ (bytes : List ℕ) (now : ShelfState) (read : HasRead limit before name bytes) (fine : Fine bytes) (same : now.files ≡ before.files) (rises : (other : List ℕ) → before.faults other ≤ now.faults other) where
+      module _ (bytes : List ℕ) (now : ShelfState) (read : HasFetched limit before name bytes) (fine : Fine bytes) (same : now.files ≡ before.files) (rises : (other : List ℕ) → before.faults other ≤ now.faults other) where
         on : (s : Status) (t : List ℕ) → Goes (MayTell now.files) names (next bytes) s t → Goes (MayTell before.files) (name ∷ names) judging s t
         on s t way = (bytes, read.0, inr (read.1, inr (fine, subst (λ (files : Told). Goes (MayTell files) names (next bytes) s t) same way)))
 
-        pub goes_on : (r : Result Ending Stop) → AnswersBy (next bytes) names now after r → AnswersBy judging (name ∷ names) before after r
+        pub goes_on : (r : Result Ending Stop) → AnswersByRow (next bytes) names now after r → AnswersByRow judging (name ∷ names) before after r
         goes_on (Ok e) way = on e.status e.text.items way
         goes_on (Err (Refused r)) way = on status.Refused (refused_line r) way
         goes_on (Err (ReadFault w)) (among, risen) = (later name names w.now among, risen_since (before.faults w.now) (now.faults w.now) (after.faults w.now) (rises w.now) risen)
@@ -104,7 +104,7 @@ module _ (limit : ℕ) (before after : ShelfState) (name : List ℕ) where
         goes_on (Err Memory) way = tt
 
 -- a file that was read and breaks some rules
-pub broken_so : (rules : Rules) (words : List (List ℕ)) (before after : ShelfState) (name : List ℕ) (f : File) → HasReadFile before name f → (d : Denied) → IsBroken (classes_of rules) words f d
+pub broken_so : (rules : Rules) (words : List (List ℕ)) (before after : ShelfState) (name : List ℕ) (f : File) → HasFetchedFile before name f → (d : Denied) → IsBroken (classes_of rules) words f d
     → IsUnread source_limit (Violates rules words) before after name (stop_of d)
 broken_so rules words before after name f (bytes, read, is) d denied =
     denied_so source_limit before after name (Violates rules words) bytes read d (λ r e. broken is (subst (IsBroken (classes_of rules) words f) e denied))
@@ -116,12 +116,12 @@ module _ (functions : List Function) (before after : ShelfState) (name : List �
   words = names_of functions
 
   pub source_stops : (rules : Rules) (next : List ℕ → Row) (names : List (List ℕ)) (r : Result Ending Stop) (stop : Stop) → IsErrAnd r (λ s. s ≡ stop) → IsUnread source_limit (Violates rules words) before after name stop
-      → AnswersBy (after_source functions rules next) (name ∷ names) before after r
+      → AnswersByRow (after_source functions rules next) (name ∷ names) before after r
   source_stops rules next names r stop is why =
-      stopped (after_source functions rules next) (name ∷ names) before after r stop is (stops_judging source_limit before after name names (IsFine functions rules) (Violates rules words) next stop why)
+      stopped (after_source functions rules next) (name ∷ names) before after r stop is (stops_judging source_limit before after name names (IsFineSource functions rules) (Violates rules words) next stop why)
 
   pub programs_stop : (next : List ℕ → Row) (names : List (List ℕ)) (r : Result Ending Stop) (stop : Stop) → IsErrAnd r (λ s. s ≡ stop) → IsUnread programs_limit (ViolatesPrograms words) before after name stop
-      → AnswersBy (after_programs functions next) (name ∷ names) before after r
+      → AnswersByRow (after_programs functions next) (name ∷ names) before after r
   programs_stop next names r stop is why =
       stopped (after_programs functions next) (name ∷ names) before after r stop is (stops_judging programs_limit before after name names (ArePrograms functions) (ViolatesPrograms words) next stop why)
 
@@ -131,23 +131,23 @@ module _ (functions : List Function) (before after : ShelfState) (name : List �
     rest bytes = Writes (OfSource functions rules Says bytes)
 
     -- a source that isn't read or is refused
-    pub one_stops : (r : Result Ending Stop) (stop : Stop) → IsErrAnd r (λ s. s ≡ stop) → IsUnread source_limit (Violates rules words) before after name stop → AnswersBy (on_source functions rules Says) (name ∷ []) before after r
+    pub one_stops : (r : Result Ending Stop) (stop : Stop) → IsErrAnd r (λ s. s ≡ stop) → IsUnread source_limit (Violates rules words) before after name stop → AnswersByRow (on_source functions rules Says) (name ∷ []) before after r
     one_stops r stop is why = source_stops rules rest [] r stop is why
 
     -- one that isn't read, or is refused by the rules of tokens and of the grammar
-    pub one_stops_reading : (r : Result Ending Stop) (stop : Stop) → IsErrAnd r (λ s. s ≡ stop) → IsUnread source_limit IsNoText before after name stop → AnswersBy (on_source functions rules Says) (name ∷ []) before after r
+    pub one_stops_reading : (r : Result Ending Stop) (stop : Stop) → IsErrAnd r (λ s. s ≡ stop) → IsUnread source_limit IsNoText before after name stop → AnswersByRow (on_source functions rules Says) (name ∷ []) before after r
     one_stops_reading r stop is h = one_stops r stop is (unread_so source_limit before after name IsNoText (Violates rules words) (λ bytes r h. unread h.0 h.1) stop h)
 
     -- one that was read, and is refused by other rules
-    pub one_is_broken : (f : File) → HasReadFile before name f → (d : Denied) → IsBroken (classes_of rules) words f d → (r : Result Ending Stop) → IsErrAnd r (λ s. s ≡ stop_of d) → AnswersBy (on_source functions rules Says) (name ∷ []) before after r
+    pub one_is_broken : (f : File) → HasFetchedFile before name f → (d : Denied) → IsBroken (classes_of rules) words f d → (r : Result Ending Stop) → IsErrAnd r (λ s. s ≡ stop_of d) → AnswersByRow (on_source functions rules Says) (name ∷ []) before after r
     one_is_broken f read d denied r is = one_stops r (stop_of d) is (broken_so rules words before after name f read d denied)
 
     -- and one for which the command is done
-    pub one_is_done : (f : File) (text : List ℕ) → HasReadSource rules words before name f → Says f text → Goes (MayTell before.files) (name ∷ []) (on_source functions rules Says) status.Done text
+    pub one_is_done : (f : File) (text : List ℕ) → HasFetchedSource rules words before name f → Says f text → Goes (MayTell before.files) (name ∷ []) (on_source functions rules Says) status.Done text
     one_is_done f text (bytes, read, accepted) says = (bytes, read.0, inr (read.1, inr ((f, accepted), (refl, (f, accepted, says)))))
 
   -- a run of endpoint programs is done, or is stuck
-  pub execution : (options : Options) (e : Endpoints) (ending : Ending) (text : List ℕ) (stuck : Bool) → HasReadPrograms words before name e → IsAskedTranscript functions e options text stuck
+  pub execution : (options : Options) (e : Endpoints) (ending : Ending) (text : List ℕ) (stuck : Bool) → HasFetchedPrograms words before name e → IsAskedTranscript functions e options text stuck
       → ending.text.items ≡ text → ending.status ≡ status_of stuck → Goes (MayTell before.files) (name ∷ []) (row_of functions (Exec options)) ending.status ending.text.items
   execution options e ending text stuck (bytes, read, are) run text_is status_is =
       let x = executes {text = text} stuck (record { programs = e; are = are; run = run }) in

@@ -9,7 +9,7 @@ use Rattle.chor_host.specs.Functions.{Function, hosts_in, names_of}
 use Rattle.replay.specs.declared.answer.Replayed.{Replayed}
 use Rattle.replay.specs.declared.answer.ReplayFault.{ReplayFault}
 use Rattle.replay.specs.declared.answer.ReplayFault.TheVariants.{Unmatched as unlike, Memory as NoMemory}
-use Rattle.command_words.specs.declared.words.Command.TheVariants.{Run, Exec, Link, Replay, Order}
+use Rattle.command_words.specs.declared.words.Command.TheVariants.{Run, Exec, Link, Replay, Order, Conform, Resume}
 use Rattle.command_words.specs.declared.options.Options.{Options}
 use Rattle.command_words.specs.declared.order_form.OrderForm.{OrderForm}
 use Rattle.endpoint_code.specs.declared.endpoints.Endpoints.{Endpoints}
@@ -31,7 +31,7 @@ use Rattle.chor_cmd.proofs.AskedRuns.{scheduled_asked, closed_asked}
 use Rattle.chor_cmd.specs.Outputs.{IsRunText, IsReplayOf, replayed_line, unmatched_line}
 use Rattle.chor_cmd.specs.Endings.{MayTell, Tells, Goes}
 use Rattle.chor_cmd.specs.Rows.{Row, Reads, Judges, Closes, AtMost, IsRefused, programs_limit, events_limit, Executes, executes, Replays, replays, misses, Orders, orders, breaks_off, beyond, row_of}
-use Rattle.chor_cmd.specs.Calls.{Call, Must, Comes, HasEnded, IsSettled, ReplaySays, IsBrokenFirst, IsBrokenNext, RunsSource, RunsProjected, AcceptsRuns, LinksPrograms, OrdersRun, RefusesBroken}
+use Rattle.chor_cmd.specs.Calls.{Call, Must, Comes, HasEnded, IsSettled, ReplaySays, IsBrokenFirst, IsBrokenNext, RunsSource, RunsProjected, AcceptsRuns, LinksPrograms, OrdersRun, JudgesLog, ResumesLog, RefusesBroken}
 use Rattle.chor_cmd.proofs.Replayed.{one_answer}
 use Rattle.chor_cmd.proofs.Settles.{same_bytes, grows, by_table}
 
@@ -129,6 +129,20 @@ module _ (call : Call) where
         let judged = m.1 few in
         let n = judged.1 (is.file, is.accepted) log told_log in
         grows call (Orders call.functions form bytes log) (λ s t. (s ≢ Unmatched) × Orders call.functions form bytes log s t) (is_ordered form bytes log r few_log is) (n.1 few_log)
+
+    pub judges_log : JudgesLog call
+    judges_log = λ name log_name bytes log f form told few told_log few_log accepted.
+        let m = settled Conform (name ∷ log_name ∷ []) form bytes told in
+        let judged = m.1 few in
+        let n = judged.1 (f, accepted) log told_log in
+        n.1 few_log
+
+    pub resumes_log : ResumesLog call
+    resumes_log = λ options name log_name bytes log f form told few told_log short accepted.
+        let m = settled (Resume options) (name ∷ log_name ∷ []) form bytes told in
+        let judged = m.1 few in
+        let n = judged.1 (f, accepted) log told_log in
+        n.1 short
 
     -- ---- refusals
 

@@ -22,8 +22,8 @@ use Rattle.chor_cmd.specs.declared.linking.Linking.TheVariants.{Linked, Unsuited
 use Rattle.chor_cmd.specs.Endings.{Told, MayTell, Goes}
 use Rattle.chor_cmd.specs.Linkings.{IsLinkingOf, HasLinked}
 use Rattle.chor_cmd.specs.Outputs.{TellsRun}
-use Rattle.chor_cmd.specs.Rows.{Row, Closes, IsFine, ArePrograms, Links, runs, clashes, source_limit, programs_limit, after_programs, row_of}
-use Rattle.chor_cmd.specs.Stops.{HasReadSource, HasReadPrograms, IsUnread, IsStop}
+use Rattle.chor_cmd.specs.Rows.{Row, Closes, IsFineSource, ArePrograms, Links, runs, clashes, source_limit, programs_limit, after_programs, row_of}
+use Rattle.chor_cmd.specs.Stops.{HasFetchedSource, HasFetchedPrograms, IsUnread, IsStop}
 use Rattle.chor_cmd.proofs.Exits.{stops_judging, goes_on}
 
 module _ (functions : List Function) (before : ShelfState) (name units_name : List ℕ) where
@@ -53,8 +53,8 @@ module _ (functions : List Function) (before : ShelfState) (name units_name : Li
         (clashes (record { file = h.accepted.typed.file; projection = h.accepted.endpoints; given = h.given; input = h.input; rule = u.rule; unit = u.unit; first = u.first; line_is = u.line_is }))
 
   -- the files that were read
-  module _ (a : AcceptedView) (now : ShelfState) (read : HasReadSource All words before name a.typed.file) (same : now.files ≡ before.files) where
-    pub has_linked : (given : Endpoints) (l : Linking) → a.typed.hosts ≡ words → Projects a.typed.file a.endpoints → HasReadPrograms words now units_name given → IsLinkingOf a given l → HasLinked functions before name units_name l
+  module _ (a : AcceptedView) (now : ShelfState) (read : HasFetchedSource All words before name a.typed.file) (same : now.files ≡ before.files) where
+    pub has_linked : (given : Endpoints) (l : Linking) → a.typed.hosts ≡ words → Projects a.typed.file a.endpoints → HasFetchedPrograms words now units_name given → IsLinkingOf a given l → HasLinked functions before name units_name l
     has_linked given l hosts projects (bytes, units_read, are) linked = record {
       source = read.0;
       units = bytes;
@@ -72,10 +72,10 @@ module _ (functions : List Function) (before : ShelfState) (name units_name : Li
         → (options : Options) → IsStop (row_of functions (Link options)) names before after stop
     units_stop after rises stop why options =
         let next : List ℕ → List ℕ → Row = λ source units. Closes (Links functions options source units) in
-        goes_on source_limit before after name (units_name ∷ []) (IsFine functions All) (Violates All words) (λ source. after_programs functions (next source)) read.0 now read.1 (a.typed.file, read.2) same rises
+        goes_on source_limit before after name (units_name ∷ []) (IsFineSource functions All) (Violates All words) (λ source. after_programs functions (next source)) read.0 now read.1 (a.typed.file, read.2) same rises
         (Err stop) (stops_judging programs_limit now after units_name [] (ArePrograms functions) (ViolatesPrograms words) (next read.0) stop why)
 
   -- a source that wasn't read or is refused
   pub source_stop : (after : ShelfState) (stop : Stop) → IsUnread source_limit (Violates All words) before after name stop → (options : Options) → IsStop (row_of functions (Link options)) names before after stop
   source_stop after stop why options =
-      stops_judging source_limit before after name (units_name ∷ []) (IsFine functions All) (Violates All words) (λ source. after_programs functions (λ units. Closes (Links functions options source units))) stop why
+      stops_judging source_limit before after name (units_name ∷ []) (IsFineSource functions All) (Violates All words) (λ source. after_programs functions (λ units. Closes (Links functions options source units))) stop why

@@ -7,7 +7,7 @@ use Rattle.chor_cmd.specs.declared.status.Status.{Status}
 use Rattle.chor_cmd.specs.declared.status.Status.TheVariants.{Done, Refused, Usage, ReadFault, WriteFault, Memory, Unmatched, Stuck, TooLarge}
 use Rattle.chor_cmd.specs.Endings.{HasWritten}
 use Rattle.chor_cmd.specs.Rows.{Exactly}
-use Rattle.chor_cmd.specs.Status.{has_text}
+use Rattle.chor_cmd.specs.Status.{comes_with_text}
 
 wrote : (old new : Option (List ℕ)) (text : List ℕ) → PutTells old new text put.All → Wrote old new text
 wrote None new text h = tt
@@ -19,7 +19,7 @@ wrote_front (Some old) new text h = subst (λ (n : Option (List ℕ)). WroteFron
 
 module _ (sink sink' : SinkState) where
   -- the whole text was written
-  pub wrote_all : (status : Status) (text : List ℕ) → IsTrue (has_text status) → PutTells sink.written sink'.written text put.All → HasWritten (Exactly status text) ⊥ sink sink' status
+  pub wrote_all : (status : Status) (text : List ℕ) → IsTrue (comes_with_text status) → PutTells sink.written sink'.written text put.All → HasWritten (Exactly status text) ⊥ sink sink' status
   wrote_all Done text has h = (text, (refl, refl), wrote sink.written sink'.written text h)
   wrote_all Refused text has h = (text, (refl, refl), wrote sink.written sink'.written text h)
   wrote_all Usage text has h = (text, (refl, refl), wrote sink.written sink'.written text h)

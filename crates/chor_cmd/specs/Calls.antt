@@ -12,11 +12,11 @@ use Rattle.replay.specs.declared.answer.ReplayFault.{ReplayFault}
 use Rattle.replay.specs.declared.answer.ReplayFault.TheVariants.{Unmatched as unlike, Memory as NoMemory}
 use Rattle.command_words.specs.declared.words.Words.{Words}
 use Rattle.command_words.specs.declared.words.Command.{Command}
-use Rattle.command_words.specs.declared.words.Command.TheVariants.{Run, Exec, Link, Replay, Order}
+use Rattle.command_words.specs.declared.words.Command.TheVariants.{Run, Exec, Link, Replay, Order, Conform, Resume}
 use Rattle.command_words.specs.declared.options.Options.{Options}
 use Rattle.command_words.specs.declared.order_form.OrderForm.{OrderForm}
 use Rattle.command_words.specs.Words.{IsForm, HasForm, NamesFile, HasNoForm}
-use Rattle.source_check.specs.declared.rules.Rules.TheVariants.{All}
+use Rattle.source_check.specs.declared.rules.Rules.TheVariants.{All, Views}
 use Rattle.source_check.specs.Source.{IsAccepted}
 use Rattle.endpoint_code.specs.declared.endpoints.Endpoints.{Endpoints}
 use Rattle.endpoint_check.specs.Programs.{AreProgramsOf}
@@ -28,6 +28,7 @@ use Rattle.chor_cmd.specs.Outputs.{IsRunText, IsReplayOf, usage_line, replayed_l
 use Rattle.chor_cmd.specs.Endings.{Tells, FetchesOnly, IsTooLarge}
 use Rattle.chor_cmd.specs.Endings.{Ends as MayEndSo, HasEnded as HasEndedSo}
 use Rattle.chor_cmd.specs.Rows.{Row, Reads, Judges, Closes, Exactly, IsRefused, OfSource, Links, Orders, source_limit, programs_limit, events_limit, row_of}
+use Rattle.chor_cmd.specs.Rows.{IsShortLog, Conforms, Resumes}
 
 -- a call: the host functions that are there, its words, the shelf and the sink before and after it, and the status with which it ends
 pub record Call : Type 0 where
@@ -146,6 +147,21 @@ module _ (call : Call) where
       (form : OrderForm) (name log_name bytes log : List ℕ) (r : Replayed) → IsForm call.words (Order form) (name ∷ log_name ∷ [])
       → Tells call.shelf.files name bytes → length bytes ≤ source_limit → Tells call.shelf.files log_name log → length log ≤ events_limit
       → IsReplayOf call.functions bytes log (Ok r) → Comes (λ status text. (status ≢ Unmatched) × Orders call.functions form bytes log status text)
+
+  -- `conform`, for a source whose names, protocols and views have no fault, and an events file, both told: how the log is judged by its
+  -- protocols
+  abbrev pub JudgesLog : Type 0
+  JudgesLog =
+      (name log_name bytes log : List ℕ) (f : File) → IsForm call.words Conform (name ∷ log_name ∷ [])
+      → Tells call.shelf.files name bytes → length bytes ≤ source_limit → Tells call.shelf.files log_name log → length log ≤ events_limit
+      → IsAccepted Views (names_of call.functions) bytes f → Comes (Conforms call.functions bytes log)
+
+  -- `resume`, for a source that violates no rule and an events file with few lines, both told: how a run of it goes on after these events
+  abbrev pub ResumesLog : Type 0
+  ResumesLog =
+      (options : Options) (name log_name bytes log : List ℕ) (f : File) → IsForm call.words (Resume options) (name ∷ log_name ∷ [])
+      → Tells call.shelf.files name bytes → length bytes ≤ source_limit → Tells call.shelf.files log_name log → IsShortLog log
+      → IsAccepted All (names_of call.functions) bytes f → Comes (Resumes call.functions options bytes log)
 
   -- any command, for a first file that is told and that it judges broken: the rule, and where
   abbrev pub RefusesBroken : Type 0

@@ -13,7 +13,7 @@ use Rattle.simulation.specs.Accepted.{AcceptedView}
 use Rattle.chor_cmd.specs.declared.linking.Linking.{Linking}
 use Rattle.chor_cmd.specs.declared.linking.Linking.TheVariants.{Linked, Unsuited}
 use Rattle.chor_cmd.specs.Rows.{source_limit, programs_limit}
-use Rattle.chor_cmd.specs.Stops.{HasRead}
+use Rattle.chor_cmd.specs.Stops.{HasFetched}
 
 -- the line tells the first given unit that can't take the place of one of the projection
 pub record TellsUnsuited (projection given : Endpoints) (line : List ℕ) : Type 0 where
@@ -34,7 +34,7 @@ pub record HasLinked (functions : List Function) (shelf : ShelfState) (name unit
   pub accepted : AcceptedView
   pub hosts : accepted.typed.hosts ≡ names_of functions
   pub given : Endpoints
-  pub source_read : HasRead source_limit shelf name source
-  pub units_read : HasRead programs_limit shelf units_name units
+  pub source_read : HasFetched source_limit shelf name source
+  pub units_read : HasFetched programs_limit shelf units_name units
   pub input : AreToLink functions source units accepted.typed.file accepted.endpoints given
   pub linked : IsLinkingOf accepted given linking

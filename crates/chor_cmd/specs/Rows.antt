@@ -84,8 +84,8 @@ after_short_log Says = Reads IsShortLog (λ log. Closes (Says log))
 
 module _ (functions : List Function) where
   -- the bytes are the text of a source that violates none of these rules
-  abbrev pub IsFine : Rules → List ℕ → Type 0
-  IsFine rules bytes = (f : File) × IsAccepted rules (names_of functions) bytes f
+  abbrev pub IsFineSource : Rules → List ℕ → Type 0
+  IsFineSource rules bytes = (f : File) × IsAccepted rules (names_of functions) bytes f
 
   -- the bytes are the text of endpoint programs without a fault
   abbrev pub ArePrograms : List ℕ → Type 0
@@ -93,7 +93,7 @@ module _ (functions : List Function) where
 
   -- the bytes are a source, which is judged by these rules
   abbrev pub judged : Rules → List ℕ → Row → Row
-  judged rules bytes next = Judges (IsFine rules bytes) (Violates rules (names_of functions) bytes) next
+  judged rules bytes next = Judges (IsFineSource rules bytes) (Violates rules (names_of functions) bytes) next
 
   -- the bytes are endpoint programs
   abbrev pub judged_programs : List ℕ → Row → Row

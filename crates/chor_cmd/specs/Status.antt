@@ -21,13 +21,13 @@ number_of Stuck = 7
 number_of TooLarge = 8
 
 -- a whole text was written with it: it is neither that of a failed write nor that of a call that ran out of memory
-abbrev pub has_text : Status → Bool
-has_text WriteFault = false
-has_text Memory = false
-has_text Done = true
-has_text Refused = true
-has_text Usage = true
-has_text ReadFault = true
-has_text Unmatched = true
-has_text Stuck = true
-has_text TooLarge = true
+abbrev pub comes_with_text : Status → Bool
+comes_with_text WriteFault = false
+comes_with_text Memory = false
+comes_with_text Done = true
+comes_with_text Refused = true
+comes_with_text Usage = true
+comes_with_text ReadFault = true
+comes_with_text Unmatched = true
+comes_with_text Stuck = true
+comes_with_text TooLarge = true

@@ -36,25 +36,25 @@ abbrev pub TouchesOnly : List (List ℕ) → ShelfState → ShelfState → Type 
 TouchesOnly names shelf shelf' = (other : List ℕ) → (Contains names other → ⊥) → shelf'.faults other ≡ shelf.faults other
 
 -- the file of this name may have these bytes, at most so many
-abbrev pub HasRead : ℕ → ShelfState → List ℕ → List ℕ → Type 0
-HasRead limit shelf name bytes = MayTell shelf.files name bytes × (length bytes ≤ limit)
+abbrev pub HasFetched : ℕ → ShelfState → List ℕ → List ℕ → Type 0
+HasFetched limit shelf name bytes = MayTell shelf.files name bytes × (length bytes ≤ limit)
 
 -- it may be the text of this file
-abbrev pub HasReadFile : ShelfState → List ℕ → File → Type 0
-HasReadFile shelf name f = (bytes : List ℕ) × HasRead source_limit shelf name bytes × IsFileOf bytes f
+abbrev pub HasFetchedFile : ShelfState → List ℕ → File → Type 0
+HasFetchedFile shelf name f = (bytes : List ℕ) × HasFetched source_limit shelf name bytes × IsFileOf bytes f
 
 -- which violates none of these rules
-abbrev pub HasReadSource : Rules → List (List ℕ) → ShelfState → List ℕ → File → Type 0
-HasReadSource rules words shelf name f = (bytes : List ℕ) × HasRead source_limit shelf name bytes × IsAccepted rules words bytes f
+abbrev pub HasFetchedSource : Rules → List (List ℕ) → ShelfState → List ℕ → File → Type 0
+HasFetchedSource rules words shelf name f = (bytes : List ℕ) × HasFetched source_limit shelf name bytes × IsAccepted rules words bytes f
 
 -- it may be the text of these endpoint programs
-abbrev pub HasReadPrograms : List (List ℕ) → ShelfState → List ℕ → Endpoints → Type 0
-HasReadPrograms words shelf name e = (bytes : List ℕ) × HasRead programs_limit shelf name bytes × AreProgramsOf words bytes e
+abbrev pub HasFetchedPrograms : List (List ℕ) → ShelfState → List ℕ → Endpoints → Type 0
+HasFetchedPrograms words shelf name e = (bytes : List ℕ) × HasFetched programs_limit shelf name bytes × AreProgramsOf words bytes e
 
 -- Why nothing was made of the file of this name, of at most so many bytes: reading it failed, which was counted; it may be longer; it may have bytes that are broken so; or
 -- memory ran out
 abbrev pub IsUnread : ℕ → (List ℕ → Refusal → Type 0) → ShelfState → ShelfState → List ℕ → Stop → Type 0
-IsUnread limit Broken shelf shelf' name (Refused r) = (bytes : List ℕ) × HasRead limit shelf name bytes × Broken bytes r
+IsUnread limit Broken shelf shelf' name (Refused r) = (bytes : List ℕ) × HasFetched limit shelf name bytes × Broken bytes r
 IsUnread limit Broken shelf shelf' name (ReadFault w) = (w.now ≡ name) × Risen (shelf.faults name) (shelf'.faults name)
 IsUnread limit Broken shelf shelf' name (TooLarge w) = (w.now ≡ name) × ((bytes : List ℕ) × MayTell shelf.files name bytes × (limit < length bytes))
 IsUnread limit Broken shelf shelf' name Memory = Unit {0}
@@ -62,8 +62,8 @@ IsUnread limit Broken shelf shelf' name Memory = Unit {0}
 -- ---- an events file after which a run goes on
 
 -- it may have these bytes, which are no more than they may be
-abbrev pub HasReadLog : ShelfState → List ℕ → List ℕ → Type 0
-HasReadLog shelf name log = MayTell shelf.files name log × IsShortLog log
+abbrev pub HasFetchedLog : ShelfState → List ℕ → List ℕ → Type 0
+HasFetchedLog shelf name log = MayTell shelf.files name log × IsShortLog log
 
 -- Why it wasn't read: reading it failed, which was counted; it may be more; or memory ran out
 abbrev pub IsUnreadLog : ShelfState → ShelfState → List ℕ → Stop → Type 0
@@ -82,12 +82,12 @@ IsStop row names shelf shelf' (TooLarge w) = Goes (MayTell shelf.files) names ro
 IsStop row names shelf shelf' Memory = Unit {0}
 
 -- What a command with this row answers: an ending to which its row goes, or why it stopped
-abbrev pub AnswersBy : Row → List (List ℕ) → ShelfState → ShelfState → Result Ending Stop → Type 0
-AnswersBy row names shelf shelf' (Ok ending) = Goes (MayTell shelf.files) names row ending.status ending.text.items
-AnswersBy row names shelf shelf' (Err stop) = IsStop row names shelf shelf' stop
+abbrev pub AnswersByRow : Row → List (List ℕ) → ShelfState → ShelfState → Result Ending Stop → Type 0
+AnswersByRow row names shelf shelf' (Ok ending) = Goes (MayTell shelf.files) names row ending.status ending.text.items
+AnswersByRow row names shelf shelf' (Err stop) = IsStop row names shelf shelf' stop
 
 abbrev pub Answers : List Function → Command → List (List ℕ) → ShelfState → ShelfState → Result Ending Stop → Type 0
-Answers functions command names shelf shelf' answer = AnswersBy (row_of functions command) names shelf shelf' answer
+Answers functions command names shelf shelf' answer = AnswersByRow (row_of functions command) names shelf shelf' answer
 
 -- ---- what is written then
 

@@ -5,7 +5,7 @@ ghost use Rattle.chor_host.specs.Tables.{functions_of};
 ghost use Rattle.command_words.specs.Words.{AreForm};
 ghost use Rattle.projected_programs.specs.Laws.{ProjectedTextIsTaken, ProjectedTextRuns};
 ghost use Rattle.projected_programs.specs.LawsBy.{ProjectedTextRunsByWorkers};
-ghost use Rattle.chor_cmd.specs.Calls.{Fetches, HasEnded, IsUsage, IsSettled, RunsSource, RunsProjected, AcceptsRuns, LinksPrograms, OrdersRun, RefusesBroken, call_of};
+ghost use Rattle.chor_cmd.specs.Calls.{Fetches, HasEnded, IsUsage, IsSettled, RunsSource, RunsProjected, AcceptsRuns, LinksPrograms, OrdersRun, JudgesLog, ResumesLog, RefusesBroken, call_of};
 ghost use Rattle.chor_cmd.specs.Runs.{AsksNoWorkers, workers_of};
 ghost use Rattle.chor_cmd.specs.Stops.{Answers, TouchesOnly};
 
@@ -60,6 +60,10 @@ use std::thread::Threads;
 /// of them stand to each other, and with `--lead J` a transcript of the events that lead to one. For a
 /// number that no event has it writes `refused O1`.
 ///
+/// `conform FILE EVENTS` judges the events by the protocols of the file alone, and writes `conforms` and
+/// their number, or `unmatched`. `resume FILE EVENTS` drops a last line that broke off, and writes the
+/// transcript of the run that begins with the events that are left and goes on as the options say.
+///
 /// Where the options of `run`, `exec` or `link` ask for workers, these make the run, each in its turn, and each
 /// passes the gate before each of its turns. Then the call waits until all workers have finished. For
 /// all other words it is `alone`.
@@ -87,6 +91,8 @@ pub fn chor<R: Threads + Wait + Sync, F: Shelf, K: Sink, G: Gate + Sync>(
     ensures replayed { AcceptsRuns (call_of hosts.now words.now (F.state shelf.old) (F.state shelf.new) (K.state out.old) (K.state out.new) result) }
     ensures linked { LinksPrograms (call_of hosts.now words.now (F.state shelf.old) (F.state shelf.new) (K.state out.old) (K.state out.new) result) }
     ensures ordered { OrdersRun (call_of hosts.now words.now (F.state shelf.old) (F.state shelf.new) (K.state out.old) (K.state out.new) result) }
+    ensures conformed { JudgesLog (call_of hosts.now words.now (F.state shelf.old) (F.state shelf.new) (K.state out.old) (K.state out.new) result) }
+    ensures resumed { ResumesLog (call_of hosts.now words.now (F.state shelf.old) (F.state shelf.new) (K.state out.old) (K.state out.new) result) }
     ensures refused { RefusesBroken (call_of hosts.now words.now (F.state shelf.old) (F.state shelf.new) (K.state out.old) (K.state out.new) result) }
 {
     projected_laws();
@@ -125,6 +131,8 @@ pub fn alone<R: Threads + Sync, F: Shelf, K: Sink>(
     ensures replayed { AcceptsRuns (call_of hosts.now words.now (F.state shelf.old) (F.state shelf.new) (K.state out.old) (K.state out.new) result) }
     ensures linked { LinksPrograms (call_of hosts.now words.now (F.state shelf.old) (F.state shelf.new) (K.state out.old) (K.state out.new) result) }
     ensures ordered { OrdersRun (call_of hosts.now words.now (F.state shelf.old) (F.state shelf.new) (K.state out.old) (K.state out.new) result) }
+    ensures conformed { JudgesLog (call_of hosts.now words.now (F.state shelf.old) (F.state shelf.new) (K.state out.old) (K.state out.new) result) }
+    ensures resumed { ResumesLog (call_of hosts.now words.now (F.state shelf.old) (F.state shelf.new) (K.state out.old) (K.state out.new) result) }
     ensures refused { RefusesBroken (call_of hosts.now words.now (F.state shelf.old) (F.state shelf.new) (K.state out.old) (K.state out.new) result) }
 {
     projected_laws();

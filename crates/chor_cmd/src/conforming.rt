@@ -11,7 +11,7 @@ ghost use Rattle.source_check.specs.Source.{IsAccepted, Violates};
 ghost use Rattle.chor_cmd.specs.Endings.{host_names};
 ghost use Rattle.chor_cmd.specs.Outputs.{conforms_line};
 ghost use Rattle.chor_cmd.specs.Rows.{Conforms, source_limit, after_events};
-ghost use Rattle.chor_cmd.specs.Stops.{Answers, AnswersBy, HasReadSource, IsUnread, TouchesOnly};
+ghost use Rattle.chor_cmd.specs.Stops.{Answers, AnswersByRow, HasFetchedSource, IsUnread, TouchesOnly};
 
 use crate::ending::{Ending, Stop};
 use crate::replaying::unmatched_line;
@@ -51,7 +51,7 @@ fn fetch_viewed<'a, F: Shelf>(
     hosts: &HostTable,
     shelf: &mut F,
 ) -> Result<File, Stop<'a>>
-    ensures viewed { IfOk result (HasReadSource Views (host_names hosts.now) (F.state shelf.old) name.now) }
+    ensures viewed { IfOk result (HasFetchedSource Views (host_names hosts.now) (F.state shelf.old) name.now) }
     ensures words { IfOk result (λ file. AreWords file.names) }
     ensures judgeable { IfOk result IsJudgeable }
     ensures unread { IfErr result (IsUnread source_limit (Violates Views (host_names hosts.now)) (F.state shelf.old) (F.state shelf.new) name.now) }
@@ -75,7 +75,7 @@ fn conform_on<'a, F: Shelf>(
     requires words { AreWords source.now.names }
     requires judgeable { IsJudgeable source.now }
     ensures answers { (functions : List Function) (bytes : List ℕ) → IsAccepted Views (names_of functions) bytes source.now
-        → AnswersBy (after_events (Conforms functions bytes)) (events.now ∷ []) (F.state shelf.old) (F.state shelf.new) result }
+        → AnswersByRow (after_events (Conforms functions bytes)) (events.now ∷ []) (F.state shelf.old) (F.state shelf.new) result }
     ensures only { TouchesOnly (events.now ∷ []) (F.state shelf.old) (F.state shelf.new) }
 {
     let log = fetch_bytes(alloc, events, EVENTS_LIMIT, shelf)?;

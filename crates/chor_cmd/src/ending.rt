@@ -1,7 +1,7 @@
 //! What a command makes of its files.
 
 ghost use Rattle.std.specs.Prelude.{IsTrue};
-ghost use Rattle.chor_cmd.specs.Status.{has_text};
+ghost use Rattle.chor_cmd.specs.Status.{comes_with_text};
 
 use crate::status::Status;
 use chor_base::{Denied, Memory as NoMemory, Refusal, Word};
@@ -11,7 +11,7 @@ use chor_base::{Denied, Memory as NoMemory, Refusal, Word};
 pub struct Ending {
     pub text: Vec<u8>,
     pub status: Status,
-    ghost written: { IsTrue (has_text status) },
+    ghost written: { IsTrue (comes_with_text status) },
 }
 
 /// Why a command has made no such text.

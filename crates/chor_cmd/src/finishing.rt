@@ -4,7 +4,7 @@ ghost use Rattle.std.specs.Prelude.{◌≡◌, ◌++◌, IfOk, OnOk, IsTrue, ⊤
 ghost use Rattle.chor_cmd.specs.Endings.{HasWritten};
 ghost use Rattle.chor_cmd.specs.Outputs.{line_naming, refused_line, who_told};
 ghost use Rattle.chor_cmd.specs.Rows.{Exactly};
-ghost use Rattle.chor_cmd.specs.Status.{has_text};
+ghost use Rattle.chor_cmd.specs.Status.{comes_with_text};
 ghost use Rattle.chor_cmd.specs.Stops.{AnswerSays, StopSays};
 
 use crate::ending::{Ending, Stop};
@@ -30,7 +30,7 @@ pub fn finish<K: Sink>(alloc: Global, out: &mut K, answer: Result<Ending, Stop<'
 /// Writes the text with which a call ends, and answers the status.
 #[tactic(auto, using(crate::proofs::Written::wrote_all, crate::proofs::Written::wrote_some))]
 pub fn write<K: Sink>(out: &mut K, text: &[u8], status: Status) -> Status
-    requires { IsTrue (has_text status) }
+    requires { IsTrue (comes_with_text status) }
     ensures { HasWritten (Exactly status text.now) ⊥ (K.state out.old) (K.state out.new) result }
 {
     match out.put(text) {

@@ -9,7 +9,7 @@ ghost use Rattle.source_check.specs.Source.{IsAccepted};
 ghost use Rattle.chor_cmd.specs.Endings.{host_names};
 ghost use Rattle.chor_cmd.specs.Outputs.{beyond_line};
 ghost use Rattle.chor_cmd.specs.Rows.{Orders, after_events};
-ghost use Rattle.chor_cmd.specs.Stops.{Answers, AnswersBy, TouchesOnly};
+ghost use Rattle.chor_cmd.specs.Stops.{Answers, AnswersByRow, TouchesOnly};
 
 use crate::ending::{Ending, Stop};
 use crate::replaying::unmatched_line;
@@ -54,7 +54,7 @@ fn order_on<'a, F: Shelf>(
     requires hosts { accepted.now.typed.hosts ≡ host_names hosts.now }
     requires words { AreWords accepted.now.typed.file.names }
     ensures answers { (bytes : List ℕ) → IsAccepted All (host_names hosts.now) bytes accepted.now.typed.file
-        → AnswersBy (after_events (Orders (functions_of hosts.now) form bytes)) (events.now ∷ []) (F.state shelf.old) (F.state shelf.new) result }
+        → AnswersByRow (after_events (Orders (functions_of hosts.now) form bytes)) (events.now ∷ []) (F.state shelf.old) (F.state shelf.new) result }
     ensures only { TouchesOnly (events.now ∷ []) (F.state shelf.old) (F.state shelf.new) }
 {
     let log = fetch_bytes(alloc, events, EVENTS_LIMIT, shelf)?;

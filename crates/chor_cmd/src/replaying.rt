@@ -9,7 +9,7 @@ ghost use Rattle.source_check.specs.Source.{IsAccepted};
 ghost use Rattle.chor_cmd.specs.Endings.{host_names};
 ghost use Rattle.chor_cmd.specs.Outputs.{replayed_line, unmatched_line, state_word};
 ghost use Rattle.chor_cmd.specs.Rows.{Replays, after_events};
-ghost use Rattle.chor_cmd.specs.Stops.{Answers, AnswersBy, TouchesOnly};
+ghost use Rattle.chor_cmd.specs.Stops.{Answers, AnswersByRow, TouchesOnly};
 
 use crate::ending::{Ending, Stop};
 use crate::sources::{EVENTS_LIMIT, fetch_accepted, fetch_bytes};
@@ -51,7 +51,7 @@ fn replay_on<'a, F: Shelf>(
     requires hosts { accepted.now.typed.hosts ≡ host_names hosts.now }
     requires words { AreWords accepted.now.typed.file.names }
     ensures answers { (bytes : List ℕ) → IsAccepted All (host_names hosts.now) bytes accepted.now.typed.file
-        → AnswersBy (after_events (Replays (functions_of hosts.now) bytes)) (events.now ∷ []) (F.state shelf.old) (F.state shelf.new) result }
+        → AnswersByRow (after_events (Replays (functions_of hosts.now) bytes)) (events.now ∷ []) (F.state shelf.old) (F.state shelf.new) result }
     ensures only { TouchesOnly (events.now ∷ []) (F.state shelf.old) (F.state shelf.new) }
 {
     let log = fetch_bytes(alloc, events, EVENTS_LIMIT, shelf)?;

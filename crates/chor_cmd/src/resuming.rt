@@ -9,7 +9,7 @@ ghost use Rattle.source_check.specs.declared.rules.Rules.TheVariants.{All};
 ghost use Rattle.source_check.specs.Source.{IsAccepted};
 ghost use Rattle.chor_cmd.specs.Endings.{host_names};
 ghost use Rattle.chor_cmd.specs.Rows.{Resumes, IsShortLog, after_short_log};
-ghost use Rattle.chor_cmd.specs.Stops.{Answers, AnswersBy, HasReadLog, IsUnreadLog, TouchesOnly};
+ghost use Rattle.chor_cmd.specs.Stops.{Answers, AnswersByRow, HasFetchedLog, IsUnreadLog, TouchesOnly};
 
 use crate::ending::{Ending, Stop};
 use crate::replaying::unmatched_line;
@@ -63,7 +63,7 @@ fn resume_on<'a, F: Shelf>(
     requires words { AreWords accepted.now.typed.file.names }
     requires projects { Projects accepted.now.typed.file accepted.now.endpoints }
     ensures answers { (bytes : List ℕ) → IsAccepted All (host_names hosts.now) bytes accepted.now.typed.file
-        → AnswersBy (after_short_log (Resumes (functions_of hosts.now) options bytes)) (events.now ∷ []) (F.state shelf.old) (F.state shelf.new) result }
+        → AnswersByRow (after_short_log (Resumes (functions_of hosts.now) options bytes)) (events.now ∷ []) (F.state shelf.old) (F.state shelf.new) result }
     ensures only { TouchesOnly (events.now ∷ []) (F.state shelf.old) (F.state shelf.new) }
 {
     let log = fetch_log(alloc, events, shelf)?;
@@ -77,7 +77,7 @@ fn fetch_log<'a, F: Shelf>(
     name: &'a Word,
     shelf: &mut F,
 ) -> Result<Vec<u8>, Stop<'a>>
-    ensures log { IfOk result (λ log. HasReadLog (F.state shelf.old) name.now log.items) }
+    ensures log { IfOk result (λ log. HasFetchedLog (F.state shelf.old) name.now log.items) }
     ensures unread { IfErr result (IsUnreadLog (F.state shelf.old) (F.state shelf.new) name.now) }
     ensures only { TouchesOnly (name.now ∷ []) (F.state shelf.old) (F.state shelf.new) }
 {

@@ -8,7 +8,7 @@ ghost use Rattle.source_check.specs.Source.{Violates};
 ghost use Rattle.endpoint_check.specs.Programs.{ViolatesPrograms};
 ghost use Rattle.chor_cmd.specs.Endings.{host_names};
 ghost use Rattle.chor_cmd.specs.Rows.{source_limit, programs_limit};
-ghost use Rattle.chor_cmd.specs.Stops.{HasRead, HasReadFile, HasReadSource, HasReadPrograms, IsNoText, IsUnread, TouchesOnly};
+ghost use Rattle.chor_cmd.specs.Stops.{HasFetched, HasFetchedFile, HasFetchedSource, HasFetchedPrograms, IsNoText, IsUnread, TouchesOnly};
 
 use crate::ending::Stop;
 use chor_base::Word;
@@ -38,7 +38,7 @@ pub fn fetch_bytes<'a, F: Shelf>(
     shelf: &mut F,
 ) -> Result<Vec<u8>, Stop<'a>>
     requires { limit < 2 ^ 32 }
-    ensures bytes { IfOk result (λ bytes. HasRead limit (F.state shelf.old) name.now bytes.items) }
+    ensures bytes { IfOk result (λ bytes. HasFetched limit (F.state shelf.old) name.now bytes.items) }
     ensures unread { IfErr result (IsUnread limit (λ bytes r. ⊥) (F.state shelf.old) (F.state shelf.new) name.now) }
     ensures same { (F.state shelf.new).files ≡ (F.state shelf.old).files }
     ensures rises { (F.state shelf.old).faults name.now ≤ (F.state shelf.new).faults name.now }
@@ -59,7 +59,7 @@ pub fn fetch_source<'a, F: Shelf>(
     name: &'a Word,
     shelf: &mut F,
 ) -> Result<File, Stop<'a>>
-    ensures file { IfOk result (HasReadFile (F.state shelf.old) name.now) }
+    ensures file { IfOk result (HasFetchedFile (F.state shelf.old) name.now) }
     ensures unread { IfErr result (IsUnread source_limit IsNoText (F.state shelf.old) (F.state shelf.new) name.now) }
     ensures same { (F.state shelf.new).files ≡ (F.state shelf.old).files }
     ensures rises { (F.state shelf.old).faults name.now ≤ (F.state shelf.new).faults name.now }
@@ -77,7 +77,7 @@ pub fn fetch_accepted<'a, F: Shelf>(
     hosts: &HostTable,
     shelf: &mut F,
 ) -> Result<Accepted, Stop<'a>>
-    ensures accepted { IfOk result (λ accepted. HasReadSource All (host_names hosts.now) (F.state shelf.old) name.now accepted.typed.file) }
+    ensures accepted { IfOk result (λ accepted. HasFetchedSource All (host_names hosts.now) (F.state shelf.old) name.now accepted.typed.file) }
     ensures hosts { IfOk result (λ accepted. accepted.typed.hosts ≡ host_names hosts.now) }
     ensures words { IfOk result (λ accepted. AreWords accepted.typed.file.names) }
     ensures projects { IfOk result (λ accepted. Projects accepted.typed.file accepted.endpoints) }
@@ -99,7 +99,7 @@ pub fn fetch_programs<'a, F: Shelf>(
     hosts: &HostTable,
     shelf: &mut F,
 ) -> Result<Endpoints, Stop<'a>>
-    ensures programs { IfOk result (HasReadPrograms (host_names hosts.now) (F.state shelf.old) name.now) }
+    ensures programs { IfOk result (HasFetchedPrograms (host_names hosts.now) (F.state shelf.old) name.now) }
     ensures unread { IfErr result (IsUnread programs_limit (ViolatesPrograms (host_names hosts.now)) (F.state shelf.old) (F.state shelf.new) name.now) }
     ensures same { (F.state shelf.new).files ≡ (F.state shelf.old).files }
     ensures rises { (F.state shelf.old).faults name.now ≤ (F.state shelf.new).faults name.now }

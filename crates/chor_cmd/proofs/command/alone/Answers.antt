@@ -1,6 +1,6 @@
 use Rattle.projected_programs.proofs.Hosts.{table_exact}
 use Rattle.chor_cmd.proofs.Settles.{is_usage, is_settled}
-use Rattle.chor_cmd.proofs.Headline.{runs_source, runs_projected, accepts_runs, links_programs, orders_run, refuses_broken}
+use Rattle.chor_cmd.proofs.Headline.{runs_source, runs_projected, accepts_runs, links_programs, orders_run, judges_log, resumes_log, refuses_broken}
 use Rattle.chor_cmd.proofs.Exits.{usage_ended, answer_ended}
 use Rattle.chor_cmd.proofs.command.alone.Goals as goal
 
@@ -32,6 +32,12 @@ returns-clause-linked g c = links_programs _ (is_settled _ (answer_ended _ c.in-
 
 pub returns-clause-ordered : goal.returns-clause-ordered
 returns-clause-ordered g c = orders_run _ (is_settled _ (answer_ended _ c.in-Some.command c.in-Some.files.now c.in-Some.ensures c.answer-answer.result c.answer-answer.ensures.answers c.finish.ensures))
+
+pub returns-clause-conformed : goal.returns-clause-conformed
+returns-clause-conformed g c = judges_log _ (is_settled _ (answer_ended _ c.in-Some.command c.in-Some.files.now c.in-Some.ensures c.answer-answer.result c.answer-answer.ensures.answers c.finish.ensures))
+
+pub returns-clause-resumed : goal.returns-clause-resumed
+returns-clause-resumed g c = resumes_log _ (is_settled _ (answer_ended _ c.in-Some.command c.in-Some.files.now c.in-Some.ensures c.answer-answer.result c.answer-answer.ensures.answers c.finish.ensures))
 
 pub returns-clause-refused : goal.returns-clause-refused
 returns-clause-refused g c = refuses_broken _ (is_settled _ (answer_ended _ c.in-Some.command c.in-Some.files.now c.in-Some.ensures c.answer-answer.result c.answer-answer.ensures.answers c.finish.ensures))

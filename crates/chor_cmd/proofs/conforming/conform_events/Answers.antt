@@ -3,7 +3,7 @@ use Rattle.chor_host.specs.Tables.{functions_of}
 use Rattle.source_check.specs.declared.rules.Rules.TheVariants.{Views}
 use Rattle.source_check.specs.Source.{Violates}
 use Rattle.chor_cmd.specs.Endings.{host_names}
-use Rattle.chor_cmd.specs.Rows.{IsFine, Conforms, source_limit, after_events}
+use Rattle.chor_cmd.specs.Rows.{IsFineSource, Conforms, source_limit, after_events}
 use Rattle.chor_cmd.proofs.Exits.{source_stops, goes_on}
 use Rattle.chor_cmd.proofs.Fetched.{no_fall, touches_both}
 use Rattle.chor_cmd.proofs.conforming.conform_events.Goals as goal
@@ -24,7 +24,7 @@ returns-clause-answers g c =
     let file = c.args.file.now in
     let fetched = c.in_ok-source.ensures in
     let read = fetched.viewed in
-    goes_on source_limit before after file (c.args.events.now ∷ []) (IsFine functions Views) (Violates Views (host_names c.args.hosts.now)) (λ bytes. after_events (Conforms functions bytes)) read.0 now read.1
+    goes_on source_limit before after file (c.args.events.now ∷ []) (IsFineSource functions Views) (Violates Views (host_names c.args.hosts.now)) (λ bytes. after_events (Conforms functions bytes)) read.0 now read.1
     (c.in_ok-source.source, read.2) c.fetch_viewed.ensures.same (no_fall before now file c.fetch_viewed.ensures.only c.fetch_viewed.ensures.rises) c.conform_on-ending.result (c.conform_on-ending.ensures.answers functions read.0 read.2)
 
 pub returns-clause-only : goal.returns-clause-only

@@ -3,7 +3,7 @@ use Rattle.chor_host.specs.Tables.{functions_of}
 use Rattle.source_check.specs.declared.rules.Rules.TheVariants.{All}
 use Rattle.source_check.specs.Source.{Violates}
 use Rattle.chor_cmd.specs.Endings.{host_names}
-use Rattle.chor_cmd.specs.Rows.{IsFine, Orders, source_limit, after_events}
+use Rattle.chor_cmd.specs.Rows.{IsFineSource, Orders, source_limit, after_events}
 use Rattle.chor_cmd.proofs.Exits.{source_stops, goes_on}
 use Rattle.chor_cmd.proofs.Fetched.{no_fall, touches_both}
 use Rattle.chor_cmd.proofs.ordering.order_events.Goals as goal
@@ -24,7 +24,7 @@ returns-clause-answers g c =
     let file = c.args.file.now in
     let fetched = c.in_ok-accepted.ensures in
     let read = fetched.accepted in
-    goes_on source_limit before after file (c.args.events.now ∷ []) (IsFine functions All) (Violates All (host_names c.args.hosts.now)) (λ bytes. after_events (Orders functions c.args.form bytes)) read.0 now read.1
+    goes_on source_limit before after file (c.args.events.now ∷ []) (IsFineSource functions All) (Violates All (host_names c.args.hosts.now)) (λ bytes. after_events (Orders functions c.args.form bytes)) read.0 now read.1
     (c.in_ok-accepted.accepted.typed.file, read.2) c.fetch_accepted.ensures.same (no_fall before now file c.fetch_accepted.ensures.only c.fetch_accepted.ensures.rises) c.order_on-ending.result (c.order_on-ending.ensures.answers read.0 read.2)
 
 pub returns-clause-only : goal.returns-clause-only

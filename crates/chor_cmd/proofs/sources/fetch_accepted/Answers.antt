@@ -6,7 +6,7 @@ use Rattle.source_check.specs.declared.rules.Rules.TheVariants.{All}
 use Rattle.source_check.specs.Source.{Violates, unread}
 use Rattle.chor_cmd.specs.Endings.{host_names}
 use Rattle.chor_cmd.specs.Rows.{source_limit}
-use Rattle.chor_cmd.specs.Stops.{HasReadSource, IsNoText, IsUnread, stop_of}
+use Rattle.chor_cmd.specs.Stops.{HasFetchedSource, IsNoText, IsUnread, stop_of}
 use Rattle.chor_cmd.proofs.Exits.{err_is, unread_so, broken_so}
 use Rattle.chor_cmd.proofs.sources.fetch_accepted.Goals as goal
 
@@ -34,7 +34,7 @@ pub returns-clause-accepted : goal.returns-clause-accepted
 returns-clause-accepted g c =
     let before = g.F.Shelf.state c.args.shelf.now in
     let read = c.in_ok-file.ensures.file in
-    subst (λ (f : File). HasReadSource All (host_names c.args.hosts.now) before c.args.name.now f) (sym c.in_ok-accepted.ensures.file)
+    subst (λ (f : File). HasFetchedSource All (host_names c.args.hosts.now) before c.args.name.now f) (sym c.in_ok-accepted.ensures.file)
     (read.0, read.1, record { file = read.2; faultless = c.in_ok-accepted.ensures.faultless })
 
 pub returns-clause-words : goal.returns-clause-words
