@@ -77,19 +77,20 @@ fn are_run(
 
 // How many of the events a process makes by itself or by a message.
 fn events_of(history: &[Entry], process: u32) -> usize {
-    let mut count = 0;
-    for entry in history {
-        let makes = match entry.event {
-            Event::Send { pid, .. } | Event::Recv { pid, .. } => pid == process,
-            Event::Test { pid, .. } | Event::Set { pid, .. } => pid == process,
-            Event::Show { pid, .. } | Event::Host { pid, .. } => pid == process,
-            Event::Start { .. } => false,
-        };
-        if makes {
-            count += 1;
-        }
+    history
+        .iter()
+        .filter(|entry| is_made_by(entry, process))
+        .count()
+}
+
+// Whether a process makes an event by itself or by a message.
+fn is_made_by(entry: &Entry, process: u32) -> bool {
+    match entry.event {
+        Event::Send { pid, .. } | Event::Recv { pid, .. } => pid == process,
+        Event::Test { pid, .. } | Event::Set { pid, .. } => pid == process,
+        Event::Show { pid, .. } | Event::Host { pid, .. } => pid == process,
+        Event::Start { .. } => false,
     }
-    count
 }
 
 #[test]
