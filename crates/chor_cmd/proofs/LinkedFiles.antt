@@ -1,14 +1,14 @@
 -- What is made of a source and given programs, as a way through the row of `link`.
-use Rattle.std.proofs.Common.{◌≡◌, ◌≤◌, inr, ℕ, List, [], ◌∷◌, sym, subst}
-use Rattle.std.specs.Prelude.{Vec, Result, Err}
+use Rattle.std.proofs.Common.{◌≡◌, ◌≤◌, inr, ℕ, List, [], ◌∷◌, sym, ap, ◌∙◌, subst}
+use Rattle.std.specs.Prelude.{Vec, Err}
 use Rattle.std.specs.declared.alloc.Global.{Global}
 use Rattle.chor_host.specs.Functions.{Function, names_of}
+use Rattle.chor_tree.specs.declared.file.File.{File}
 use Rattle.chor_io.specs.Outside.{ShelfState}
 use Rattle.command_words.specs.declared.options.Options.{Options}
 use Rattle.command_words.specs.declared.words.Command.TheVariants.{Link}
 use Rattle.endpoint_code.specs.declared.endpoints.Endpoints.{Endpoints}
 use Rattle.endpoint_check.specs.Programs.{ViolatesPrograms}
-use Rattle.type_check.specs.declared.typed.Typed.{Typed}
 use Rattle.projection.specs.Projects.{Projects}
 use Rattle.accepted_links.specs.Linked.{AreToLink}
 use Rattle.simulation.specs.Accepted.{AcceptedView}
@@ -33,6 +33,9 @@ module _ (functions : List Function) (before : ShelfState) (name units_name : Li
   abbrev names : List (List ℕ)
   names = name ∷ units_name ∷ []
 
+  pub linked_hosts : (a : AcceptedView) → HasLinked functions before name units_name (Linked a) → a.typed.hosts ≡ words
+  linked_hosts a h = ap (λ t. t.hosts) h.linked.0 ∙ h.hosts
+
   -- what a call ends with
   module _ (options : Options) where
     go_on : (l : Linking) (h : HasLinked functions before name units_name l) (s : Status) (t : List ℕ) → Links functions options h.source h.units s t → Goes (MayTell before.files) names (row_of functions (Link options)) s t
@@ -42,7 +45,7 @@ module _ (functions : List Function) (before : ShelfState) (name units_name : Li
     pub linked_runs : (a : AcceptedView) → HasLinked functions before name units_name (Linked a) → (text : List ℕ) → TellsRun functions a.typed.file a.endpoints options text
         → Goes (MayTell before.files) names (row_of functions (Link options)) status.Done text
     linked_runs a h text tells =
-        let input = subst (λ (t : Typed). AreToLink functions h.source h.units t.file h.accepted.endpoints h.given) (sym h.linked.0) h.input in
+        let input = subst (λ (f : File). AreToLink functions h.source h.units f h.accepted.endpoints h.given) (sym (ap (λ t. t.file) h.linked.0)) h.input in
         let programs = record { projection = h.accepted.endpoints; given = h.given; input = input; links = h.linked.1 } in
         go_on (Linked a) h status.Done text (runs (record { file = a.typed.file; linked = a.endpoints; programs = programs; tells = tells }))
 

@@ -116,7 +116,8 @@ fn fetch_linked<'a, F: Shelf>(
         Ok(given) => {
             let linking = linking_of(alloc, accepted, &given);
             drop(given);
-            Ok(linking?)
+            let linking = linking?;
+            Ok(linking)
         }
         Err(stop) => {
             drop(accepted);
