@@ -10,7 +10,7 @@ use Rattle.command_words.specs.declared.words.Command.TheVariants.{Link}
 use Rattle.endpoint_code.specs.declared.endpoints.Endpoints.{Endpoints}
 use Rattle.endpoint_check.specs.Programs.{ViolatesPrograms}
 use Rattle.projection.specs.Projects.{Projects}
-use Rattle.accepted_links.specs.Linked.{AreToLink}
+use Rattle.accepted_links.specs.Linked.{AreToLink, AreLinkedPrograms}
 use Rattle.simulation.specs.Accepted.{AcceptedView}
 use Rattle.source_check.specs.declared.rules.Rules.TheVariants.{All}
 use Rattle.source_check.specs.Source.{Violates}
@@ -46,7 +46,7 @@ module _ (functions : List Function) (before : ShelfState) (name units_name : Li
         → Goes (MayTell before.files) names (row_of functions (Link options)) status.Done text
     linked_runs a h text tells =
         let input = subst (λ (f : File). AreToLink functions h.source h.units f h.accepted.endpoints h.given) (sym (ap (λ t. t.file) h.linked.0)) h.input in
-        let programs = record { projection = h.accepted.endpoints; given = h.given; input = input; links = h.linked.1 } in
+        let programs : AreLinkedPrograms functions h.source h.units a.typed.file a.endpoints = record { projection = h.accepted.endpoints; given = h.given; input = input; links = h.linked.1 } in
         go_on (Linked a) h status.Done text (runs (record { file = a.typed.file; linked = a.endpoints; programs = programs; tells = tells }))
 
     pub unsuited_is_refused : (line : Vec ℕ Global) → HasLinked functions before name units_name (Unsuited line) → Goes (MayTell before.files) names (row_of functions (Link options)) status.Refused line.items

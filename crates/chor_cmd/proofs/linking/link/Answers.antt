@@ -14,8 +14,8 @@ returns-in_err-linking-clause-answers g c =
     stopped (row_of (functions_of c.args.hosts.now) (Link c.args.options)) (c.args.file.now ∷ c.args.programs.now ∷ []) before after c.from_residual.result c.in_err-linking.field-0.0 c.from_residual.ensures.1
     (c.in_err-linking.ensures.stops c.args.options)
 
-pub scheduled_text-text-requires-clause-hosts : goal.scheduled_text-text-requires-clause-hosts
-scheduled_text-text-requires-clause-hosts g c =
+pub scheduled_text-text-requires : goal.scheduled_text-text-requires
+scheduled_text-text-requires g c =
     let functions = functions_of c.args.hosts.now in
     let before = g.F.Shelf.state c.args.shelf.now in
     let linked = subst (HasLinked functions before c.args.file.now c.args.programs.now) c.in-Linked.is c.in_ok-linking.ensures.linked in
