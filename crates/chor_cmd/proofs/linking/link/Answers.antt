@@ -19,7 +19,7 @@ scheduled_text-text-requires g c =
     let functions = functions_of c.args.hosts.now in
     let before = g.F.Shelf.state c.args.shelf.now in
     let linked = subst (HasLinked functions before c.args.file.now c.args.programs.now) c.in-Linked.is c.in_ok-linking.ensures.linked in
-    linked_hosts functions before c.args.file.now c.args.programs.now c.in-Linked.accepted linked
+    record { hosts = linked_hosts functions before c.args.file.now c.args.programs.now c.in-Linked.accepted linked }
 
 pub returns-in_ok-text-in-Linked-clause-answers : goal.returns-in_ok-text-in-Linked-clause-answers
 returns-in_ok-text-in-Linked-clause-answers g c =
