@@ -45,8 +45,8 @@ replace_tool() {
 }
 
 # The toolchain by links in the folder $1, but for three programs: the compiler leaves out its checks of memory, which take
-# a third of its time; the prover does nothing, which has no part in a build without proofs; the linker leaves a copy of the
-# program at $2.
+# a third of its time; the prover does nothing, which has no part in a build without proofs; the linker leaves out the archive
+# that these checks need, which is the one that it is to take whole, and leaves a copy of the program at $2.
 quick_toolchain() {
   local kit each
   kit=$(dirname "$(rt doc)") && mkdir -p "$1/bin" "$1/toolchain/bin" || return 1
@@ -57,8 +57,19 @@ quick_toolchain() {
   cp --remove-destination "$kit"/bin/rt "$kit"/bin/rtlib.py "$1/bin" || return 1
   rm "$1/bin/rattle" && printf '#!%s\n' "$BASH" >"$1/bin/rattle" && chmod +x "$1/bin/rattle" || return 1
   printf '#!%s\nexec %q "${@/#-fsanitize=address/-O0}"\n' "$BASH" "$kit/toolchain/bin/clang" | replace_tool "$1" clang
-  printf '#!%s\n%q "$@" || exit\n[ ! -x program ] || cp program %q\n' "$BASH" "$kit/toolchain/bin/ld.lld" "$2" |
-    replace_tool "$1" ld.lld
+  replace_tool "$1" ld.lld <<END
+#!$BASH
+words=() whole=
+for word in "\$@"; do
+  case \$word in
+    --whole-archive) whole=yes ;;
+    --no-whole-archive) whole= ;;
+    *) [ -n "\$whole" ] || words+=("\$word") ;;
+  esac
+done
+$(printf '%q' "$kit/toolchain/bin/ld.lld") "\${words[@]}" || exit
+[ ! -x program ] || cp program $(printf '%q' "$2")
+END
 }
 
 # Builds the program without any proof, at the path $1. The toolchain's trial run links it, and then runs it once.
