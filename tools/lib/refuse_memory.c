@@ -19,7 +19,7 @@
 extern void *__libc_malloc(size_t), *__libc_calloc(size_t, size_t), *__libc_realloc(void *, size_t), *__libc_memalign(size_t, size_t);
 
 // No call takes so many seconds.
-static const unsigned most_seconds = 20;
+static const unsigned most_seconds = 10;
 static long first_refused; // 0: nothing is counted
 static int refuses_rest;
 static atomic_long *requests;
