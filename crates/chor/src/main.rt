@@ -7,6 +7,7 @@ use chor_host::{host_gap, host_max, host_min, program_hosts};
 use chor_io::{DiskShelf, OpenGate, OutSink};
 use std::alloc::Global;
 use std::env::{self, Args};
+use std::io::{Error, ErrorKind};
 use std::process::ExitCode;
 
 // The system didn't give the program its words.
@@ -16,8 +17,9 @@ const NO_WORDS: u8 = 10;
 const NO_MEMORY: u8 = 5;
 
 fn main(rt: HostRuntime) -> ExitCode {
-    let Ok(args) = env::args(&rt) else {
-        return ExitCode::from(NO_WORDS);
+    let args = match env::args(&rt) {
+        Ok(args) => args,
+        Err(error) => return ExitCode::from(status_without_words(&error)),
     };
     let Ok(words) = words_of(rt.alloc(), args) else {
         return ExitCode::from(NO_MEMORY);
@@ -40,6 +42,14 @@ fn main(rt: HostRuntime) -> ExitCode {
     drop(hosts);
     drop(words);
     ExitCode::from(status.number())
+}
+
+// The status where the program can't read its words.
+fn status_without_words(error: &Error) -> u8 {
+    match error.kind() {
+        ErrorKind::OutOfMemory => NO_MEMORY,
+        _ => NO_WORDS,
+    }
 }
 
 // The words of a call, without the name of the program.
