@@ -4,8 +4,11 @@
 mod channels;
 mod denied;
 mod numbered;
+mod prepared;
 mod procedures;
+mod shifted;
 mod units;
 mod whole;
 
-pub use whole::project;
+pub use prepared::{Prepared, UnitCode, clean_body, unit_code};
+pub use whole::{project, project_from};

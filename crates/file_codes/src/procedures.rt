@@ -3,24 +3,42 @@
 ghost use Rattle.std.specs.Prelude.{◌≡◌, ◌++◌, IfOk, IfErr, OnOk, map};
 ghost use Rattle.projection.specs.Codes.{holds, sessions_for};
 ghost use Rattle.block_codes.specs.Walks.{StopsAt};
+ghost use Rattle.file_codes.specs.Prepared.{ArePrepared};
 ghost use Rattle.file_codes.specs.Units.{params_of, procedure_from, sites_in_procs, AreProcedures};
 
-use block_codes::{Coded, Stop, codes};
+use crate::prepared::{Prepared, clean_at, codes_from};
+use block_codes::{Coded, Stop};
 use chor_base::{List, Memory, NameId};
 use chor_tree::{File, Named, Proc, ProcParam, SessionParam};
 use endpoint_code::{Code, Procedure};
 use std::alloc::Global;
 
 /// The code of each procedure for each of its process parameters, in the order in which the file
-/// declares them. `Clash` comes at the first branches that clash in a procedure.
-pub fn procedures(alloc: Global, file: &File, code: &mut Code) -> Result<List<Procedure>, Stop>
+/// declares them, with prepared codes where these fit. `Clash` comes at the first branches that clash
+/// in a procedure.
+pub fn procedures(
+    alloc: Global,
+    file: &File,
+    prepared: &Prepared<'_>,
+    code: &mut Code,
+) -> Result<List<Procedure>, Stop>
+    requires { ArePrepared file.now prepared.now }
     ensures procedures { IfOk result (AreProcedures file.now file.now.procs code.old.nodes code.new.nodes) }
     ensures stopped { IfErr result (StopsAt file.now (sites_in_procs file.now file.now.procs)) }
 {
     let mut procedures = List::new(alloc);
+    let mut place = 0usize;
+    let mut first = 0usize;
     for proc in file.procs.as_slice() {
         let scope = params_of(alloc, proc.params.as_slice())?;
-        let list = codes(alloc, file, proc.body, scope.as_slice(), code)?;
+        let made = (
+            prepared.params,
+            first,
+            clean_at(prepared.clean, place, file),
+        );
+        let list = codes_from(alloc, file, proc.body, scope.as_slice(), made, code)?;
+        first = first.saturating_add(proc.params.len());
+        place = place.saturating_add(1);
         put_procedures(alloc, proc, list.as_slice(), &mut procedures)?;
     }
     Ok(procedures)

@@ -3,11 +3,13 @@
 ghost use Rattle.std.specs.Prelude.{◌≡◌, IfOk, IfErr, map};
 ghost use Rattle.projection.specs.MergeFaults.{sites_of};
 ghost use Rattle.block_codes.specs.Walks.{StopsAt};
+ghost use Rattle.file_codes.specs.Prepared.{ArePrepared};
 ghost use Rattle.file_codes.specs.Units.{process_from, AreUnits};
 
 use crate::channels::names_of;
+use crate::prepared::{Prepared, clean_at, codes_from};
 use crate::procedures::procedures;
-use block_codes::{Coded, Stop, codes};
+use block_codes::{Coded, Stop};
 use chor_base::{List, Memory};
 use chor_tree::File;
 use endpoint_code::{Code, Procedure, Process};
@@ -21,15 +23,22 @@ pub struct Units {
     pub code: Code,
 }
 
-/// The units of a file, in source order. `Clash` comes at the first branches that clash.
-pub fn units_of(alloc: Global, file: &File) -> Result<Units, Stop>
+/// The units of a file, in source order, with prepared codes where these fit. `Clash` comes at the
+/// first branches that clash.
+pub fn units_of(alloc: Global, file: &File, prepared: &Prepared<'_>) -> Result<Units, Stop>
+    requires { ArePrepared file.now prepared.now }
     ensures units { IfOk result (AreUnits file.now) }
     ensures stopped { IfErr result (StopsAt file.now (sites_of file.now)) }
 {
     let mut code = Code::new(alloc);
-    let procedures = procedures(alloc, file, &mut code)?;
+    let procedures = procedures(alloc, file, prepared, &mut code)?;
     let scope = names_of(alloc, file.processes.as_slice())?;
-    let list = codes(alloc, file, file.body, scope.as_slice(), &mut code)?;
+    let made = (
+        prepared.processes,
+        0,
+        clean_at(prepared.clean, file.procs.len(), file),
+    );
+    let list = codes_from(alloc, file, file.body, scope.as_slice(), made, &mut code)?;
     Ok(Units {
         procedures,
         processes: processes_of(alloc, list.as_slice())?,

@@ -6,11 +6,13 @@ ghost use Rattle.projection.specs.Projects.{Projects};
 ghost use Rattle.projection.specs.MergeFaults.{sites_of, services_of, HasClash, HasServiceClash, IsMergeDenial};
 ghost use Rattle.service_codes.specs.Starts.{HasNamesResolved};
 ghost use Rattle.service_codes.specs.Services.{IsServiceIn};
+ghost use Rattle.file_codes.specs.Prepared.{ArePrepared};
 ghost use Rattle.file_codes.specs.Units.{AreUnits};
 
 use crate::channels::channels;
 use crate::denied::{branches_denied, starts_denied};
 use crate::numbered::are_there;
+use crate::prepared::Prepared;
 use crate::units::{Units, units_of};
 use chor_base::{Denied, List, Memory};
 use chor_tree::File;
@@ -32,7 +34,28 @@ pub fn project(alloc: Global, file: &File) -> Result<Endpoints, Denied>
     ensures served { OnOk result (All (λ x. HasServiceClash file.now x → ⊥) (services_of file.now)) }
     ensures denied { IfErr result (IsMergeDenial file.now) }
 {
-    match units_of(alloc, file) {
+    let nothing = Prepared {
+        params: &[],
+        processes: &[],
+        clean: &[],
+    };
+    project_from(alloc, file, &nothing)
+}
+
+/// The same as `project`, with prepared codes where these fit.
+pub fn project_from(
+    alloc: Global,
+    file: &File,
+    prepared: &Prepared<'_>,
+) -> Result<Endpoints, Denied>
+    requires names { HasNamesResolved file.now }
+    requires prepared { ArePrepared file.now prepared.now }
+    ensures projects { IfOk result (Projects file.now) }
+    ensures clean { OnOk result (All (λ s. HasClash file.now s → ⊥) (sites_of file.now)) }
+    ensures served { OnOk result (All (λ x. HasServiceClash file.now x → ⊥) (services_of file.now)) }
+    ensures denied { IfErr result (IsMergeDenial file.now) }
+{
+    match units_of(alloc, file, prepared) {
         Ok(units) => with_services(alloc, file, units),
         Err(stop) => Err(branches_denied(alloc, file, stop)),
     }

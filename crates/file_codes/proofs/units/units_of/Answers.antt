@@ -8,8 +8,8 @@ use Rattle.service_codes.proofs.Names.{body_inside}
 use Rattle.file_codes.proofs.Bodies.{stops_in_procs, stops_in_main, units_made}
 use Rattle.file_codes.proofs.units.units_of.Goals as goal
 
-pub codes-requires : goal.codes-requires
-codes-requires c = body_inside c.args.file.now
+pub codes_from-requires-clause-inside : goal.codes_from-requires-clause-inside
+codes_from-requires-clause-inside c = body_inside c.args.file.now
 
 pub returns-in_err-procedures-clause-stopped : goal.returns-in_err-procedures-clause-stopped
 returns-in_err-procedures-clause-stopped c =
@@ -26,5 +26,5 @@ returns-in_err-list-clause-stopped c =
 pub returns-clause-units : goal.returns-clause-units
 returns-clause-units c =
     units_made c.args.file.now c.in_ok-procedures.procedures c.in_ok-procedures.ensures.procedures c.as_slice-2.result.now (c.as_slice-2.ensures ∙ c.in_ok-scope.ensures ∙ ap names_of c.as_slice.ensures)
-    c.codes.new.code c.in_ok-list.list c.in_ok-procedures.procedures c.in_ok-processes_of.field-0 c.in_ok-list.ensures.codes refl
+    c.codes_from.new.code c.in_ok-list.list c.in_ok-procedures.procedures c.in_ok-processes_of.field-0 c.in_ok-list.ensures.codes refl
     (c.in_ok-processes_of.ensures ∙ ap (map process_from) c.as_slice-3.ensures)
