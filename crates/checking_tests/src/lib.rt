@@ -8,3 +8,5 @@
 mod bounds;
 #[cfg(test)]
 mod classes;
+#[cfg(test)]
+mod projections;
