@@ -12,9 +12,11 @@ use chor_base::{Memory, Word};
 use chor_host::HostTable;
 use chor_io::Shelf;
 use std::alloc::Global;
+use std::thread::Threads;
 
 /// Judges the file of this name by all classes of rules.
-pub fn check<'a, F: Shelf>(
+pub fn check<'a, R: Threads + Sync, F: Shelf>(
+    rt: &R,
     alloc: Global,
     name: &'a Word,
     hosts: &HostTable,
@@ -23,7 +25,7 @@ pub fn check<'a, F: Shelf>(
     ensures answers { Answers (functions_of hosts.now) Check (name.now ∷ []) (F.state shelf.old) (F.state shelf.new) result }
     ensures only { TouchesOnly (name.now ∷ []) (F.state shelf.old) (F.state shelf.new) }
 {
-    let accepted = fetch_accepted(alloc, name, hosts, shelf)?;
+    let accepted = fetch_accepted(rt, alloc, name, hosts, shelf)?;
     drop(accepted);
     let text = ok_line(alloc)?;
     Ok(Ending {

@@ -108,7 +108,7 @@ pub fn chor<R: Threads + Wait + Sync, F: Shelf, K: Sink, G: Gate + Sync>(
 
 /// Does what the words ask for where they ask for no workers, as `chor` does. It waits for nobody.
 pub fn alone<R: Threads + Sync, F: Shelf, K: Sink>(
-    _rt: &R,
+    rt: &R,
     alloc: Global,
     words: &Words,
     hosts: &HostTable,
@@ -140,7 +140,7 @@ pub fn alone<R: Threads + Sync, F: Shelf, K: Sink>(
         let usage = b"usage: chor COMMAND ARGUMENTS\n".as_slice();
         return write(out, usage, Status::Usage);
     };
-    let answer = answer(alloc, command, files, hosts, shelf);
+    let answer = answer(rt, alloc, command, files, hosts, shelf);
     finish(alloc, out, answer)
 }
 
@@ -168,7 +168,8 @@ fn workers_of(command: Command) -> u32
 }
 
 // What a command makes of the files of these names. Runs are scheduled runs.
-fn answer<'a, F: Shelf>(
+fn answer<'a, R: Threads + Sync, F: Shelf>(
+    rt: &R,
     alloc: Global,
     command: Command,
     files: &'a [Word],
@@ -180,19 +181,19 @@ fn answer<'a, F: Shelf>(
     ensures only { TouchesOnly files.now (F.state shelf.old) (F.state shelf.new) }
 {
     match command {
-        Command::Check => check(alloc, &files[0], hosts, shelf),
+        Command::Check => check(rt, alloc, &files[0], hosts, shelf),
         Command::Fmt => format(alloc, &files[0], shelf),
         Command::Types => types(alloc, &files[0], hosts, shelf),
-        Command::Project => project(alloc, &files[0], hosts, shelf),
-        Command::Run(options) => run(alloc, &files[0], options, hosts, shelf),
+        Command::Project => project(rt, alloc, &files[0], hosts, shelf),
+        Command::Run(options) => run(rt, alloc, &files[0], options, hosts, shelf),
         Command::Exec(options) => execute(alloc, &files[0], options, hosts, shelf),
-        Command::Replay => replay_events(alloc, &files[0], &files[1], hosts, shelf),
-        Command::Gen(count, whole) => Ok(generate(alloc, count, whole, hosts)?),
-        Command::Link(options) => link(alloc, &files[0], &files[1], options, hosts, shelf),
-        Command::Order(form) => order_events(alloc, &files[0], &files[1], form, hosts, shelf),
+        Command::Replay => replay_events(rt, alloc, &files[0], &files[1], hosts, shelf),
+        Command::Gen(count, whole) => Ok(generate(rt, alloc, count, whole, hosts)?),
+        Command::Link(options) => link(rt, alloc, &files[0], &files[1], options, hosts, shelf),
+        Command::Order(form) => order_events(rt, alloc, &files[0], &files[1], form, hosts, shelf),
         Command::Conform => conform_events(alloc, &files[0], &files[1], hosts, shelf),
         Command::Resume(options) => {
-            resume_run(alloc, (&files[0], &files[1]), options, hosts, shelf)
+            resume_run(rt, alloc, (&files[0], &files[1]), options, hosts, shelf)
         }
     }
 }
@@ -218,6 +219,6 @@ fn answer_by<'a, R: Threads + Wait + Sync, F: Shelf, G: Gate + Sync>(
         Command::Link(options) => {
             link_by(rt, alloc, &files[0], &files[1], options, hosts, shelf, gate)
         }
-        _ => answer(alloc, command, files, hosts, shelf),
+        _ => answer(rt, alloc, command, files, hosts, shelf),
     }
 }

@@ -11,9 +11,16 @@ use chor_base::Memory;
 use chor_host::HostTable;
 use generated_runs::{generated_summary, generated_text};
 use std::alloc::Global;
+use std::thread::Threads;
 
 /// Makes the file of so many rounds, and writes its text or what its run counts.
-pub fn generate(alloc: Global, count: u32, whole: bool, hosts: &HostTable) -> Result<Ending, Memory>
+pub fn generate<R: Threads + Sync>(
+    rt: &R,
+    alloc: Global,
+    count: u32,
+    whole: bool,
+    hosts: &HostTable,
+) -> Result<Ending, Memory>
     requires some { 1 ≤ count }
     requires few { count ≤ 4000 }
     ensures done { IfOk result (λ ending. ending.status ≡ Done) }
@@ -22,7 +29,7 @@ pub fn generate(alloc: Global, count: u32, whole: bool, hosts: &HostTable) -> Re
     let text = if whole {
         generated_text(alloc, count)?
     } else {
-        generated_summary(alloc, count, hosts)?
+        generated_summary(rt, alloc, count, hosts)?
     };
     Ok(Ending {
         text,

@@ -36,7 +36,8 @@ enum Linking {
 
 /// Writes the transcript of the scheduled run of the source of the first name, linked with the endpoint
 /// programs of the second. The second file is read only where the first violates no rule.
-pub fn link<'a, F: Shelf>(
+pub fn link<'a, R: Threads + Sync, F: Shelf>(
+    rt: &R,
     alloc: Global,
     file: &'a Word,
     programs: &'a Word,
@@ -47,7 +48,7 @@ pub fn link<'a, F: Shelf>(
     ensures answers { Answers (functions_of hosts.now) (Link options) (file.now ∷ programs.now ∷ []) (F.state shelf.old) (F.state shelf.new) result }
     ensures only { TouchesOnly (file.now ∷ programs.now ∷ []) (F.state shelf.old) (F.state shelf.new) }
 {
-    let linking = fetch_linked(alloc, file, programs, hosts, shelf)?;
+    let linking = fetch_linked(rt, alloc, file, programs, hosts, shelf)?;
     match linking {
         Linking::Linked(accepted) => {
             let text = scheduled_text(alloc, &accepted, options, hosts);
@@ -80,7 +81,7 @@ pub fn link_by<'a, R: Threads + Wait + Sync, F: Shelf, G: Gate + Sync>(
     ensures answers { Answers (functions_of hosts.now) (Link options) (file.now ∷ programs.now ∷ []) (F.state shelf.old) (F.state shelf.new) result }
     ensures only { TouchesOnly (file.now ∷ programs.now ∷ []) (F.state shelf.old) (F.state shelf.new) }
 {
-    let linking = fetch_linked(alloc, file, programs, hosts, shelf)?;
+    let linking = fetch_linked(rt, alloc, file, programs, hosts, shelf)?;
     match linking {
         Linking::Linked(accepted) => {
             let text = text_by(rt, alloc, &accepted, options, hosts, gate);
@@ -99,7 +100,8 @@ pub fn link_by<'a, R: Threads + Wait + Sync, F: Shelf, G: Gate + Sync>(
 }
 
 // The source of the first name, linked with the endpoint programs of the second.
-fn fetch_linked<'a, F: Shelf>(
+fn fetch_linked<'a, R: Threads + Sync, F: Shelf>(
+    rt: &R,
     alloc: Global,
     file: &'a Word,
     programs: &'a Word,
@@ -111,7 +113,7 @@ fn fetch_linked<'a, F: Shelf>(
         → IsStop (row_of (functions_of hosts.now) (Link options)) (file.now ∷ programs.now ∷ []) (F.state shelf.old) (F.state shelf.new) stop) }
     ensures only { TouchesOnly (file.now ∷ programs.now ∷ []) (F.state shelf.old) (F.state shelf.new) }
 {
-    let accepted = fetch_accepted(alloc, file, hosts, shelf)?;
+    let accepted = fetch_accepted(rt, alloc, file, hosts, shelf)?;
     match fetch_programs(alloc, programs, hosts, shelf) {
         Ok(given) => {
             let linking = linking_of(alloc, accepted, &given);

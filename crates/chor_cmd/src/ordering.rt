@@ -22,10 +22,12 @@ use chor_io::Shelf;
 use command_words::OrderForm;
 use simulation::Accepted;
 use std::alloc::Global;
+use std::thread::Threads;
 
 /// Writes what is asked for of the order of the events of the second file on the source of the first name.
 /// The second file is read only where the first violates no rule.
-pub fn order_events<'a, F: Shelf>(
+pub fn order_events<'a, R: Threads + Sync, F: Shelf>(
+    rt: &R,
     alloc: Global,
     file: &'a Word,
     events: &'a Word,
@@ -36,7 +38,7 @@ pub fn order_events<'a, F: Shelf>(
     ensures answers { Answers (functions_of hosts.now) (Order form) (file.now ∷ events.now ∷ []) (F.state shelf.old) (F.state shelf.new) result }
     ensures only { TouchesOnly (file.now ∷ events.now ∷ []) (F.state shelf.old) (F.state shelf.new) }
 {
-    let accepted = fetch_accepted(alloc, file, hosts, shelf)?;
+    let accepted = fetch_accepted(rt, alloc, file, hosts, shelf)?;
     let ending = order_on(alloc, &accepted, events, form, hosts, shelf);
     drop(accepted);
     ending

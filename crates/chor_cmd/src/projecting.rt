@@ -18,9 +18,11 @@ use endpoint_code::Endpoints;
 use endpoint_text::print_endpoints;
 use simulation::Accepted;
 use std::alloc::Global;
+use std::thread::Threads;
 
 /// Writes the endpoint programs of the file of this name, which is judged by all classes of rules.
-pub fn project<'a, F: Shelf>(
+pub fn project<'a, R: Threads + Sync, F: Shelf>(
+    rt: &R,
     alloc: Global,
     name: &'a Word,
     hosts: &HostTable,
@@ -29,7 +31,7 @@ pub fn project<'a, F: Shelf>(
     ensures answers { Answers (functions_of hosts.now) Project (name.now ∷ []) (F.state shelf.old) (F.state shelf.new) result }
     ensures only { TouchesOnly (name.now ∷ []) (F.state shelf.old) (F.state shelf.new) }
 {
-    let accepted = fetch_accepted(alloc, name, hosts, shelf)?;
+    let accepted = fetch_accepted(rt, alloc, name, hosts, shelf)?;
     let text = projection_text(alloc, &accepted);
     drop(accepted);
     let text = text?;

@@ -21,10 +21,12 @@ use chor_io::Shelf;
 use replay::{ReplayFault, Replayed};
 use simulation::Accepted;
 use std::alloc::Global;
+use std::thread::Threads;
 
 /// Replays the events of the second file on the source of the first name. The second file is read only
 /// where the first violates no rule.
-pub fn replay_events<'a, F: Shelf>(
+pub fn replay_events<'a, R: Threads + Sync, F: Shelf>(
+    rt: &R,
     alloc: Global,
     file: &'a Word,
     events: &'a Word,
@@ -34,7 +36,7 @@ pub fn replay_events<'a, F: Shelf>(
     ensures answers { Answers (functions_of hosts.now) Replay (file.now ∷ events.now ∷ []) (F.state shelf.old) (F.state shelf.new) result }
     ensures only { TouchesOnly (file.now ∷ events.now ∷ []) (F.state shelf.old) (F.state shelf.new) }
 {
-    let accepted = fetch_accepted(alloc, file, hosts, shelf)?;
+    let accepted = fetch_accepted(rt, alloc, file, hosts, shelf)?;
     let ending = replay_on(alloc, &accepted, events, hosts, shelf);
     drop(accepted);
     ending

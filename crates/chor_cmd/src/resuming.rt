@@ -26,6 +26,7 @@ use replay::ReplayFault;
 use resume::Plan;
 use simulation::Accepted;
 use std::alloc::Global;
+use std::thread::Threads;
 
 // How many whole lines an events file has at most, beside a last one that closes a run of so many events.
 const LINES_LIMIT: u64 = 1_000_000;
@@ -33,7 +34,8 @@ const LINES_LIMIT: u64 = 1_000_000;
 /// Writes the transcript of the run that begins with the events of the second file and goes on as the
 /// options say, of the source of the first name. The second file is read only where the first violates
 /// no rule.
-pub fn resume_run<'a, F: Shelf>(
+pub fn resume_run<'a, R: Threads + Sync, F: Shelf>(
+    rt: &R,
     alloc: Global,
     files: (&'a Word, &'a Word),
     options: Options,
@@ -44,7 +46,7 @@ pub fn resume_run<'a, F: Shelf>(
     ensures only { TouchesOnly (files.entry.0.now ∷ files.entry.1.now ∷ []) (F.state shelf.old) (F.state shelf.new) }
 {
     let (file, events) = files;
-    let accepted = fetch_accepted(alloc, file, hosts, shelf)?;
+    let accepted = fetch_accepted(rt, alloc, file, hosts, shelf)?;
     let ending = resume_on(alloc, &accepted, events, options, hosts, shelf);
     drop(accepted);
     ending

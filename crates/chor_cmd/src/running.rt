@@ -25,7 +25,8 @@ use transcript::Book;
 use workers::Task;
 
 /// Writes the transcript of the scheduled run of the source of this name.
-pub fn run<'a, F: Shelf>(
+pub fn run<'a, R: Threads + Sync, F: Shelf>(
+    rt: &R,
     alloc: Global,
     name: &'a Word,
     options: Options,
@@ -35,7 +36,7 @@ pub fn run<'a, F: Shelf>(
     ensures answers { Answers (functions_of hosts.now) (Run options) (name.now ∷ []) (F.state shelf.old) (F.state shelf.new) result }
     ensures only { TouchesOnly (name.now ∷ []) (F.state shelf.old) (F.state shelf.new) }
 {
-    let accepted = fetch_accepted(alloc, name, hosts, shelf)?;
+    let accepted = fetch_accepted(rt, alloc, name, hosts, shelf)?;
     let text = scheduled_text(alloc, &accepted, options, hosts);
     drop(accepted);
     let text = text?;
@@ -59,7 +60,7 @@ pub fn run_by<'a, R: Threads + Wait + Sync, F: Shelf, G: Gate + Sync>(
     ensures answers { Answers (functions_of hosts.now) (Run options) (name.now ∷ []) (F.state shelf.old) (F.state shelf.new) result }
     ensures only { TouchesOnly (name.now ∷ []) (F.state shelf.old) (F.state shelf.new) }
 {
-    let accepted = fetch_accepted(alloc, name, hosts, shelf)?;
+    let accepted = fetch_accepted(rt, alloc, name, hosts, shelf)?;
     let text = text_by(rt, alloc, &accepted, options, hosts, gate);
     drop(accepted);
     let text = text?;

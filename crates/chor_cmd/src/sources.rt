@@ -20,6 +20,7 @@ use endpoint_code::Endpoints;
 use simulation::{Accepted, accept};
 use source_check::read;
 use std::alloc::Global;
+use std::thread::Threads;
 
 // How many bytes a source has at most.
 const SOURCE_LIMIT: u64 = 1 << 20;
@@ -71,7 +72,8 @@ pub fn fetch_source<'a, F: Shelf>(
 }
 
 /// The source of this name, which is judged by all classes of rules.
-pub fn fetch_accepted<'a, F: Shelf>(
+pub fn fetch_accepted<'a, R: Threads + Sync, F: Shelf>(
+    rt: &R,
     alloc: Global,
     name: &'a Word,
     hosts: &HostTable,
@@ -88,7 +90,7 @@ pub fn fetch_accepted<'a, F: Shelf>(
 {
     accepted_replays::names_are_words();
     let file = fetch_source(alloc, name, shelf)?;
-    let accepted = accept(alloc, file, hosts)?;
+    let accepted = accept(rt, alloc, file, hosts)?;
     Ok(accepted)
 }
 

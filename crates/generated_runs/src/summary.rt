@@ -14,6 +14,7 @@ use endpoint_code::Endpoints;
 use generated_files::generate_faultless;
 use simulation::{Accepted, Outcome, accept, run_accepted};
 use std::alloc::Global;
+use std::thread::Threads;
 
 // The run has the seed 0, and as many events as a run can have.
 const SEED: u64 = 0;
@@ -22,13 +23,18 @@ const STEPS: u64 = 1_000_000;
 
 /// One line: how many events, sessions and processes the run of the file with so many rounds has, by
 /// the pick rule with the seed 0.
-pub fn generated_summary(alloc: Global, count: u32, hosts: &HostTable) -> Result<Vec<u8>, Memory>
+pub fn generated_summary<R: Threads + Sync>(
+    rt: &R,
+    alloc: Global,
+    count: u32,
+    hosts: &HostTable,
+) -> Result<Vec<u8>, Memory>
     requires some { 1 ≤ count }
     requires few { count ≤ 4000 }
     ensures { IfOk result (λ text. IsSummary (functions_of hosts.now) count text.items) }
 {
     let file = generate_faultless(alloc, count)?;
-    let accepted = accepted_rounds(alloc, file, hosts, count)?;
+    let accepted = accepted_rounds(rt, alloc, file, hosts, count)?;
     let line = summary_of(alloc, &accepted, hosts, count);
     drop(accepted);
     line
@@ -64,7 +70,8 @@ fn line_for(
 }
 
 // The file with so many rounds, which is accepted.
-fn accepted_rounds(
+fn accepted_rounds<R: Threads + Sync>(
+    rt: &R,
     alloc: Global,
     file: File,
     hosts: &HostTable,
@@ -75,7 +82,7 @@ fn accepted_rounds(
     ensures hosts { IfOk result (λ accepted. accepted.typed.hosts ≡ names_of (functions_of hosts.now)) }
 {
     generated_files::generated_is_accepted();
-    match accept(alloc, file, hosts) {
+    match accept(rt, alloc, file, hosts) {
         Ok(accepted) => Ok(accepted),
         Err(Denied::Memory) => Err(Memory),
         Err(Denied::Refused(_)) => unreachable!(),

@@ -21,11 +21,12 @@ use chor_base::Denied;
 use chor_host::HostTable;
 use chor_tree::File;
 use endpoint_code::Endpoints;
-use file_codes::project;
 use linear_check::first_fault;
+use par_project::project_all;
 use source_check::check;
 use std::alloc::Global;
 use std::marker::Model;
+use std::thread::Threads;
 use type_check::{Typed, check_types};
 
 /// A file without faults of names, protocols, views, types, linearity and merging, and endpoint programs
@@ -92,9 +93,14 @@ impl Accepted {
 
 /// Judges a file by the rules of names, protocols, views, types, linearity and merging, in this
 /// order, where it may call these host functions. The first class with a fault decides; on any
-/// refusal the file is dropped.
+/// refusal the file is dropped. The units of a large file are projected side by side.
 #[tactic(auto, using(crate::proofs::Judged::checked_broken, crate::proofs::Judged::typed_broken, crate::proofs::Judged::linear_broken, crate::proofs::Judged::merged_broken, crate::proofs::Judged::all_fine))]
-pub fn accept(alloc: Global, file: File, hosts: &HostTable) -> Result<Accepted, Denied>
+pub fn accept<R: Threads + Sync>(
+    rt: &R,
+    alloc: Global,
+    file: File,
+    hosts: &HostTable,
+) -> Result<Accepted, Denied>
     ensures file { IfOk result (λ accepted. accepted.typed.file ≡ file) }
     ensures hosts { IfOk result (λ accepted. accepted.typed.hosts ≡ names_of (functions_of hosts.now)) }
     ensures projects { IfOk result (λ accepted. Projects file accepted.endpoints) }
@@ -110,11 +116,11 @@ pub fn accept(alloc: Global, file: File, hosts: &HostTable) -> Result<Accepted, 
         drop(typed);
         return Err(denied);
     }
-    projected(alloc, typed)
+    projected(rt, alloc, typed)
 }
 
 // A typed file without faults of linearity, with its endpoint programs.
-fn projected(alloc: Global, typed: Typed) -> Result<Accepted, Denied>
+fn projected<R: Threads + Sync>(rt: &R, alloc: Global, typed: Typed) -> Result<Accepted, Denied>
     requires linear { HasNone [] typed.file Linearity }
     ensures typed { IfOk result (λ accepted. accepted.typed ≡ typed) }
     ensures projects { IfOk result (λ accepted. Projects typed.file accepted.endpoints) }
@@ -122,7 +128,7 @@ fn projected(alloc: Global, typed: Typed) -> Result<Accepted, Denied>
     ensures denied { IfErr result (IsMergeDenial typed.file) }
 {
     projection_laws();
-    match project(alloc, typed.file()) {
+    match project_all(rt, alloc, typed.file()) {
         Ok(endpoints) => Ok(Accepted { typed, endpoints }),
         Err(denied) => {
             drop(typed);

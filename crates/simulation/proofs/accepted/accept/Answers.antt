@@ -1,4 +1,5 @@
 use Rattle.std.proofs.Common.{◌∙◌, [], subst}
+use denote.Param.Send.{sendable}
 use Rattle.chor_base.specs.declared.fault.Fault.{Fault}
 use Rattle.chor_host.specs.Functions.{names_of}
 use Rattle.chor_host.specs.Tables.{functions_of}
@@ -13,7 +14,8 @@ use Rattle.simulation.proofs.Judged.{all_fine, merged_broken, answered, refused}
 use Rattle.simulation.proofs.accepted.accept.Goals as goal
 
 pub projected-requires : goal.projected-requires
-projected-requires g c = record { linear = subst (λ (f : File). (x : Fault) → IsLinearityFault f x → ⊥) c.file.ensures.file c.in_default-check_linearity.ensures.linear }
+projected-requires g c =
+    (search sendable depth 20, subst (λ (f : File). (x : Fault) → IsLinearityFault f x → ⊥) c.file.ensures.file c.in_default-check_linearity.ensures.linear)
 
 pub returns-clause-faultless : goal.returns-clause-faultless
 returns-clause-faultless g c =
