@@ -125,7 +125,8 @@ BEGIN {
   endings()
   names = split("ends,counts,absent,torn,rallies,empty,ends,torn,spins,label for a value,counts,torn,serves,value for a label,ends,torn,meets,another label,counts,torn,hot,value for an endpoint,absent first,torn,says,endpoint for a value,crossed,torn,absent of three,nobody,ends,torn", name, ",")
   print "Runs of endpoint files that are made from numbers. Made by tools/network_cases."
-  for (i = 1; i <= names; i++) make(i, name[i])
+  for (turn = 0; turn < (rounds ? rounds : 1); turn++)
+    for (i = 1; i <= names; i++) make(turn * names + i, name[i])
   great_pairs()
   great_hub()
   great_three()
