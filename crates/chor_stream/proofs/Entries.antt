@@ -18,7 +18,7 @@ prefix_at xs (y ∷ ts) list k d e is lt =
     let here : get_or list k d ≡ y = ap (λ (l : List _). get_or l k d) (sym e) ∙ (ap (λ (j : ℕ). get_or (xs ++ y ∷ ts) j d) is ∙ item_at xs y ts d) in
     (ts, ap (λ (z : _). (xs ++ z ∷ []) ++ ts) here ∙ (append_assoc xs (y ∷ []) ts ∙ e))
 
--- a front of a list, with the item at its end, is a front of it
+-- a prefix of a list, with the item at its end, is a prefix of it
 pub prefix_next : {X : Type 0} (xs list new : List X) (k : ℕ) (x : X) → IsPrefix xs list → k ≡ length xs → k < length list → x ≡ get_or list k x → new ≡ xs ++ x ∷ [] → IsPrefix new list
 prefix_next xs list new k x p is lt here e =
     subst (λ (l : List _). IsPrefix l list) (sym e) (subst (λ (z : _). IsPrefix (xs ++ z ∷ []) list) (sym here) (prefix_at xs p.0 list k x p.1 is lt))
@@ -36,7 +36,3 @@ lines_split w n m list part more whole next =
 -- a list that is cut in two
 pub cut_whole : {X : Type 0} (list part more : List X) (n : ℕ) → part ≡ take n list → more ≡ drop n list → part ++ more ≡ list
 cut_whole list part more n front back = ap (λ (l : List _). l ++ more) front ∙ (ap (λ (l : List _). take n list ++ l) back ∙ take-append-drop n list)
-
--- nothing is a front of every list
-pub prefix_of_none : {X : Type 0} (xs list : List X) → xs ≡ [] → IsPrefix xs list
-prefix_of_none xs list e = (list, ap (λ (l : List _). l ++ list) e)

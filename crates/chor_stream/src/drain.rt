@@ -2,7 +2,7 @@
 
 ghost use Rattle.std.specs.Prelude.{◌≡◌, ◌≤◌, ◌+◌, ◌<◌, ◌^◌, ◌++◌, [], IfOk, OnErr, length};
 ghost use Rattle.transcript.specs.Books.{words};
-ghost use Rattle.chor_stream.specs.Ends.{printer_ring, slots_of, taken_of, waiting_in};
+ghost use Rattle.chor_stream.specs.Ends.{printer_ring, slots_of, taken_by, waiting_in, HasTakenAll};
 ghost use Rattle.chor_stream.specs.Lines.{Drains};
 
 use crate::ends::Printer;
@@ -51,9 +51,9 @@ impl Printer {
     fn take_known(&mut self, waiting: usize) -> Result<Vec<Entry>, Memory>
         requires { (0 < waiting) × (waiting ≡ length (waiting_in self.old)) }
         ensures ring { (printer_ring self.new ≡ printer_ring self.old) × (slots_of self.new ≡ slots_of self.old) }
-        ensures taken { IfOk result (λ part. (taken_of self.new ≡ taken_of self.old ++ part.items) × (part.items ≡ waiting_in self.old) × (waiting_in self.new ≡ [])) }
-        ensures few { IfOk result (λ part. length (taken_of self.old) + length part.items < 2 ^ 64) }
-        ensures none { OnErr result (taken_of self.new ≡ taken_of self.old) }
+        ensures taken { IfOk result (λ part. HasTakenAll self.old part.items self.new) }
+        ensures few { IfOk result (λ part. length (taken_by self.old) + length part.items < 2 ^ 64) }
+        ensures none { OnErr result (taken_by self.new ≡ taken_by self.old) }
     {
         let mut part = Vec::with_capacity(self.alloc, waiting)?;
         for _ in 0..waiting {

@@ -3,7 +3,7 @@
 ghost use Rattle.std.specs.Prelude.{◌≡◌, ◌≤◌, ◌+◌, ◌<◌, ◌^◌, length};
 ghost use mathlib.Core.List.{IsPrefix};
 ghost use Rattle.transcript.specs.Books.{words};
-ghost use Rattle.chor_stream.specs.Ends.{feed_ring, printer_ring, pushed_of, taken_of};
+ghost use Rattle.chor_stream.specs.Ends.{feed_ring, printer_ring, pushed_of, taken_by};
 ghost use Rattle.chor_stream.specs.Lines.{entry_lines, lines_after, Finishes};
 
 use crate::ends::{Feed, Printer};
@@ -39,8 +39,8 @@ impl Printer {
     ) -> Finished
         requires pair { feed_ring feed ≡ printer_ring self }
         requires list { IsPrefix (pushed_of feed) list.now }
-        ensures taken { IsPrefix (taken_of self) list.entry.now }
-        ensures lines { Finishes result (K.state out.old) (K.state out.new) (lines_after (words book.entry.now) (taken_of self) list.entry.now) }
+        ensures taken { IsPrefix (taken_by self) list.entry.now }
+        ensures lines { Finishes result (K.state out.old) (K.state out.new) (lines_after (words book.entry.now) (taken_by self) list.entry.now) }
         ensures rises { (K.state out.old).faults ≤ (K.state out.new).faults }
     {
         let taken = self.taken;
@@ -49,12 +49,12 @@ impl Printer {
         write_parts(alloc, taken, &list[taken as usize..], book, out)
     }
 
-    /// Ends a stream without writing, and proves that what was taken is a front of the list. It takes no
+    /// Ends a stream without writing, and proves that what was taken is a prefix of the list. It takes no
     /// memory.
     pub fn settle(self, feed: Feed, list: &[Entry])
         requires pair { feed_ring feed ≡ printer_ring self }
         requires list { IsPrefix (pushed_of feed) list.now }
-        ensures { IsPrefix (taken_of self) list.entry.now }
+        ensures { IsPrefix (taken_by self) list.entry.now }
     {
         let Printer {
             mut consumer,

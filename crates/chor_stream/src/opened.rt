@@ -1,7 +1,7 @@
 //! A new stream.
 
 ghost use Rattle.std.specs.Prelude.{◌≡◌, ◌≤◌, [], IfOk};
-ghost use Rattle.chor_stream.specs.Ends.{feed_ring, printer_ring, pushed_of, taken_of, slots_of};
+ghost use Rattle.chor_stream.specs.Ends.{feed_ring, printer_ring, pushed_of, taken_by, slots_of};
 
 use crate::ends::{Feed, Numbered, Printer};
 use chor_base::Memory;
@@ -12,7 +12,7 @@ use std::alloc::Global;
 pub fn stream(alloc: Global, slots: u32) -> Result<(Feed, Printer), Memory>
     requires { (1 ≤ slots) × (slots ≤ 65536) }
     ensures pair { IfOk result (λ ends. feed_ring ends.0 ≡ printer_ring ends.1) }
-    ensures fresh { IfOk result (λ ends. (pushed_of ends.0 ≡ []) × (taken_of ends.1 ≡ [])) }
+    ensures fresh { IfOk result (λ ends. (pushed_of ends.0 ≡ []) × (taken_by ends.1 ≡ [])) }
     ensures slots { IfOk result (λ ends. slots_of ends.1 ≡ slots) }
 {
     let (producer, consumer) = RingBuffer::with_protocol::<Global, Numbered>(
