@@ -1,11 +1,12 @@
 //! The transcript of an event's causal past.
 
-ghost use Rattle.std.specs.Prelude.{◌≡◌, ◌<◌, ◌++◌, All, length, IfOk, IfErr};
+ghost use Rattle.std.specs.Prelude.{◌≡◌, ◌<◌, ◌+◌, ◌^◌, ◌++◌, ◌∷◌, [], All, length, IfOk, IfErr, OnOk};
 ghost use Rattle.command_words.specs.declared.order_form.OrderForm.TheVariants.{Lead};
 ghost use Rattle.event_orders.specs.Orders.{permuted};
 ghost use Rattle.program_runs.specs.Books.{book_of};
 ghost use Rattle.transcript.specs.Books.{words};
-ghost use Rattle.transcript.specs.Text.{lines_from, transcript};
+ghost use Rattle.transcript.specs.Text.{event_text, lines_from, transcript};
+ghost use Rattle.transcript.specs.Written.{AreReady};
 ghost use Rattle.transcript_lines.specs.declared.last.Last.TheVariants.{Limit};
 ghost use Rattle.transcript_lines.specs.Last.{last_text};
 ghost use Rattle.accepted_orders.specs.Numbers.{IsNumberFault};
@@ -15,10 +16,11 @@ use crate::fault::OrderFault;
 use crate::numbers::place_of;
 use accepted_replays::names_of;
 use causal_order::Order;
-use chor_base::{Event, Memory, put_bytes, put_number};
+use chor_base::{Entry, Event, Memory, put_bytes, put_number};
 use chor_tree::File;
 use std::alloc::Global;
-use transcript::{Book, print_event};
+use std::slice::from_ref;
+use transcript::{Book, Lines};
 
 /// The transcript of the causal past of the event with this number.
 pub fn past_text(
@@ -71,11 +73,23 @@ fn events_text(
     requires { All (λ place. place < length events.now) past.now }
     ensures { IfOk result (λ text. text.items ≡ lines_from (words book.now) 1 (permuted events.now past.now)) }
 {
-    let mut text = Vec::new(alloc);
-    for (line, place) in past.iter().enumerate() {
+    let mut lines = Lines::new(alloc)?;
+    for place in past {
         let event = &events[*place as usize];
-        print_event(alloc, line as u64 + 1, event, book, &mut text)?;
-        text.push(b'\n')?;
+        put_event(&mut lines, alloc, event, book)?;
     }
-    Ok(text)
+    Ok(lines.into_text())
+}
+
+// Appends the line of the event that comes next.
+fn put_event(lines: &mut Lines, alloc: Global, event: &Event, book: &Book) -> Result<(), Memory>
+    requires ready { AreReady (words book.now) lines.old }
+    requires few { lines.old.count + 1 < 2 ^ 64 }
+    ensures ready { OnOk result (AreReady (words book.now) lines.new) }
+    ensures count { OnOk result (lines.new.count ≡ lines.old.count + 1) }
+    ensures text { OnOk result (lines.new.text.items ≡ lines.old.text.items ++ event_text (words book.now) (lines.old.count + 1) event.now ++ 10 ∷ []) }
+{
+    let event = event.copy(alloc)?;
+    let entry = Entry { worker: 0, event };
+    lines.put(from_ref(&entry), book)
 }

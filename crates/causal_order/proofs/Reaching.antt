@@ -1,15 +1,13 @@
 -- The ancestors of an event by its causes are what happens before it.
-use Rattle.std.proofs.Common.{◌≡◌, ℕ, zero, suc, ◌<◌, ◌≤◌, ◌+◌, ◌^◌, Bool, true, false, List, [], ◌∷◌, ◌++◌, length, take, refl, sym, ap, ◌∙◌, subst, Option, Some, arith, inl, inr, ◌⊎◌, ◌↔◌, get_or, Contains}
+use Rattle.std.proofs.Common.{◌≡◌, ℕ, zero, suc, ◌<◌, ◌≤◌, ◌+◌, Bool, true, false, List, [], ◌∷◌, ◌++◌, length, refl, sym, ap, ◌∙◌, subst, Option, Some, arith, inl, inr, ◌⊎◌, ◌↔◌, get_or, Contains}
 use Rattle.std.specs.Prelude.{slice_get}
 use Rattle.std.specs.List.Sorted.{IsStrictlyIncreasing}
 use Rattle.std.proofs.lemmas.Bool.{true≢false, cases_lt}
 use Rattle.std.proofs.lemmas.Option.{slice_get_within, slice_get_read}
 use Rattle.std.proofs.lemmas.List.{get_or_default, get_or_read, get_or_past}
 use Rattle.chor_base.specs.declared.event.Event.{Event}
-use Rattle.chor_base.specs.Events.{Triple}
 use Rattle.chor_base.proofs.Lists.{AtEnd, before as at_before, last as at_last, at_end}
 use Rattle.event_orders.proofs.OwnersAtStarts.{one_holder}
-use Rattle.event_orders.specs.EventKinds.{EventKind, count, one_if, has_kind}
 use Rattle.event_orders.specs.Orders.{IsPermutationBelow, IsBefore}
 use Rattle.event_orders.specs.HappensBefore.{IsDirectlyBefore, HappensBefore, IsLinearExtension}
 use Rattle.event_orders.specs.Causes.{IsCause, last_of_process as last_cause, previous_start, its_send, its_room, IsTransitiveCause, cause, by_way_of}
@@ -18,28 +16,12 @@ use Rattle.event_orders.proofs.Numbers.{before_trans}
 use Rattle.event_orders.proofs.Causing.{happens_caused, caused_happens, cause_directly}
 use Rattle.event_orders.proofs.Extending.{less, PermutedRun, whole_permuted_run, extension_closed}
 use Rattle.event_orders.proofs.Reversing.{shared, lead_runs}
-use Rattle.causal_order.specs.declared.index.EventIndex.{EventIndex}
 use Rattle.causal_order.specs.declared.scan.Scan.{Scan}
-use Rattle.causal_order.specs.Index.{count_on}
 use Rattle.causal_order.specs.Found.{causes_found}
 use Rattle.causal_order.specs.Adding.{HasAdded}
-use Rattle.causal_order.specs.Scanned.{IsIndexOf, HasScanned}
+use Rattle.causal_order.specs.Scanned.{HasScanned}
 use Rattle.causal_order.specs.Orders.{AreCausesOf, AreCauses, AreEarlier, IsAncestor, direct, by_way, IsInPast, IsSomeRun, RespectsCauses, IsWhetherBefore, IsWhetherShared, IsPast, PastIsRun, RespectingOrdersAreRuns}
 use Rattle.causal_order.proofs.Scanning.{scanned_more, found_is_cause, cause_is_found}
-
--- ---- counts stay small
-
-count_bound : (k : EventKind) (h : List Event) (n : ℕ) → count k (take n h) ≤ n
-count_bound k h zero = omega arith
-count_bound k [] (suc n) = omega arith
-count_bound k (x ∷ h) (suc n) = go (has_kind k x) (count_bound k h n)
-  where
-    go : (b : Bool) → count k (take n h) ≤ n → one_if b + count k (take n h) ≤ suc n
-    go true le = omega arith
-    go false le = omega arith
-
-pub room_left : (h : List Event) (n : ℕ) (mark : Triple → EventKind) (index : EventIndex) → IsIndexOf h n mark index → n + 1 < 2 ^ 32 → (t : Triple) → count_on index t + 1 < 2 ^ 64
-room_left h n mark index has lt t = let a = has.counts t in let b = count_bound (mark t) h n in omega arith
 
 -- ---- the causes of one more event
 

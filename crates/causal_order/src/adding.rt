@@ -1,9 +1,7 @@
 //! Adding the next event to a scan.
 
-ghost use Rattle.std.specs.Prelude.{ℕ, ◌≡◌, ◌<◌, ◌+◌, ◌^◌, map, OnOk};
-ghost use Rattle.chor_base.specs.Events.{Triple};
+ghost use Rattle.std.specs.Prelude.{◌≡◌, map, OnOk};
 ghost use Rattle.event_orders.specs.EventKinds.{is_in};
-ghost use Rattle.causal_order.specs.Index.{count_on};
 ghost use Rattle.causal_order.specs.Scan.{HasLastAt};
 ghost use Rattle.causal_order.specs.Adding.{HasAdded};
 
@@ -25,8 +23,6 @@ fn add_to_all(scan: &mut Scan, parts: &[(NameId, u32)], place: u64) -> Result<()
 
 /// Adds the next event, with its place.
 pub fn add(scan: &mut Scan, event: &Event, place: u64) -> Result<(), Memory>
-    requires sends { (t : Triple) → count_on scan.old.sends t + 1 < 2 ^ 64 }
-    requires receipts { (t : Triple) → count_on scan.old.receipts t + 1 < 2 ^ 64 }
     ensures { OnOk result (HasAdded scan.old event.now place scan.new) }
 {
     match *event {

@@ -14,6 +14,9 @@ use std::alloc::Global;
 // A list has fewer items than this.
 const LIST_LIMIT: usize = 1 << 32;
 
+// How many causes an event other than a start has at most.
+const USUAL: usize = 2;
+
 // Adds a place, if it is there.
 fn push_some(places: &mut Vec<u64>, place: Option<u64>) -> Result<(), Memory>
     ensures { OnOk result (places.new.items ≡ places.old.items ++ option_to_list place) }
@@ -97,7 +100,7 @@ pub fn causes_of(
     ensures ascends { IfOk result (λ list. IsStrictlyIncreasing list) }
     ensures holds { IfOk result (λ list. (i : ℕ) → Contains list i ↔ Contains (causes_found capacity scan.now event.now) i) }
 {
-    let mut places = Vec::new(alloc);
+    let mut places = Vec::with_capacity(alloc, USUAL)?;
     push_last(&mut places, scan, event)?;
     push_some(&mut places, other_cause(scan, event, capacity))?;
     places.sort_unstable();

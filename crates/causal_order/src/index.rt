@@ -1,12 +1,13 @@
 //! The places of the sends, or of the receipts, triple by triple.
 
-ghost use Rattle.std.specs.Prelude.{ℕ, ◌≡◌, ◌<◌, ◌+◌, ◌^◌, OnOk, None};
+ghost use Rattle.std.specs.Prelude.{ℕ, ◌≡◌, [], OnOk, None};
 ghost use Rattle.chor_base.specs.Events.{Triple, triple_eq};
-ghost use Rattle.causal_order.specs.Index.{triple_of, count_on, place_on, HasOneMore};
+ghost use Rattle.causal_order.specs.Index.{triple_of, places_on, count_on, place_on, IsListOf, HasOneMore};
 
-use chor_base::{Memory, NameId};
+use chor_base::{List, Memory, NameId};
+use indexmap::IndexMap;
+use recent_places::RecentPlaces;
 use std::alloc::Global;
-use std::collections::HashMap;
 
 /// A session, a sender's role in it and a receiver's role.
 #[derive(Clone, Copy, PartialEq, Eq, Hash)]
@@ -16,24 +17,26 @@ pub struct Direction {
     pub to: NameId,
 }
 
-/// An event of a direction by its number, counted from 0.
-#[derive(Clone, Copy, PartialEq, Eq, Hash)]
-pub struct Nth {
-    pub direction: Direction,
-    pub number: u64,
+impl Direction {
+    // The numbers by which the list of a direction is found again.
+    fn numbers(self) -> (u32, u32, u32) {
+        (self.sid, self.from.0, self.to.0)
+    }
 }
 
-/// How many events each direction has, and the place of each of them.
+/// For each direction the places of its events, in ascending order.
 pub struct EventIndex {
-    counts: HashMap<Direction, u64>,
-    places: HashMap<Nth, u64>,
+    alloc: Global,
+    lists: IndexMap<Direction, List<u64>>,
+    recent: RecentPlaces,
 }
 
 impl Drop for EventIndex {
     fn drop(self) {
         let EventIndex {
-            counts: _,
-            places: _,
+            alloc: _,
+            lists: _,
+            recent: _,
         } = self;
     }
 }
@@ -45,8 +48,43 @@ impl EventIndex {
         ensures places { (t : Triple) (n : ℕ) → place_on result t n ≡ None }
     {
         EventIndex {
-            counts: HashMap::new(alloc),
-            places: HashMap::new(alloc),
+            alloc,
+            lists: IndexMap::new(alloc),
+            recent: RecentPlaces::new(alloc),
+        }
+    }
+
+    // Where a direction's list is.
+    fn list_of(&self, direction: Direction) -> Option<usize>
+        ensures { IsListOf self.now.lists.entries (triple_of direction) result }
+    {
+        let recent = self.recent.get(direction.numbers());
+        match self.lists.get_index(recent) {
+            Some((other, _)) if direction == *other => Some(recent),
+            _ => self.found(direction),
+        }
+    }
+
+    // The same, looked for by hash.
+    fn found(&self, direction: Direction) -> Option<usize>
+        ensures { IsListOf self.now.lists.entries (triple_of direction) result }
+    {
+        match self.lists.get_full(&direction) {
+            Some((list, _, _)) => Some(list),
+            None => None,
+        }
+    }
+
+    // The places of a direction's events.
+    fn places(&self, direction: Direction) -> &[u64]
+        ensures { result.now ≡ places_on self.now (triple_of direction) }
+    {
+        let Some(list) = self.list_of(direction) else {
+            return &[];
+        };
+        match self.lists.get_index(list) {
+            Some((_, places)) => places.as_slice(),
+            None => unreachable!(),
         }
     }
 
@@ -54,27 +92,39 @@ impl EventIndex {
     pub fn count(&self, direction: Direction) -> u64
         ensures { result ≡ count_on self.now (triple_of direction) }
     {
-        match self.counts.get(&direction) {
-            Some(count) => *count,
-            None => 0,
-        }
+        self.places(direction).len() as u64
     }
 
-    /// The place of a direction's event with this number, if it is there.
+    /// The place of a direction's event with this number, counted from 0, if it is there.
     pub fn place(&self, direction: Direction, number: u64) -> Option<u64>
         ensures { result ≡ place_on self.now (triple_of direction) number }
     {
-        self.places.get(&Nth { direction, number }).copied()
+        self.places(direction).get(number as usize).copied()
     }
 
     /// Adds an event of a direction, with its place.
     pub fn add(&mut self, direction: Direction, place: u64) -> Result<(), Memory>
-        requires { count_on self.old (triple_of direction) + 1 < 2 ^ 64 }
         ensures { OnOk result (HasOneMore self.old (λ t. triple_eq t (triple_of direction)) place self.new) }
     {
-        let number = self.count(direction);
-        self.places.insert(Nth { direction, number }, place)?;
-        self.counts.insert(direction, number + 1)?;
+        let Some(list) = self.list_of(direction) else {
+            return self.open(direction, place);
+        };
+        self.recent.note(direction.numbers(), list);
+        match self.lists.get_index_mut(list) {
+            Some(places) => places.push(place),
+            None => unreachable!(),
+        }
+    }
+
+    // Adds the first event of a direction, with its place.
+    fn open(&mut self, direction: Direction, place: u64) -> Result<(), Memory>
+        requires { places_on self.old (triple_of direction) ≡ [] }
+        ensures { OnOk result (HasOneMore self.old (λ t. triple_eq t (triple_of direction)) place self.new) }
+    {
+        let mut places = List::new(self.alloc);
+        places.push(place)?;
+        self.recent.reserve();
+        self.lists.insert(direction, places)?;
         Ok(())
     }
 }

@@ -12,14 +12,13 @@ use crate::orders::Order;
 use crate::scan::Scan;
 use chor_base::{Event, List, Memory};
 use std::alloc::Global;
-use std::collections::HashMap;
 
 // A scan of no events.
 fn empty(alloc: Global) -> Scan
     ensures { (h : AnyList AnyEvent) → HasScanned h 0 result }
 {
     Scan {
-        last: HashMap::new(alloc),
+        last: Vec::new(alloc),
         start: None,
         sends: EventIndex::new(alloc),
         receipts: EventIndex::new(alloc),

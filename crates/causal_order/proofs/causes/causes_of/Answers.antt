@@ -15,7 +15,7 @@ returns-clause-holds c =
     let is = c.from_vec.ensures ∙ dedup_is _ _ _ c.dedup.ensures.filtered in
     let moved = c.sort_unstable.ensures.permutation in
     let last = last_events c.args.scan.now (actors_of c.args.event.now) in
-    let from = c.in_ok-push_some.ensures ∙ ap (λ z. z ++ option_to_list c.other_cause.result) (c.in_ok-push_last.ensures ∙ ap (λ z. z ++ last) c.new-places.ensures.items) ∙ ap (λ o. last ++ option_to_list o) c.other_cause.ensures in
+    let from = c.in_ok-push_some.ensures ∙ ap (λ z. z ++ option_to_list c.other_cause.result) (c.in_ok-push_last.ensures ∙ ap (λ z. z ++ last) c.in_ok-places.ensures.items) ∙ ap (λ o. last ++ option_to_list o) c.other_cause.ensures in
     λ i. (
       (λ h. rw from at (Contains-permutation _ _ i (IsPermutation-sym _ _ moved) (Contains-from_dedup _ _ i (rw is at h)))),
       (λ h. rw is (Contains-dedup_nat _ i (Contains-permutation _ _ i moved (rw (sym from) at h)))),

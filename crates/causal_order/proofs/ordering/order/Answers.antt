@@ -1,8 +1,7 @@
 use Rattle.std.proofs.Common.{◌≡◌, length, ap, sym, ◌∙◌, arith, None, Some}
 use Rattle.std.proofs.lemmas.List.{length_push}
 use Rattle.std.specs.Prelude.{slice_get}
-use Rattle.event_orders.specs.EventKinds.{Sends, Receives}
-use Rattle.causal_order.proofs.Reaching.{room_left, each_more, scanned_next, earlier, orders_run}
+use Rattle.causal_order.proofs.Reaching.{each_more, scanned_next, earlier, orders_run}
 use Rattle.causal_order.proofs.ordering.order.Goals as goal
 
 pub loop-place-init : goal.loop-place-init
@@ -11,16 +10,6 @@ loop-place-init c = record {
   whole = ap length c.new-causes.ensures;
   each = λ j list h. (let f : None ≡ Some list = ap (λ z. slice_get z j) (sym c.new-causes.ensures) ∙ h in absurd cc);
 }
-
-pub add-requires-clause-sends : goal.add-requires-clause-sends
-add-requires-clause-sends c =
-    room_left c.args.events.now c.loop-place.place (λ t. Sends t) c.loop-place.scan.sends c.loop-place.invariant.scan.sends
-    (let a = ap length c.in_ok-push.ensures.ok in let b = length_push c.loop-place.causes c.in_ok-causes_of.field-0 in let d = c.push.ensures.short in let e = c.loop-place.invariant.whole in omega arith)
-
-pub add-requires-clause-receipts : goal.add-requires-clause-receipts
-add-requires-clause-receipts c =
-    room_left c.args.events.now c.loop-place.place (λ t. Receives t) c.loop-place.scan.receipts c.loop-place.invariant.scan.receipts
-    (let a = ap length c.in_ok-push.ensures.ok in let b = length_push c.loop-place.causes c.in_ok-causes_of.field-0 in let d = c.push.ensures.short in let e = c.loop-place.invariant.whole in omega arith)
 
 pub loop-place-preserved : goal.loop-place-preserved
 loop-place-preserved c = record {
