@@ -17,3 +17,4 @@ pub mod Verdicts
 pub mod Firsts
 pub mod Bodies
 pub mod Together
+pub mod Indexes

@@ -6,3 +6,4 @@ pub mod JoinedWords
 pub mod Joined
 pub mod Judged
 pub mod InTables
+pub mod Indexes

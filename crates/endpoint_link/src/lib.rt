@@ -4,6 +4,7 @@
 mod checking;
 mod comparing;
 mod fault;
+mod index;
 mod joined;
 mod judging;
 mod linking;
@@ -11,6 +12,7 @@ mod making;
 mod node;
 mod renumbering;
 mod table;
+mod unit_name;
 mod verdict;
 mod words;
 

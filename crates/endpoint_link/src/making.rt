@@ -1,10 +1,13 @@
 //! The units of the linked programs.
 
-ghost use Rattle.std.specs.Prelude.{◌≡◌, ◌↔◌, IfOk, IsTrue};
+ghost use Rattle.std.specs.Prelude.{◌≡◌, ◌↔◌, IfOk, IsTrue, map};
 ghost use Rattle.std.specs.List.{AllZip};
+ghost use Rattle.endpoint_link.specs.Indexes.{name_of_procedure, name_of_service, name_of_process, renumbered_unit};
 ghost use Rattle.endpoint_link.specs.InTables.{ReplacesProcedureIn, ReplacesServiceIn, ReplacesProcessIn, IsLinkedCodeIn, IsProcedureLinkedIn, IsServiceLinkedIn, IsProcessLinkedIn};
 
+use crate::index::Index;
 use crate::joined::Joined;
+use crate::unit_name::{HasUnitName, names_of};
 use chor_base::{List, Memory};
 use endpoint_code::{Channel, CodeId, Procedure, Process, ServiceCode};
 use std::alloc::Global;
@@ -47,11 +50,28 @@ impl Joined {
         self.numbers.name(given.name) == base.name
     }
 
+    // An index of given units, by their names with the new numbers.
+    fn given_index<T: HasUnitName>(&self, alloc: Global, given: &[T]) -> Result<Index, Memory>
+        ensures { IfOk result (λ index. index.names ≡ map (λ x. renumbered_unit self.now.numbers (T.name_of x)) given.now) }
+    {
+        let names = names_of(alloc, given)?;
+        let names = self.numbers.unit_names(alloc, names.as_slice())?;
+        let index = Index::new(alloc, names)?;
+        Ok(index)
+    }
+
     // The linked code of a procedure of the base: that of the first given one of its name, or its own.
-    fn procedure_body(&self, unit: &Procedure, given: &[Procedure]) -> Result<CodeId, Memory>
+    fn procedure_body(
+        &self,
+        unit: &Procedure,
+        given: &[Procedure],
+        index: &Index,
+    ) -> Result<CodeId, Memory>
+        requires { index.now.names ≡ map (λ x. renumbered_unit self.now.numbers (name_of_procedure x)) given.now }
         ensures { IfOk result (IsLinkedCodeIn self.now (λ x. ReplacesProcedureIn self.now x unit.now) (λ x. x.body) given.now unit.now.body) }
     {
-        for other in given {
+        let part = index.part(given, unit.unit_name());
+        for other in part {
             if self.is_procedure(other, unit) {
                 let body = self.numbers.code(other.body)?;
                 return Ok(body);
@@ -61,10 +81,17 @@ impl Joined {
     }
 
     // The linked code of a service of the base.
-    fn service_body(&self, unit: ServiceCode, given: &[ServiceCode]) -> Result<CodeId, Memory>
+    fn service_body(
+        &self,
+        unit: ServiceCode,
+        given: &[ServiceCode],
+        index: &Index,
+    ) -> Result<CodeId, Memory>
+        requires { index.now.names ≡ map (λ x. renumbered_unit self.now.numbers (name_of_service x)) given.now }
         ensures { IfOk result (IsLinkedCodeIn self.now (λ x. ReplacesServiceIn self.now x unit) (λ x. x.body) given.now unit.body) }
     {
-        for other in given {
+        let part = index.part(given, unit.unit_name());
+        for other in part {
             if self.is_service(*other, unit) {
                 let body = self.numbers.code(other.body)?;
                 return Ok(body);
@@ -74,10 +101,17 @@ impl Joined {
     }
 
     // The linked code of a process of the base.
-    fn process_body(&self, unit: Process, given: &[Process]) -> Result<CodeId, Memory>
+    fn process_body(
+        &self,
+        unit: Process,
+        given: &[Process],
+        index: &Index,
+    ) -> Result<CodeId, Memory>
+        requires { index.now.names ≡ map (λ x. renumbered_unit self.now.numbers (name_of_process x)) given.now }
         ensures { IfOk result (IsLinkedCodeIn self.now (λ x. ReplacesProcessIn self.now x unit) (λ x. x.body) given.now unit.body) }
     {
-        for other in given {
+        let part = index.part(given, unit.unit_name());
+        for other in part {
             if self.is_process(*other, unit) {
                 let body = self.numbers.code(other.body)?;
                 return Ok(body);
@@ -95,13 +129,14 @@ impl Joined {
     ) -> Result<List<Procedure>, Memory>
         ensures { IfOk result (AllZip (IsProcedureLinkedIn self.now given.now) base.now) }
     {
+        let index = self.given_index(alloc, given)?;
         let mut list = List::new(alloc);
         for unit in base {
             list.push(Procedure {
                 name: unit.name,
                 param: unit.param,
                 sessions: unit.sessions.copy(alloc)?,
-                body: self.procedure_body(unit, given)?,
+                body: self.procedure_body(unit, given, &index)?,
             })?;
         }
         Ok(list)
@@ -116,12 +151,13 @@ impl Joined {
     ) -> Result<List<ServiceCode>, Memory>
         ensures { IfOk result (AllZip (IsServiceLinkedIn self.now given.now) base.now) }
     {
+        let index = self.given_index(alloc, given)?;
         let mut list = List::new(alloc);
         for unit in base {
             list.push(ServiceCode {
                 channel: unit.channel,
                 role: unit.role,
-                body: self.service_body(*unit, given)?,
+                body: self.service_body(*unit, given, &index)?,
             })?;
         }
         Ok(list)
@@ -136,11 +172,12 @@ impl Joined {
     ) -> Result<List<Process>, Memory>
         ensures { IfOk result (AllZip (IsProcessLinkedIn self.now given.now) base.now) }
     {
+        let index = self.given_index(alloc, given)?;
         let mut list = List::new(alloc);
         for unit in base {
             list.push(Process {
                 name: unit.name,
-                body: self.process_body(*unit, given)?,
+                body: self.process_body(*unit, given, &index)?,
             })?;
         }
         Ok(list)

@@ -13,7 +13,7 @@ returns-in-Some c =
     let x = c.at.result.now in
     found_first (ReplacesProcedure e g) (SuitsProcedure e g) e.procedures g.procedures c.loop-place.place x c.in_ok-rule.field-0 c.in-Some.rule c.at.ensures c.loop-place.invariant
     (procedure_judged e g c.args.self.now c.requires x (found_among g.procedures c.loop-place.place x c.at.ensures) c.in_ok-rule.field-0
-    (subst (λ us. IsVerdict (ReplacesProcedureIn c.args.self.now) (SuitsProcedureIn c.args.self.now) us x c.in_ok-rule.field-0) c.as_slice.ensures c.in_ok-rule.ensures)) c.in-Some.is
+    (subst (λ us. IsVerdict (ReplacesProcedureIn c.args.self.now) (SuitsProcedureIn c.args.self.now) us x c.in_ok-rule.field-0) c.as_slice-units.ensures c.in_ok-rule.ensures)) c.in-Some.is
 
 pub loop-place-preserved : goal.loop-place-preserved
 loop-place-preserved c =
@@ -22,7 +22,7 @@ loop-place-preserved c =
     let x = c.at.result.now in
     fit_more (ReplacesProcedure e g) (SuitsProcedure e g) e.procedures g.procedures c.loop-place.place x c.in_ok-rule.field-0 c.at.ensures c.loop-place.invariant
     (procedure_judged e g c.args.self.now c.requires x (found_among g.procedures c.loop-place.place x c.at.ensures) c.in_ok-rule.field-0
-    (subst (λ us. IsVerdict (ReplacesProcedureIn c.args.self.now) (SuitsProcedureIn c.args.self.now) us x c.in_ok-rule.field-0) c.as_slice.ensures c.in_ok-rule.ensures)) c.in_default.not-Some
+    (subst (λ us. IsVerdict (ReplacesProcedureIn c.args.self.now) (SuitsProcedureIn c.args.self.now) us x c.in_ok-rule.field-0) c.as_slice-units.ensures c.in_ok-rule.ensures)) c.in_default.not-Some
 
 pub returns : goal.returns
 returns c =

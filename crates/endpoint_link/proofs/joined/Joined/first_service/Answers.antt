@@ -13,7 +13,7 @@ returns-in-Some c =
     let x = c.at.result.now in
     found_first (ReplacesService e g) (SuitsService e g) e.services g.services c.loop-place.place x c.in_ok-rule.field-0 c.in-Some.rule c.at.ensures c.loop-place.invariant
     (service_judged e g c.args.self.now c.requires x (found_among g.services c.loop-place.place x c.at.ensures) c.in_ok-rule.field-0
-    (subst (λ us. IsVerdict (ReplacesServiceIn c.args.self.now) (SuitsServiceIn c.args.self.now) us x c.in_ok-rule.field-0) c.as_slice.ensures c.in_ok-rule.ensures)) c.in-Some.is
+    (subst (λ us. IsVerdict (ReplacesServiceIn c.args.self.now) (SuitsServiceIn c.args.self.now) us x c.in_ok-rule.field-0) c.as_slice-units.ensures c.in_ok-rule.ensures)) c.in-Some.is
 
 pub loop-place-preserved : goal.loop-place-preserved
 loop-place-preserved c =
@@ -22,7 +22,7 @@ loop-place-preserved c =
     let x = c.at.result.now in
     fit_more (ReplacesService e g) (SuitsService e g) e.services g.services c.loop-place.place x c.in_ok-rule.field-0 c.at.ensures c.loop-place.invariant
     (service_judged e g c.args.self.now c.requires x (found_among g.services c.loop-place.place x c.at.ensures) c.in_ok-rule.field-0
-    (subst (λ us. IsVerdict (ReplacesServiceIn c.args.self.now) (SuitsServiceIn c.args.self.now) us x c.in_ok-rule.field-0) c.as_slice.ensures c.in_ok-rule.ensures)) c.in_default.not-Some
+    (subst (λ us. IsVerdict (ReplacesServiceIn c.args.self.now) (SuitsServiceIn c.args.self.now) us x c.in_ok-rule.field-0) c.as_slice-units.ensures c.in_ok-rule.ensures)) c.in_default.not-Some
 
 pub returns : goal.returns
 returns c =

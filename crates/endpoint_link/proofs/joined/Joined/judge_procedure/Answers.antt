@@ -1,14 +1,37 @@
-use Rattle.std.proofs.Common.{◌+◌, Option, take, sym, subst}
+use Rattle.std.proofs.Common.{◌≡◌, ◌+◌, ◌≤◌, Option, length, take, sym, ap, ◌∙◌, subst, arith}
+use Rattle.std.proofs.lemmas.List.{take_all}
 use Rattle.endpoint_link.specs.declared.fault.LinkRule.{LinkRule}
+use Rattle.endpoint_code.specs.declared.endpoints.Procedure.{Procedure}
+use Rattle.endpoint_link.specs.Renumbered.{renumbered_name}
+use Rattle.endpoint_link.specs.Indexes.{name_of_procedure, renumbered_unit}
 use Rattle.endpoint_link.specs.Judged.{IsVerdict}
-use Rattle.endpoint_link.specs.InTables.{ReplacesProcedureIn, SuitsProcedureIn}
+use Rattle.endpoint_link.specs.InTables.{IsInside, ReplacesProcedureIn, SuitsProcedureIn}
+use Rattle.endpoint_link.proofs.Indexes.{all_part, judged_whole, same_two}
 use Rattle.endpoint_link.proofs.Verdicts.{judged_turn}
 use Rattle.endpoint_link.proofs.joined.Joined.judge_procedure.Goals as goal
 
 pub loop-unit-preserved : goal.loop-unit-preserved
 loop-unit-preserved c =
     let j = c.args.self.now in
-    let base = c.args.base.now in
+    let part = c.part-part.result.now in
     let i = c.loop-unit.unit-index in
-    subst (λ (v : Option LinkRule). IsVerdict (ReplacesProcedureIn j) (SuitsProcedureIn j) (take (i + 1) base) c.args.given.now v) (sym c.verdict_after-verdict.ensures)
-    (judged_turn (ReplacesProcedureIn j) (SuitsProcedureIn j) c.args.given.now base i c.unit-item.result c.loop-unit.verdict c.in_ok-compare_procedure.field-0 c.loop-unit-test.true c.unit-item.is c.loop-unit.invariant c.in_ok-compare_procedure.ensures)
+    subst (λ (v : Option LinkRule). IsVerdict (ReplacesProcedureIn j) (SuitsProcedureIn j) (take (i + 1) part) c.args.given.now v) (sym c.verdict_after-verdict.ensures)
+    (judged_turn (ReplacesProcedureIn j) (SuitsProcedureIn j) c.args.given.now part i c.unit-item.result c.loop-unit.verdict c.in_ok-compare_procedure.field-0 c.loop-unit-test.true c.unit-item.is c.loop-unit.invariant c.in_ok-compare_procedure.ensures)
+
+pub returns : goal.returns
+returns c =
+    let j = c.args.self.now in
+    let base = c.args.base.now in
+    let part = c.part-part.result.now in
+    let i = c.loop-unit.unit-index in
+    let v = c.loop-unit.verdict in
+    let l : length part ≤ i = omega (arith, c.loop-unit-test.false) in
+    let name : c.unit_name-name.result ≡ renumbered_unit j.numbers (name_of_procedure c.args.given.now) = c.unit_name-name.ensures ∙ ap (renumbered_unit j.numbers) c.unit_name.ensures in
+    judged_whole name_of_procedure c.args.index.now.names c.unit_name-name.result base part c.requires.index c.part-part.ensures (ReplacesProcedureIn j) (SuitsProcedureIn j) c.args.given.now
+    (λ u r. same_two u.name (renumbered_name j.numbers c.args.given.now.name) u.param (renumbered_name j.numbers c.args.given.now.param) (sym r.0) (sym r.1) ∙ sym name)
+    v (subst (λ us. IsVerdict (ReplacesProcedureIn j) (SuitsProcedureIn j) us c.args.given.now v) (take_all i part l) c.loop-unit.invariant)
+
+pub compare_procedure-requires-clause-base : goal.compare_procedure-requires-clause-base
+compare_procedure-requires-clause-base c =
+    subst (λ (u : Procedure). IsInside c.args.self.now u.body) (sym c.unit-item.is)
+    (all_part (λ (u : Procedure). IsInside c.args.self.now u.body) c.args.index.now.names c.unit_name-name.result c.args.base.now c.part-part.result.now c.part-part.ensures c.requires.base c.loop-unit.unit-index c.unit-item.result c.loop-unit-test.true)

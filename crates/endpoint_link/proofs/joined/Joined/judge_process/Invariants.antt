@@ -4,4 +4,4 @@ use Rattle.endpoint_link.specs.InTables.{ReplacesProcessIn, SuitsProcessIn}
 use Rattle.endpoint_link.proofs.joined.Joined.judge_process.Given as goal
 
 abbrev pub invariant-loop-unit : goal.invariant-loop-unit
-invariant-loop-unit l = IsVerdict (ReplacesProcessIn l.self) (SuitsProcessIn l.self) (take l.unit-index l.base) l.given l.verdict
+invariant-loop-unit l = IsVerdict (ReplacesProcessIn l.self) (SuitsProcessIn l.self) (take l.unit-index l.part) l.given l.verdict

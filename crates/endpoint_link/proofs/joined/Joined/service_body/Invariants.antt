@@ -4,4 +4,4 @@ use Rattle.endpoint_link.specs.InTables.{ReplacesServiceIn}
 use Rattle.endpoint_link.proofs.joined.Joined.service_body.Given as goal
 
 abbrev pub invariant-loop-other : goal.invariant-loop-other
-invariant-loop-other l = All (λ x. ReplacesServiceIn l.self x l.unit → ⊥) (take l.other-index l.given)
+invariant-loop-other l = All (λ x. ReplacesServiceIn l.self x l.unit → ⊥) (take l.other-index l.part)
