@@ -5,6 +5,7 @@ function facts_of(rule, i) {
   if (rule == "L1" || rule == "L5") return facts_of_bytes(rule)
   if (rule == "P1" || rule == "E1") return ""
   if (rule == "P2") { fill["kind"] = text[i] == "{" ? "open block" : "token of an expression"; return "" }
+  if (rule == "P3" && text[i - 1] == "capacity") return "A capacity is from 1 to 1,000,000."
   if (rule == "P3" || rule == "E4") { fill["kind"] = rule == "P3" ? limited_thing(i) : limited_endpoint_thing(i); return "" }
   if (rule == "E2") return unknown_in_endpoints(i)
   if (rule == "E3") { fill["name"] = procedure_before(i); return "" }

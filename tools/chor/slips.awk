@@ -8,6 +8,8 @@ function slip_at(i,   word, before, opened, slip) {
   if (i == 1 && word == "endpoints") return "endpoints 1;"
   if (i == token_count && !has_main()) return "a file without main"
   if (i == token_count && open_braces(i)) return "a missing }"
+  if (i == 2 && before == "chor") return "a version other than 2"
+  if ((word == "chor" || word == "capacity") && !open_braces(i) && before ~ /^(|;|})$/) return "a header in the middle"
   if (word == "if" && before == "else") return "else if"
   if (word == "end" && before == "then") return "then end"
   if (touches(i, "/", "*")) return "/* */"

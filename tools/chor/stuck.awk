@@ -23,12 +23,20 @@ function waits(process,   i, k, number, from, key, other, first) {
   if (text[i] == "join") return sprintf("%s -> %s: it joins %s in role %s, and nobody joins in %s (line %d)", process, \
     text[i + 1], text[i + 1], text[i + 3], absent(text[i + 1], text[i + 3]), row[i])
   number = session[process, text[i + 1]]
+  if (text[i] == "send" || text[i] == "pick" || text[i] == "give") return full(process, i, number)
   from = text[i + 2]
   key = number SUBSEP from SUBSEP role[process, text[i + 1]]
   other = (number SUBSEP from) in holder ? holder[number, from] : "nobody"
   first = substr(queue[key], 1, index(queue[key], "\n") - 1)
   return sprintf("%s -> %s: it waits for %s from role %s of #%s, %s (line %d)", process, other, wanted(i), from, number, \
     first == "" ? "and nothing is there" : "and the first message there is " first, row[i])
+}
+
+# A process that sends waits for room in its queue.
+function full(process, i, number,   to, other) {
+  to = text[i + 2]
+  other = (number SUBSEP to) in holder ? holder[number, to] : "nobody"
+  return sprintf("%s -> %s: it waits to send to role %s of #%s, and the queue is full (line %d)", process, other, to, number, row[i])
 }
 
 function wanted(i) {

@@ -8,7 +8,7 @@ say_wrong() { echo "chor: $*"; }
 takes() {
   awk -v command="$1" '$1 == command {
     gsub(/:[0-9:]+/, "")
-    sub(/--workers/, "[--workers N]"); sub(/--seed/, "[--seed S]"); sub(/--steps/, "[--steps M]"); sub(/--text/, "[--text]")
+    sub(/--workers/, "[--workers N]"); sub(/--seed/, "[--seed S]"); sub(/--steps/, "[--steps M]"); sub(/--capacity/, "[--capacity C]"); sub(/--text/, "[--text]")
     sub(/--pair [|] --lead/, "[--pair I J | --lead J]")
     print "chor: it takes: chor " $0
   }' "$parts/commands"

@@ -6,7 +6,7 @@ TRANSCRIPTS = (b"run", b"exec", b"link", b"resume")
 COMMANDS = (b"check", b"fmt", b"types", b"project", b"run", b"exec", b"link", b"replay", b"order", b"conform", b"resume", b"gen")
 WORDS = [
     b"hello.chor", b"hello.chor", b"hello.chor", b"hello.run", b"hello.run", b"hello.endpoints", b"stuck.endpoints", b"nowhere", b".", b"",
-    b"--seed", b"--steps", b"--workers", b"--pair", b"--lead", b"--text", b"--fast", b"-", b"0", b"1", b"2", b"3", b"16", b"17", b"01", b"-1",
+    b"--seed", b"--steps", b"--workers", b"--capacity", b"--pair", b"--lead", b"--text", b"--fast", b"-", b"0", b"1", b"2", b"3", b"16", b"17", b"01", b"-1",
     b"4000", b"4294967295", b"4294967296", b"1000000", b"1000001", b"18446744073709551616", b"na\xc3\xafve", b"a b", b"a\nb", b"\xff",
 ]
 REFUSED = re.compile(rb"refused (?:[LPNGVTUE][0-9] ([1-9]\d*):([1-9]\d*)|M[12] ([1-9]\d*):([1-9]\d*) [%\w]+|K[12] .+|O1 [1-9]\d*)\n")
@@ -20,7 +20,7 @@ FORMS = {
     b"conform": rb"conforms \d+\n",
     b"gen": rb"gen \d+ events \d+ sessions \d+ processes \d+\n|protocol Round (?:.+\n)*\}\n",
 }
-LAST = {0: re.compile(rb"(?:end|limit) (\d+)\Z"), 7: re.compile(rb"stuck (\d+) [%\w]+ (?:(?:empty|wrong) #\d+ \w+>\w+|absent \w+ \w+)\Z")}
+LAST = {0: re.compile(rb"(?:end|limit) (\d+)\Z"), 7: re.compile(rb"stuck (\d+) [%\w]+ (?:(?:empty|wrong|full) #\d+ \w+>\w+|absent \w+ \w+)\Z")}
 LINES = {2: rb"usage: chor COMMAND ARGUMENTS\n", 3: rb"read fault [\s\S]*\n", 6: rb"unmatched [1-9]\d*\n", 8: rb"too large [\s\S]*\n", 10: rb""}
 
 

@@ -24,8 +24,8 @@ class Move:
 
 
 class Network:
-    def __init__(self, programs):
-        self.programs = programs
+    def __init__(self, programs, capacity=None):
+        self.programs, self.capacity = programs, capacity
         self.processes = [Process(name, self.entered(code, {})[0]) for name, code in programs.processes]
         self.queues = {}
         self.started = 0
@@ -82,8 +82,13 @@ class Network:
         text = f"host {process.name} {variable} {function} {a} {b} {value}"
         return self.move(process, text, act=lambda: process.variables.update({variable: value}))
 
+    def is_full(self, lane):
+        return self.capacity is not None and len(self.queues.get(lane, [])) >= self.capacity
+
     def put(self, process, kind, session, other, load, act=lambda: None):
         lane = self.lane(process, session, other, True)
+        if self.is_full(lane):
+            return []
 
         def done():
             self.queues.setdefault(lane, []).append(load)
@@ -166,7 +171,8 @@ class Network:
             waiting = [load_text(load) for load in self.queues.get(lane, [])]
             return f"waits for a message {written(lane)}" if not waiting else f"has a message {written(lane)}: {', '.join(waiting)}"
         if word in ("send", "pick", "give"):
-            return f"has a message to send, {written(self.lane(process, parts[0], parts[1], True))}"
+            lane = self.lane(process, parts[0], parts[1], True)
+            return f"waits for room to send, {written(lane)}" if self.is_full(lane) else f"has a message to send, {written(lane)}"
         return {"if": "has to decide", "set": "sets a variable", "show": "shows a value", "host": "asks a host function"}[word]
 
 

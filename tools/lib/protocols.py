@@ -82,6 +82,8 @@ class Log:
 
     def __init__(self, source):
         words = WORD.findall(re.sub(r"//[^\n]*", "", source))
+        while words and words[0] in ("chor", "capacity"):
+            del words[: words.index(";") + 1]
         self.protocols, self.channels = {}, {}
         while words and words[0] in ("protocol", "service"):
             kind, name = words[0], words[1]

@@ -25,7 +25,7 @@ FORMS = [
 EVENTS = [re.compile(rf"(?P<number>[0-9]+) {form}") for form in FORMS]
 LAST = re.compile(
     rf"(?P<kind>end|limit) [0-9]+|(?P<stuck>stuck) [0-9]+ (?P<process>{PROCESS}) "
-    rf"(?:(?P<why>empty|wrong) {LANE}|(?P<absent>absent) (?P<channel>{NAME}) (?P<role>{NAME}))"
+    rf"(?:(?P<why>empty|wrong|full) {LANE}|(?P<absent>absent) (?P<channel>{NAME}) (?P<role>{NAME}))"
 )
 
 
@@ -79,6 +79,7 @@ def last_of(line):
     lane = f"{found['sender']}>{found['receiver']} in session {found['session']}"
     reasons = {
         "empty": f"it waits for a message {lane}, and none is in the queue",
+        "full": f"it waits to send {lane}, and the queue is full",
         "wrong": f"the first message {lane} isn't one that it can take",
         "absent": f"it waits on channel {found['channel']}, where nobody joins as {found['role']}",
     }

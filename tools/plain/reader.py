@@ -14,7 +14,7 @@ class Reader:
     def __init__(self, text):
         self.tokens = [found[0] for found in re.finditer(f"{SKIP}|{TOKEN}", text) if not re.match(SKIP, found[0])]
         self.here = 0
-        self.channels, self.procedures = {}, {}
+        self.channels, self.procedures, self.capacity = {}, {}, None
 
     def look(self, ahead=0):
         return self.tokens[self.here + ahead]
@@ -51,7 +51,16 @@ class Reader:
         self.take("]")
         return process, role
 
+    def header(self):
+        """The first lines of a source that begins with `chor 2;`, and the capacity of its queues, if they declare one."""
+        if self.has("chor"):
+            self.skip_past(";")
+            if self.has("capacity"):
+                self.capacity = int(self.take())
+                self.take(";")
+
     def source(self):
+        self.header()
         while (unit := self.take()) != "main":
             if unit == "protocol":
                 self.skip_past("{")

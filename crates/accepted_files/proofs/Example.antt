@@ -87,7 +87,7 @@ module _ (tree : IsClosedTree (nodes_of source)) (kept : FileIsKept) where
 
   -- the file without its protocol is kept too
   pub kept_without : twice.FileIsKept
-  kept_without = record { numbered = refl; filled = refl; begin = refl; once = kept.once }
+  kept_without = record { header = refl; numbered = refl; filled = refl; begin = refl; once = kept.once }
 
   module _ (code : IsClosed nodes) (inside : AreInside nodes [] services processes) (numbered : AreKept) where
     abbrev e : Endpoints

@@ -27,7 +27,7 @@ pub tree_there : IsClosedTree (nodes_of source)
 tree_there = closed_table (nodes_of source) refl
 
 pub kept_there : FileIsKept
-kept_there = record { numbered = refl; filled = refl; begin = refl; once = stand_once (node 6 ∷ followers_in (nodes_of source)) refl }
+kept_there = record { header = refl; numbered = refl; filled = refl; begin = refl; once = stand_once (node 6 ∷ followers_in (nodes_of source)) refl }
 
 -- ---- the endpoints
 

@@ -11,6 +11,7 @@ use Rattle.chor_tree.specs.declared.file.File.{File}
 use Rattle.chor_tree.specs.declared.protocol.Payload.TheVariants.{Plain}
 use Rattle.chor_tree.specs.declared.protocol.ProtoArm.{ProtoArm}
 use Rattle.chor_tree.specs.declared.protocol.ProtoStep.TheVariants.{End, Value, Choice}
+use Rattle.chor_tree.specs.Headers.{no_header}
 use Rattle.chor_tree.specs.Protocols.{Protocol}
 use Rattle.chor_tree.specs.Children.{IsClosed as IsClosedTree}
 use Rattle.chor_tree.specs.Kept.{Keeps}
@@ -41,10 +42,11 @@ protocol = record {
 }
 
 abbrev pub FileIsKept : Type 0
-FileIsKept = Keeps words [] (protocol ∷ []) (service a ∷ service d ∷ []) [] (written p ∷ written q ∷ []) (nodes_of source) (node 6)
+FileIsKept = Keeps no_header words [] (protocol ∷ []) (service a ∷ service d ∷ []) [] (written p ∷ written q ∷ []) (nodes_of source) (node 6)
 
 abbrev pub file : IsClosedTree (nodes_of source) → FileIsKept → File
 file closed kept = record {
+  header = no_header;
   names = words;
   texts = [];
   protocols = protocol ∷ [];

@@ -163,7 +163,7 @@ module _ {T : Tables} where
       go [] (s ∷ ss) a b = absurd b
       go (u ∷ us) (s ∷ ss) a b = record { token = u; left = us; parts = refl; symbol = s; one = a.0; other = b.0; others = record { symbols = ss; one = a.1; other = b.1 } }
 
-  met_at : {t : Token} {ts rest us : List Token} → ts ≡ t ∷ rest → Alike T ts us → Met T t rest us
+  pub met_at : {t : Token} {ts rest us : List Token} → ts ≡ t ∷ rest → Alike T ts us → Met T t rest us
   met_at {us = us} e h = met (subst (λ (l : List Token). Alike T l us) e h)
 
   none_left : {us : List Token} → Alike T [] us → us ≡ []

@@ -22,6 +22,7 @@ use Rattle.canonical_laws.proofs.Derived.{Derived, gathered}
 use Rattle.canonical_laws.proofs.Tokens.{Spelled, Reads, mark_reads, word_reads, end_reads, name_reads}
 use Rattle.canonical_laws.proofs.Pieces.{any_names_read, protocol_reads, service_reads, params_read}
 use Rattle.canonical_laws.proofs.Blocks.{block_reads}
+use Rattle.canonical_laws.proofs.Headers.{header_reads}
 
 module _ {names texts : List (List ℕ)} (dn : AllDistinct names) (dt : AllDistinct texts) where
   procedure_reads : (p : Procedure) {us vs : List Token} (d : ProcedureIs names us p vs) → KeepsProcedure nowhere d → AllInBlock (IsSource names texts) p.body → {ts : List Token} {more : List Symbol}
@@ -90,19 +91,20 @@ module _ {names texts : List (List ℕ)} (dn : AllDistinct names) (dt : AllDisti
 
 source_reads : (names texts : List (List ℕ)) (us ts : List Token) (s : Source) → AllDistinct names → AllDistinct texts → (d : FileIs names us s) → KeepsAll d → AllTerms (IsSource names texts) s
     → SpellAll names texts ts (source_symbols names texts s) → DeriveSame names ts s
-source_reads names texts us ts s dn dt (a_file {is = is} {ps = ps} {b = body} d1 d2 d3 d4 d5 d6 d7) keeps ok h =
-    let g = gathered is d1 keeps.0 in
-    let all : Spelled names texts ts (source_symbols names texts (record { items = is; processes = ps; body = body })) = record { all = h } in
-    let a = items_read dn dt is.procedures is.services is.protocols g.procedures ok.0 g.services g.protocols all in
+source_reads names texts us ts s dn dt (a_file {h = header} {is = is} {ps = ps} {b = body} d0 d1 d2 d3 d4 d5 d6 d7) keeps ok h =
+    let g = gathered is d1 keeps.1 in
+    let all : Spelled names texts ts (source_symbols names texts (record { header = header; items = is; processes = ps; body = body })) = record { all = h } in
+    let begin = header_reads header d0 keeps.0 all in
+    let a = items_read dn dt is.procedures is.services is.protocols g.procedures ok.0 g.services g.protocols begin.others in
     let b = word_reads a.others in
     let c = mark_reads b.others in
-    let d = any_names_read dn 64 ps d4 keeps.1 c.others in
+    let d = any_names_read dn 64 ps d4 keeps.2 c.others in
     let e = mark_reads d.others in
-    let f = block_reads dn dt 64 1024 body d6 keeps.2 ok.1 e.others in
+    let f = block_reads dn dt 64 1024 body d6 keeps.3 ok.1 e.others in
     let k = end_reads f.others in (
-      record { items = a.read; processes = d.read; body = f.read },
-      record { is = a_file a.is.0 b.is c.is d.is.0 e.is f.is.is k; keeps = (a.is.1, d.is.1, f.is.keeps) },
-      λ i. record { items = a.same i; processes = d.same i; body = f.same i },
+      record { header = begin.read; items = a.read; processes = d.read; body = f.read },
+      record { is = a_file begin.is.0 a.is.0 b.is c.is d.is.0 e.is f.is.is k; keeps = (begin.is.1, a.is.1, d.is.1, f.is.keeps) },
+      λ i. record { header = begin.same i; items = a.same i; processes = d.same i; body = f.same i },
     )
 
 pub symbols_read_back : (names texts : List (List ℕ)) (us ts : List Token) (s : Source) → AllDistinct names → AllDistinct texts → IsWithin names us s → AllTerms (IsSource names texts) s

@@ -8,6 +8,7 @@ use Rattle.chor_lexer.specs.declared.token.Token.{Token}
 use Rattle.chor_lexer.specs.Grammar.{ExprIs}
 use Rattle.chor_lexer.specs.Spelling.{IsSource}
 use Rattle.chor_lexer.proofs.Sources.{AreOfFile, Sourced, or_sourced}
+use Rattle.chor_tree.specs.declared.header.Header.{Header}
 use Rattle.chor_tree.specs.declared.file.Named.{Named}
 use Rattle.chor_tree.specs.declared.file.Service.{Service}
 use Rattle.chor_tree.specs.declared.file.ProcParam.{ProcParam}
@@ -19,7 +20,7 @@ use Rattle.chor_tree.specs.declared.protocol.ProtoArm.{ProtoArm}
 use Rattle.chor_tree.specs.declared.protocol.Payload.{Payload}
 use Rattle.chor_tree.specs.declared.tree.Part.{Part}
 use Rattle.chor_tree.specs.Source.{Statement, Block, Procedure, Items, Source}
-use Rattle.source_grammar.specs.Grammar.{MarkIs, WordIs, NameIs, MoreAre, no_more, one_more, ListIs, a_list, NamesAre, AnyNamesAre, no_names, some_names, PartIs, a_part, SortIs, int, bool, text, PayloadIs, plain, endpoint, ArmIs, an_arm, StepIs, end_step, value_step, choice_step, StateIs, a_state, MoreStatesAre, no_state, one_state, StatesAre, some_states, ProtocolIs, a_protocol, ServedAre, none_served, some_served, ServiceIs, a_service, VariableIs, a_variable, VariablesAre, no_variables, some_variables, ProcParamIs, a_param, HolderIs, a_holder, SessionParamIs, a_session, SessionsAre, no_sessions, some_sessions, ParamsAre, no_params, some_params, NewPartsAre, no_new, some_new, StatementIs, a_start, a_value, a_label, a_delegation, a_set, a_host_call, a_show, PassedSessionsAre, no_session_passed, sessions_passed, PassedAre, nothing_passed, processes_passed, BlockIs, a_block, LinesAre, a_line, a_tail, TailIs, an_end, a_call, a_conditional, ProcedureIs, a_procedure, ItemsAre, no_item, protocol_first, service_first, procedure_first, FileIs, a_file}
+use Rattle.source_grammar.specs.Grammar.{MarkIs, WordIs, NumberIs, NameIs, MoreAre, no_more, one_more, ListIs, a_list, NamesAre, AnyNamesAre, no_names, some_names, PartIs, a_part, SortIs, int, bool, text, PayloadIs, plain, endpoint, ArmIs, an_arm, StepIs, end_step, value_step, choice_step, StateIs, a_state, MoreStatesAre, no_state, one_state, StatesAre, some_states, ProtocolIs, a_protocol, ServedAre, none_served, some_served, ServiceIs, a_service, VariableIs, a_variable, VariablesAre, no_variables, some_variables, ProcParamIs, a_param, HolderIs, a_holder, SessionParamIs, a_session, SessionsAre, no_sessions, some_sessions, ParamsAre, no_params, some_params, NewPartsAre, no_new, some_new, StatementIs, a_start, a_value, a_label, a_delegation, a_set, a_host_call, a_show, PassedSessionsAre, no_session_passed, sessions_passed, PassedAre, nothing_passed, processes_passed, BlockIs, a_block, LinesAre, a_line, a_tail, TailIs, an_end, a_call, a_conditional, ProcedureIs, a_procedure, HeaderIs, without_header, a_header, no_capacity, a_capacity, ItemsAre, no_item, protocol_first, service_first, procedure_first, FileIs, a_file}
 use Rattle.canonical_laws.specs.Terms.{AllInStatement, AllInBlock, AllTerms}
 
 -- the tokens are tokens of a file
@@ -35,6 +36,9 @@ module _ {names texts : List (List ℕ)} where
 
   word_on : {w : List ℕ} {us vs : List Token} → WordIs names w us vs → Known names texts us → Known names texts vs
   word_on {vs = vs} d h = past d.token vs d.parts h
+
+  number_on : {n : ℕ} {us vs : List Token} → NumberIs n us vs → Known names texts us → Known names texts vs
+  number_on {vs = vs} d h = past d.token vs d.parts h
 
   name_on : {n : Named} {us vs : List Token} → NameIs names us n vs → Known names texts us → Known names texts vs
   name_on {vs = vs} d h = past d.token vs d.parts h
@@ -195,8 +199,13 @@ module _ {names texts : List (List ℕ)} where
       let b = items_sound is r a.others in
       record { terms = (a.terms, b.terms); others = b.others }
 
+  header_on : {us vs : List Token} {h : Header} → HeaderIs names us h vs → Known names texts us → Known names texts vs
+  header_on without_header h = h
+  header_on (a_header d1 d2 d3 no_capacity) h = mark_on d3 (number_on d2 (word_on d1 h))
+  header_on (a_header d1 d2 d3 (a_capacity d4 d5 d6 d7)) h = mark_on d7 (number_on d6 (word_on d5 (mark_on d3 (number_on d2 (word_on d1 h)))))
+
   pub file_sound : (s : Source) {us : List Token} → FileIs names us s → Known names texts us → AllTerms (IsSource names texts) s
-  file_sound x (a_file {is = is} {b = b} d1 d2 d3 d4 d5 d6 d7) h =
-      let a = items_sound is d1 h in
+  file_sound x (a_file {is = is} {b = b} d0 d1 d2 d3 d4 d5 d6 d7) h =
+      let a = items_sound is d1 (header_on d0 h) in
       let c = block_sound b d6 (mark_on d5 (any_names_on d4 (mark_on d3 (word_on d2 a.others)))) in
       (a.terms, c.terms)

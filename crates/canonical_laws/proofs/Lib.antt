@@ -3,8 +3,10 @@ pub mod Tokens
 pub mod Derived
 pub mod Pieces
 pub mod Blocks
-pub mod Files
+pub mod Alike
 pub mod Cutting
+pub mod Headers
+pub mod Files
 pub mod Written
 pub mod Sources
 pub mod WrittenBlocks
@@ -14,7 +16,6 @@ pub mod Numbered
 pub mod WrittenFiles
 pub mod Again
 pub mod SameText
-pub mod Alike
 pub mod AlikePieces
 pub mod AlikeTerms
 pub mod AlikeBlocks

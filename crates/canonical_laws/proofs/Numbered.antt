@@ -1,4 +1,5 @@
 -- The symbols of a source that some tokens derive have numbers in its tables of names and texts.
+use Rattle.std.specs.Prelude.{pos}
 use Rattle.std.proofs.Common.{ℕ, List, [], ◌∷◌, ◌++◌, sym, ap, ◌∙◌, Some, refl, codes}
 use Rattle.std.specs.List.{AllByRecursion}
 use Rattle.chor_base.specs.Expr.{Term}
@@ -7,12 +8,13 @@ use Rattle.chor_lexer.specs.declared.mark.Mark.{Mark}
 use Rattle.chor_lexer.specs.declared.mark.Mark.TheVariants.{Semicolon, Bar}
 use Rattle.chor_lexer.specs.declared.token.Token.{Token}
 use Rattle.chor_lexer.specs.declared.token.Kind.TheVariants as kind
-use Rattle.chor_lexer.specs.Lexeme.{Symbol, word, mark, last}
+use Rattle.chor_lexer.specs.Lexeme.{Symbol, word, number, mark, last}
 use Rattle.chor_lexer.specs.Spelling.{IsSource, expr_symbols}
 use Rattle.chor_lexer.proofs.Each.{each_append}
 use Rattle.chor_lexer.proofs.ReadBack.{HasKind, HaveKinds, expr_kinds}
 use Rattle.chor_lexer.proofs.Spelling.{name_of}
 use Rattle.source_grammar.specs.Symbols.{nowhere}
+use Rattle.chor_tree.specs.declared.header.Header.{Header}
 use Rattle.chor_tree.specs.declared.file.Named.{Named}
 use Rattle.chor_tree.specs.declared.file.Service.{Service}
 use Rattle.chor_tree.specs.declared.file.ProcParam.{ProcParam}
@@ -24,12 +26,12 @@ use Rattle.chor_tree.specs.declared.protocol.ProtoArm.{ProtoArm}
 use Rattle.chor_tree.specs.declared.protocol.Payload.{Payload}
 use Rattle.chor_tree.specs.declared.tree.Part.{Part}
 use Rattle.chor_tree.specs.Source.{Statement, Block, Procedure, Source}
-use Rattle.source_grammar.specs.Grammar.{WordIs, NameIs, MoreAre, no_more, one_more, ListIs, a_list, AnyNamesAre, no_names, some_names, PartIs, a_part, SortIs, int, bool, text, PayloadIs, plain, endpoint, ArmIs, an_arm, StepIs, end_step, value_step, choice_step, StateIs, a_state, MoreStatesAre, no_state, one_state, StatesAre, some_states, ProtocolIs, a_protocol, ServedAre, none_served, some_served, ServiceIs, a_service, VariableIs, a_variable, VariablesAre, no_variables, some_variables, ProcParamIs, a_param, HolderIs, a_holder, SessionParamIs, a_session, SessionsAre, no_sessions, some_sessions, ParamsAre, no_params, some_params, NewPartsAre, no_new, some_new, StatementIs, a_start, a_value, a_label, a_delegation, a_set, a_host_call, a_show, PassedSessionsAre, no_session_passed, sessions_passed, PassedAre, nothing_passed, processes_passed, BlockIs, a_block, LinesAre, a_line, a_tail, TailIs, an_end, a_call, a_conditional, ProcedureIs, a_procedure, FileIs, a_file}
+use Rattle.source_grammar.specs.Grammar.{WordIs, NameIs, MoreAre, no_more, one_more, ListIs, a_list, AnyNamesAre, no_names, some_names, PartIs, a_part, SortIs, int, bool, text, PayloadIs, plain, endpoint, ArmIs, an_arm, StepIs, end_step, value_step, choice_step, StateIs, a_state, MoreStatesAre, no_state, one_state, StatesAre, some_states, ProtocolIs, a_protocol, ServedAre, none_served, some_served, ServiceIs, a_service, VariableIs, a_variable, VariablesAre, no_variables, some_variables, ProcParamIs, a_param, HolderIs, a_holder, SessionParamIs, a_session, SessionsAre, no_sessions, some_sessions, ParamsAre, no_params, some_params, NewPartsAre, no_new, some_new, StatementIs, a_start, a_value, a_label, a_delegation, a_set, a_host_call, a_show, PassedSessionsAre, no_session_passed, sessions_passed, PassedAre, nothing_passed, processes_passed, BlockIs, a_block, LinesAre, a_line, a_tail, TailIs, an_end, a_call, a_conditional, HeaderIs, without_header, a_header, no_capacity, a_capacity, ProcedureIs, a_procedure, FileIs, a_file}
 use Rattle.source_grammar.specs.Limits.{KeepsAll}
 use Rattle.source_grammar.specs.Parts.{ProtocolPart, ServicePart}
 use Rattle.source_grammar.specs.Files.{ProcedurePart}
 use Rattle.canonical_laws.specs.Terms.{AllInStatement, AllInBlock, AllTerms}
-use Rattle.canonical_laws.specs.Symbols.{name_symbols, each, after_commas, listed, listed_after, part_symbols, sort_symbols, payload_symbols, arm_symbols, step_symbols, state_symbols, protocol_symbols, service_symbols, variable_symbols, variables_symbols, process_param_symbols, holder_symbols, session_param_symbols, statement_symbols, lines_symbols, block_symbols, procedure_symbols, source_symbols}
+use Rattle.canonical_laws.specs.Symbols.{name_symbols, each, after_commas, listed, listed_after, part_symbols, sort_symbols, payload_symbols, arm_symbols, step_symbols, state_symbols, protocol_symbols, service_symbols, variable_symbols, variables_symbols, process_param_symbols, holder_symbols, session_param_symbols, statement_symbols, lines_symbols, block_symbols, header_symbols, procedure_symbols, source_symbols}
 use Rattle.canonical_laws.proofs.Derived.{Derived, gathered}
 
 -- each symbol has a number, where it is a word or a text
@@ -42,6 +44,9 @@ module _ {names texts : List (List ℕ)} where
 
   word_there : {w : List ℕ} {us vs : List Token} → WordIs names w us vs → {more : List Symbol} → Kinds names texts more → Kinds names texts (word w ∷ more)
   word_there d k = record { all = ((kind.Word d.is.number, d.is.word), k.all) }
+
+  number_there : (n : ℕ) {more : List Symbol} → Kinds names texts more → Kinds names texts (number n ∷ more)
+  number_there n k = record { all = ((kind.Number (pos n), refl), k.all) }
 
   name_there : {n : Named} {us vs : List Token} → NameIs names us n vs → {more : List Symbol} → Kinds names texts more → Kinds names texts (name_symbols names n more)
   name_there {n} d k =
@@ -188,6 +193,11 @@ module _ {names texts : List (List ℕ)} where
 
   -- ---- files
 
+  header_there : (h : Header) {us vs : List Token} → HeaderIs names us h vs → {more : List Symbol} → Kinds names texts more → Kinds names texts (header_symbols h more)
+  header_there x without_header k = k
+  header_there x (a_header d1 d2 d3 no_capacity) k = word_there d1 (number_there 2 (mark_there k))
+  header_there x (a_header d1 d2 d3 (a_capacity {n = n} d4 d5 d6 d7)) k = word_there d1 (number_there 2 (mark_there (word_there d5 (number_there n (mark_there k)))))
+
   procedure_there : (p : Procedure) {us vs : List Token} → ProcedureIs names us p vs → AllInBlock (IsSource names texts) p.body → {more : List Symbol} → Kinds names texts more → Kinds names texts (procedure_symbols names texts p more)
   procedure_there x (a_procedure {ps = ps} {ss = ss} {b = b} d1 d2 d3 d4 d5 d6) ok k =
       word_there d1 (name_there d2 (mark_there (params_there ps ss d4 (mark_there (block_there b d6 ok k)))))
@@ -198,10 +208,11 @@ module _ {names texts : List (List ℕ)} where
   procedures_there (q ∷ qs) d ok k = procedure_there q d.0.is.0 ok.0 (procedures_there qs d.1 ok.1 k)
 
   pub source_there : (s : Source) {us : List Token} (d : FileIs names us s) → KeepsAll d → AllTerms (IsSource names texts) s → Kinds names texts (source_symbols names texts s)
-  source_there x (a_file {is = is} {ps = ps} {b = b} d1 d2 d3 d4 d5 d6 d7) keeps ok =
-      let g = gathered is d1 keeps.0 in
+  source_there x (a_file {h = h} {is = is} {ps = ps} {b = b} d0 d1 d2 d3 d4 d5 d6 d7) keeps ok =
+      let g = gathered is d1 keeps.1 in
       let end : Kinds names texts (last ∷ []) = record { all = ((kind.Last, tt), tt) } in
-      each_there {P = Derived (ProtocolPart nowhere names)} (λ p h more l. protocol_there p h.is.0 l) is.protocols g.protocols
+      header_there h d0
+      (each_there {P = Derived (ProtocolPart nowhere names)} (λ p h more l. protocol_there p h.is.0 l) is.protocols g.protocols
       (each_there {P = Derived (ServicePart nowhere names)} (λ p h more l. service_there p h.is.0 l) is.services g.services
       (procedures_there is.procedures g.procedures ok.0
-      (word_there d2 (mark_there (any_names_there ps d4 (mark_there (block_there b d6 ok.1 end)))))))
+      (word_there d2 (mark_there (any_names_there ps d4 (mark_there (block_there b d6 ok.1 end))))))))

@@ -13,7 +13,7 @@ use Rattle.chor_tree.specs.declared.protocol.Payload.{Payload}
 use Rattle.chor_tree.specs.declared.protocol.Payload.TheVariants as payload
 use Rattle.chor_tree.specs.declared.tree.Part.{Part}
 use Rattle.chor_tree.specs.Source.{Statement, Starts, Sends, Selects, Gives, Sets, Asks, Shows, Block, Then, Either, Calls, Ends, Procedure, Source}
-use Rattle.chor_tree.specs.Same.{Same, all_same, same_named, same_part, same_payload, same_arm, same_step, same_state, same_protocol, same_service, same_variable, same_process_param, same_holder, same_session_param, same_term, same_statement, same_block, same_procedure, same_source}
+use Rattle.chor_tree.specs.Same.{Same, all_same, same_named, same_part, same_payload, same_arm, same_step, same_state, same_protocol, same_service, same_variable, same_process_param, same_holder, same_session_param, same_term, same_statement, same_block, same_procedure, same_header, same_source}
 use Rattle.canonical_laws.specs.Places.{bare_name, bare_part, bare_payload, bare_arm, bare_step, bare_state, bare_protocol, bare_service, bare_variable, bare_process_param, bare_holder, bare_session_param, bare_statement, bare_block, bare_procedure, bare, IsSame}
 
 -- lists of items of which each says the same without its places
@@ -91,7 +91,8 @@ module _ (n : Same NameId) (t : Same ℕ) where
 
   source_bare : (s r : Source) → same_source n t s r ≡ same_source n t (bare s) r
   source_bare s r = λ i.
-      all_bare (same_protocol n) bare_protocol (protocol_bare n) s.items.protocols r.items.protocols i
+      same_header s.header r.header
+      && all_bare (same_protocol n) bare_protocol (protocol_bare n) s.items.protocols r.items.protocols i
       && all_bare (same_service n) bare_service (service_bare n) s.items.services r.items.services i
       && all_bare (same_procedure n t) bare_procedure procedure_bare s.items.procedures r.items.procedures i
       && names_bare n s.processes r.processes i && block_bare s.body r.body i

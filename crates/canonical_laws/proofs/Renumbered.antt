@@ -14,6 +14,7 @@ use Rattle.canonical_laws.specs.Anew.{SayTheSame}
 use Rattle.canonical_laws.proofs.Alike.{Tables, alike_words, alike_texts, Alike, Renewed, mark_passes, word_passes, name_renewed, end_there}
 use Rattle.canonical_laws.proofs.AlikePieces.{any_names_renewed, protocol_renewed, service_renewed, params_renewed}
 use Rattle.canonical_laws.proofs.AlikeBlocks.{block_renewed}
+use Rattle.canonical_laws.proofs.Headers.{header_renewed}
 
 -- all items before main are the same
 abbrev pub same_items : Tables → Same Items
@@ -101,10 +102,11 @@ pub renumbered : (names texts other_names other_texts : List (List ℕ)) (ts us 
 renumbered names texts other_names other_texts ts us ss s here there w = go s w.is w.keeps
   where
     go : (s : Source) (d : FileIs names ts s) → KeepsAll d → SayTheSame names texts other_names other_texts us s
-    go s (a_file d1 d2 d3 d4 d5 d6 d7) k =
+    go s (a_file d0 d1 d2 d3 d4 d5 d6 d7) k =
         let T : Tables = record { names = names; texts = texts; other_names = other_names; other_texts = other_texts } in
         let h : Alike T ts us = record { symbols = ss; one = here; other = there } in
-        let a = items_renewed d1 h in
+        let begin = header_renewed d0 h in
+        let a = items_renewed d1 begin.others in
         let b = word_passes d2 a.others in
         let c = mark_passes d3 b.others in
         let d = any_names_renewed d4 c.others in
@@ -113,7 +115,7 @@ renumbered names texts other_names other_texts ts us ss s here there w = go s w.
         let end = end_there d7 f.others in
         let p = items_parts T _ a.read a.same in
         record {
-          source = record { items = a.read; processes = d.read; body = f.read };
-          within = record { is = a_file a.is b.is c.is d.is e.is f.is end; keeps = (a.keeps k.0, d.keeps 64 k.1, f.keeps 64 1024 k.2) };
-          same = λ i. p.protocols i && p.services i && p.procedures i && d.same i && f.same i;
+          source = record { header = begin.read; items = a.read; processes = d.read; body = f.read };
+          within = record { is = a_file begin.is a.is b.is c.is d.is e.is f.is end; keeps = (begin.keeps k.0, a.keeps k.1, d.keeps 64 k.2, f.keeps 64 1024 k.3) };
+          same = λ i. begin.same i && p.protocols i && p.services i && p.procedures i && d.same i && f.same i;
         }

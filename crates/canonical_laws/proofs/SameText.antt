@@ -1,6 +1,7 @@
 -- Files that say the same have the same canonical text.
-use Rattle.std.proofs.Common.{◌≡◌, ℕ, true, List, [], ◌∷◌, ◌++◌, map, refl, sym, ap, ◌∙◌, codes}
+use Rattle.std.proofs.Common.{◌≡◌, ◌==◌, ℕ, Bool, true, false, Option, Some, None, List, [], ◌∷◌, ◌++◌, map, refl, sym, ap, ◌∙◌, codes}
 use Rattle.std.specs.List.{flat_map}
+use Rattle.std.proofs.lemmas.Bool.{eqb-true}
 use Rattle.chor_base.specs.declared.value.Value.TheVariants.{Int, Bool as Truth, Text, Part as Endpoint}
 use Rattle.chor_base.specs.Expr.{Constant, Variable, Unary, Binary}
 use Rattle.chor_base.specs.Writing.{name_in, literal}
@@ -10,11 +11,11 @@ use Rattle.chor_tree.specs.declared.file.File.{File}
 use Rattle.chor_tree.specs.declared.protocol.Payload.TheVariants as payload
 use Rattle.chor_tree.specs.declared.protocol.ProtoStep.TheVariants as step
 use Rattle.chor_tree.specs.Source.{Starts, Sends, Selects, Gives, Sets, Asks, Shows, Then, Either, Calls, Ends, Source, source_of}
-use Rattle.chor_tree.specs.Same.{Same, all_same, same_named, same_part, same_payload, same_arm, same_step, same_state, same_protocol, same_service, same_variable, same_process_param, same_holder, same_session_param, same_value, same_term, same_statement, same_block, same_procedure, same_source, same_words, same_texts, same_files}
+use Rattle.chor_tree.specs.Same.{Same, all_same, same_named, same_part, same_payload, same_arm, same_step, same_state, same_protocol, same_service, same_variable, same_process_param, same_holder, same_session_param, same_value, same_term, same_statement, same_block, same_procedure, same_source, same_capacity, same_header, same_words, same_texts, same_files}
 use Rattle.chor_print.specs.Pieces.{named_text, part_text, sort_text, payload_text, arm_text, variable_text, variables_text, process_param_text, holder_text, session_param_text, listed, listed_after}
 use Rattle.chor_print.specs.Lines.{indented, braced, stated}
-use Rattle.chor_print.specs.Text.{step_text, state_line, protocol_lines, service_line, ended, canonical_text}
-use Rattle.chor_tree.proofs.SameLaws.{two, three, four, five, same_bytes, found_tells, int_tells, bool_tells, sort_tells, unary_tells, binary_tells}
+use Rattle.chor_print.specs.Text.{capacity_lines, version_lines, header_lines, step_text, state_line, protocol_lines, service_line, ended, canonical_text}
+use Rattle.chor_tree.proofs.SameLaws.{two, three, four, five, six, same_bytes, found_tells, int_tells, bool_tells, sort_tells, unary_tells, binary_tells}
 use Rattle.canonical_laws.proofs.Sources.{statement_text, lines_of, procedure_lines, source_text, canonical_is}
 
 -- ---- lists
@@ -277,7 +278,21 @@ module _ (names texts names' texts' : List (List ℕ)) where
   block_tells (Ends p) (Ends q) h = refl
   block_tells _ _ h = absurd cc
 
-  -- ---- procedures and sources
+  -- ---- headers, procedures and sources
+
+  capacity_tells : Tells same_capacity capacity_lines capacity_lines
+  capacity_tells (Some c) (Some d) h = ap (λ (n : ℕ). capacity_lines (Some n)) (eqb-true c d h)
+  capacity_tells None None h = refl
+  capacity_tells _ _ h = absurd cc
+
+  version_tells : (b : Bool) (c d : Option ℕ) → capacity_lines c ≡ capacity_lines d → version_lines b c ≡ version_lines b d
+  version_tells true c d h = ap (λ (ls : List (List ℕ)). codes "chor 2;" ∷ ls) h
+  version_tells false c d h = refl
+
+  header_tells : Tells same_header header_lines header_lines
+  header_tells h k e =
+      let a = two e in
+      ap (λ (v : ℕ). version_lines (v == 2) h.capacity) (eqb-true h.version k.version a.0) ∙ version_tells (k.version == 2) h.capacity k.capacity (capacity_tells h.capacity k.capacity a.1)
 
   procedure_tells : Tells (same_procedure (same_words names names') (same_texts texts texts')) (procedure_lines names texts) (procedure_lines names' texts')
   procedure_tells p q h =
@@ -291,13 +306,14 @@ module _ (names texts names' texts' : List (List ℕ)) where
   -- sources that say the same have the same canonical text
   pub same_source_text : (s r : Source) → same_source (same_words names names') (same_texts texts texts') s r ≡ true → source_text names texts s ≡ source_text names' texts' r
   same_source_text s r h =
-      let a = five h in
-      let protocols = flat_tells (protocol_tells names names') s.items.protocols r.items.protocols a.0 in
-      let services = map_tells (service_tells names names') s.items.services r.items.services a.1 in
-      let procedures = flat_tells procedure_tells s.items.procedures r.items.procedures a.2 in
-      let processes = listed_tells (named_tells names names') s.processes r.processes a.3 in
-      let body = block_tells s.body r.body a.4 in
-      ap (flat_map ended) (λ i. protocols i ++ services i ++ procedures i ++ braced (codes "main (" ++ processes i ++ codes ") {") (body i))
+      let a = six h in
+      let header = header_tells s.header r.header a.0 in
+      let protocols = flat_tells (protocol_tells names names') s.items.protocols r.items.protocols a.1 in
+      let services = map_tells (service_tells names names') s.items.services r.items.services a.2 in
+      let procedures = flat_tells procedure_tells s.items.procedures r.items.procedures a.3 in
+      let processes = listed_tells (named_tells names names') s.processes r.processes a.4 in
+      let body = block_tells s.body r.body a.5 in
+      ap (flat_map ended) (λ i. header i ++ protocols i ++ services i ++ procedures i ++ braced (codes "main (" ++ processes i ++ codes ") {") (body i))
 
 -- files that say the same have the same canonical text
 pub same_text : (f g : File) → same_files f g ≡ true → canonical_text f ≡ canonical_text g

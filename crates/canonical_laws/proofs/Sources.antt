@@ -21,8 +21,8 @@ use Rattle.chor_tree.specs.Source as source
 use Rattle.chor_print.specs.Pieces.{named_text, part_text, process_param_text, session_param_text, listed, listed_after}
 use Rattle.chor_print.specs.Statements.{start_text, label_text, give_text}
 use Rattle.chor_print.specs.Lines.{indented, braced, stated, lines_in, lines_of_form, node_lines, block_lines}
-use Rattle.chor_print.specs.Text.{state_line, protocol_head, protocol_lines, service_line, proc_head, proc_lines, main_head, ended, canonical_text}
-use Rattle.chor_print.specs.Parts.{line_at, lines_at, body_text, protocol_text, service_text}
+use Rattle.chor_print.specs.Text.{header_lines, state_line, protocol_head, protocol_lines, service_line, proc_head, proc_lines, main_head, ended, canonical_text}
+use Rattle.chor_print.specs.Parts.{line_at, lines_at, body_text, header_text, protocol_text, service_text}
 use Rattle.chor_print.proofs.Lines.{braced_lines, mapped_lines, braced_at}
 
 -- a statement, by these tables
@@ -74,7 +74,7 @@ main_line names ps = codes "main (" ++ listed (named_text names) ps ++ codes ") 
 
 abbrev pub source_lines : List (List ℕ) → List (List ℕ) → Source → List (List ℕ)
 source_lines names texts s =
-    flat_map (protocol_lines names) s.items.protocols ++ map (service_line names) s.items.services
+    header_lines s.header ++ flat_map (protocol_lines names) s.items.protocols ++ map (service_line names) s.items.services
     ++ flat_map (procedure_lines names texts) s.items.procedures ++ braced (main_line names s.processes) (lines_of names texts s.body)
 
 -- the canonical text of a source, by these tables
@@ -114,7 +114,7 @@ pub canonical_is : (f : File) → canonical_text f ≡ source_text f.names f.tex
 canonical_is f =
     let procedures = procedures_are f f.procs in
     let body = block_lines_are f f.body in
-    ap (flat_map ended) (λ i. flat_map (protocol_lines f.names) f.protocols ++ map (service_line f.names) f.services ++ procedures i ++ braced (main_head f) (body i))
+    ap (flat_map ended) (λ i. header_lines f.header ++ flat_map (protocol_lines f.names) f.protocols ++ map (service_line f.names) f.services ++ procedures i ++ braced (main_head f) (body i))
 
 -- ---- unit by unit
 
@@ -125,15 +125,19 @@ abbrev pub main_text : List (List ℕ) → List (List ℕ) → List Named → Bl
 main_text names texts ps b = line_at 0 (main_line names ps) ++ body_text (lines_of names texts b)
 
 pub source_units : (names texts : List (List ℕ)) (s : Source)
-    → source_text names texts s ≡ flat_map (protocol_text names) s.items.protocols ++ flat_map (service_text names) s.items.services ++ flat_map (procedure_text names texts) s.items.procedures ++ main_text names texts s.processes s.body
+    → source_text names texts s ≡ header_text s.header ++ flat_map (protocol_text names) s.items.protocols ++ flat_map (service_text names) s.items.services ++ flat_map (procedure_text names texts) s.items.procedures ++ main_text names texts s.processes s.body
 source_units names texts s =
+    let hs = header_lines s.header in
     let ps = flat_map (protocol_lines names) s.items.protocols in
     let ss = map (service_line names) s.items.services in
     let rs = flat_map (procedure_lines names texts) s.items.procedures in
     let main = braced (main_line names s.processes) (lines_of names texts s.body) in
-    flat_map-append (line_at 0) (ps ++ ss ++ rs) main
-    ∙ ap (λ (t : List ℕ). t ++ lines_at 0 main) (flat_map-append (line_at 0) (ps ++ ss) rs ∙ ap (λ (t : List ℕ). t ++ lines_at 0 rs) (flat_map-append (line_at 0) ps ss))
-    ∙ (λ i. braced_lines (protocol_head names) (λ p. map (state_line names) p.states) s.items.protocols i
+    flat_map-append (line_at 0) (hs ++ ps ++ ss ++ rs) main
+    ∙ ap (λ (t : List ℕ). t ++ lines_at 0 main)
+    (flat_map-append (line_at 0) (hs ++ ps ++ ss) rs
+    ∙ ap (λ (t : List ℕ). t ++ lines_at 0 rs) (flat_map-append (line_at 0) (hs ++ ps) ss ∙ ap (λ (t : List ℕ). t ++ lines_at 0 ss) (flat_map-append (line_at 0) hs ps)))
+    ∙ (λ i. header_text s.header
+    ++ braced_lines (protocol_head names) (λ p. map (state_line names) p.states) s.items.protocols i
     ++ mapped_lines 0 (service_line names) s.items.services i
     ++ braced_lines (procedure_line names) (λ p. lines_of names texts p.body) s.items.procedures i
     ++ braced_at 0 (main_line names s.processes) (lines_of names texts s.body) i)

@@ -17,7 +17,7 @@ use Rattle.source_grammar.specs.Grammar.{NameIs, AnyNamesAre, ParamsAre, BlockIs
 use Rattle.source_grammar.specs.Limits.{KeepsAll}
 use Rattle.source_grammar.specs.Faults.{IsWithin}
 use Rattle.source_grammar.specs.Parts.{ProtocolPart, ServicePart}
-use Rattle.source_grammar.specs.Files.{ProcedurePart}
+use Rattle.source_grammar.specs.Files.{ProcedurePart, HeaderPart}
 use Rattle.chor_print.specs.Text.{canonical_text}
 use Rattle.chor_print.specs.Parts.{body_text}
 use Rattle.canonical_laws.specs.ReadsBack.{DeriveSame, HasSymbols, IsReadFrom, ReadsBack}
@@ -29,6 +29,7 @@ use Rattle.canonical_laws.proofs.Cutting.{AreWords, Whole, whole_none, Free, fre
 use Rattle.canonical_laws.proofs.Written.{name_cut, any_names_cut, protocol_cut, service_cut, params_cut}
 use Rattle.canonical_laws.proofs.Sources.{lines_of, source_text, procedure_text, main_text, source_units, canonical_is}
 use Rattle.canonical_laws.proofs.WrittenBlocks.{block_cut}
+use Rattle.canonical_laws.proofs.Headers.{header_cut}
 use Rattle.canonical_laws.proofs.Known.{file_sound}
 use Rattle.chor_lexer.proofs.DistinctTables.{distinct_names, distinct_texts}
 use Rattle.canonical_laws.proofs.Tables.{are_words, known}
@@ -50,6 +51,7 @@ of_procedure q d = go q d.is.0
     go p (a_procedure d1 d2 d3 d4 d5 d6) = record { name = record { from = _; to = _; is = d2 }; from = _; to = _; params = d4; body = record { from = _; to = _; is = d6 } }
 
 record OfFile (names : List (List ℕ)) (s : Source) : Type 0 where
+  header : Derived (HeaderPart nowhere names) s.header
   items : Gathered names s.items
   from : List Token
   to : List Token
@@ -57,7 +59,7 @@ record OfFile (names : List (List ℕ)) (s : Source) : Type 0 where
   body : Derived (BlockIs names) s.body
 
 of_file : {names : List (List ℕ)} (s : Source) {us : List Token} (d : FileIs names us s) → KeepsAll d → OfFile names s
-of_file s (a_file {is = is} d1 d2 d3 d4 d5 d6 d7) keeps = record { items = gathered is d1 keeps.0; from = _; to = _; processes = d4; body = record { from = _; to = _; is = d6 } }
+of_file s (a_file {is = is} d0 d1 d2 d3 d4 d5 d6 d7) keeps = record { header = record { from = _; to = _; is = (d0, keeps.0) }; items = gathered is d1 keeps.1; from = _; to = _; processes = d4; body = record { from = _; to = _; is = d6 } }
 
 -- ---- the text
 
@@ -90,9 +92,10 @@ module _ (names texts : List (List ℕ)) (words : AreWords names) where
   pub whole_text : {us : List Token} (s : Source) → IsWithin names us s → AllTerms (IsSource names texts) s → Whole (source_text names texts s) (source_symbols names texts s)
   whole_text s d ok =
       let o = of_file s d.is d.keeps in
+      let header = header_cut s.header o.header.is.0 o.header.is.1 in
       let protocols = each_cut {P = Derived (ProtocolPart nowhere names)} (λ p h. protocol_cut names words p h.is.0) s.items.protocols o.items.protocols in
       let services = each_cut {P = Derived (ServicePart nowhere names)} (λ x h. service_cut names words x h.is.0) s.items.services o.items.services in
-      let all = free_free (free_free (free_free protocols services) (procedures_cut s.items.procedures o.items.procedures ok.0)) (main_cut s o ok.1) in
+      let all = free_free (free_free (free_free (free_free header protocols) services) (procedures_cut s.items.procedures o.items.procedures ok.0)) (main_cut s o ok.1) in
       let text = all.cuts [] (last ∷ []) whole_none in
       subst (λ (t : List ℕ). Whole t (source_symbols names texts s)) (append-nil _ ∙ sym (source_units names texts s)) text
 

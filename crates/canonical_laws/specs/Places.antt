@@ -1,6 +1,7 @@
 -- Sources without the places of what stands in them (this project's own).
 use Rattle.std.specs.Prelude.{◌≡◌, map}
 use Rattle.chor_base.specs.declared.value.Sort.{Sort}
+use Rattle.chor_tree.specs.declared.header.Header.{Header}
 use Rattle.chor_tree.specs.declared.file.Named.{Named}
 use Rattle.chor_tree.specs.declared.file.Service.{Service}
 use Rattle.chor_tree.specs.declared.file.ProcParam.{ProcParam}
@@ -14,6 +15,9 @@ use Rattle.chor_tree.specs.declared.protocol.Payload.{Payload}
 use Rattle.chor_tree.specs.declared.protocol.Payload.TheVariants as payload
 use Rattle.chor_tree.specs.declared.tree.Part.{Part}
 use Rattle.chor_tree.specs.Source.{Statement, Starts, Sends, Selects, Gives, Sets, Asks, Shows, Block, Then, Either, Calls, Ends, Procedure, Items, Source, nowhere}
+
+abbrev pub bare_header : Header → Header
+bare_header h = record { version = h.version; capacity = h.capacity; place = nowhere }
 
 abbrev pub bare_name : Named → Named
 bare_name n = record { name = n.name; place = nowhere }
@@ -92,7 +96,7 @@ bare_items is = record {
 
 -- A source with `nowhere` for each place
 abbrev pub bare : Source → Source
-bare s = record { items = bare_items s.items; processes = map bare_name s.processes; body = bare_block s.body }
+bare s = record { header = bare_header s.header; items = bare_items s.items; processes = map bare_name s.processes; body = bare_block s.body }
 
 -- two sources are the same but for their places
 abbrev pub IsSame : Source → Source → Type 0

@@ -1,13 +1,14 @@
 -- What the canonical text of a source spells, in the tables of names and texts (this project's own). Each definition gives the
 -- symbols of its construct before those that follow it.
-use Rattle.std.specs.Prelude.{ℕ, List, [], ◌∷◌, ◌++◌, codes}
+use Rattle.std.specs.Prelude.{◌==◌, ℕ, Bool, true, false, Option, Some, None, List, [], ◌∷◌, ◌++◌, codes}
 use Rattle.chor_base.specs.declared.value.Sort.{Sort}
 use Rattle.chor_base.specs.declared.names.NameId.{NameId}
 use Rattle.chor_base.specs.Expr.{Term}
 use Rattle.chor_base.specs.Writing.{name_in}
 use Rattle.chor_lexer.specs.declared.mark.Mark.TheVariants.{OpenBrace, CloseBrace, OpenParen, CloseParen, OpenBracket, CloseBracket, Comma, Semicolon, Colon, Dot, Assign, Becomes, Arrow, Bar, At}
-use Rattle.chor_lexer.specs.Lexeme.{Symbol, word, mark, last}
+use Rattle.chor_lexer.specs.Lexeme.{Symbol, word, number, mark, last}
 use Rattle.chor_lexer.specs.Spelling.{expr_symbols}
+use Rattle.chor_tree.specs.declared.header.Header.{Header}
 use Rattle.chor_tree.specs.declared.file.Named.{Named}
 use Rattle.chor_tree.specs.declared.file.Service.{Service}
 use Rattle.chor_tree.specs.declared.file.ProcParam.{ProcParam}
@@ -55,6 +56,19 @@ listed_after s item (x ∷ xs) more = s ∷ listed item (x ∷ xs) more
 
 abbrev pub part_symbols : List (List ℕ) → Part → List Symbol → List Symbol
 part_symbols names p more = name_symbols names p.process (mark OpenBracket ∷ name_symbols names p.role (mark CloseBracket ∷ more))
+
+-- ---- headers
+
+abbrev pub capacity_symbols : Option ℕ → List Symbol → List Symbol
+capacity_symbols (Some c) more = word (codes "capacity") ∷ number c ∷ mark Semicolon ∷ more
+capacity_symbols None more = more
+
+abbrev pub version_symbols : (is_second : Bool) → Option ℕ → List Symbol → List Symbol
+version_symbols true c more = word (codes "chor") ∷ number 2 ∷ mark Semicolon ∷ capacity_symbols c more
+version_symbols false c more = more
+
+abbrev pub header_symbols : Header → List Symbol → List Symbol
+header_symbols h more = version_symbols (h.version == 2) h.capacity more
 
 -- ---- protocols and services
 
@@ -153,5 +167,5 @@ main_symbols names texts ps b more =
 -- The symbols of the canonical text of a source, up to the end of the file
 abbrev pub source_symbols : List (List ℕ) → List (List ℕ) → Source → List Symbol
 source_symbols names texts s =
-    each (protocol_symbols names) s.items.protocols (each (service_symbols names) s.items.services (each (procedure_symbols names texts) s.items.procedures
-    (main_symbols names texts s.processes s.body (last ∷ []))))
+    header_symbols s.header (each (protocol_symbols names) s.items.protocols (each (service_symbols names) s.items.services
+    (each (procedure_symbols names texts) s.items.procedures (main_symbols names texts s.processes s.body (last ∷ [])))))

@@ -1,5 +1,5 @@
 -- Runs that meet what the options ask for: the scheduled run always does, since it is closed; any closed run where workers are asked for.
-use Rattle.std.proofs.Common.{◌≡◌, ℕ, zero, suc, ◌+◌, Bool, List, length, refl, subst, arith, None}
+use Rattle.std.proofs.Common.{◌≡◌, ℕ, zero, suc, ◌+◌, Bool, List, length, refl, subst, arith, Option}
 use Rattle.chor_base.specs.declared.event.Event.{Event}
 use Rattle.chor_base.specs.Meaning.{Hosts}
 use Rattle.chor_host.specs.Functions.{Function, hosts_in, names_of}
@@ -22,17 +22,17 @@ use Rattle.chor_cmd.specs.Runs.{RunBy, IsAskedRun, TranscriptBy, IsAskedTranscri
 
 -- ---- of an accepted file
 
-pub scheduled_asked : (f : File) (e : Endpoints) (hosts : Hosts) (options : Options) (h : List Event) (close : Close) → IsRunOf f e hosts None options.seed options.steps h close → IsAskedRun f e hosts options h close
-scheduled_asked f e hosts options h close run = go options.workers
+pub scheduled_asked : (f : File) (e : Endpoints) (hosts : Hosts) (cap : Option ℕ) (options : Options) (h : List Event) (close : Close) → IsRunOf f e hosts cap options.seed options.steps h close → IsAskedRun f e hosts cap options h close
+scheduled_asked f e hosts cap options h close run = go options.workers
   where
-    go : (n : ℕ) → RunBy n f e hosts options h close
+    go : (n : ℕ) → RunBy n f e hosts cap options h close
     go zero = run
     go (suc n) = run.closed
 
-pub closed_asked : (f : File) (e : Endpoints) (hosts : Hosts) (options : Options) (h : List Event) (close : Close) → (options.workers ≡ 0 → ⊥) → IsClosedRunOf f e hosts None options.steps h close → IsAskedRun f e hosts options h close
-closed_asked f e hosts options h close some run = go options.workers some
+pub closed_asked : (f : File) (e : Endpoints) (hosts : Hosts) (cap : Option ℕ) (options : Options) (h : List Event) (close : Close) → (options.workers ≡ 0 → ⊥) → IsClosedRunOf f e hosts cap options.steps h close → IsAskedRun f e hosts cap options h close
+closed_asked f e hosts cap options h close some run = go options.workers some
   where
-    go : (n : ℕ) → (n ≡ 0 → ⊥) → RunBy n f e hosts options h close
+    go : (n : ℕ) → (n ≡ 0 → ⊥) → RunBy n f e hosts cap options h close
     go zero some = absurd (some refl)
     go (suc n) some = run
 
@@ -41,27 +41,27 @@ closed_asked f e hosts options h close some run = go options.workers some
 count : (n : ℕ) → 0 + n ≡ n
 count n = omega arith
 
-scheduled_by : (functions : List Function) (e : Endpoints) (seed steps : ℕ) (text : List ℕ) (stuck : Bool) → IsTranscriptOf functions e seed steps text stuck → IsTranscriptBy functions e steps text stuck
-scheduled_by functions e seed steps text stuck t =
+scheduled_by : (functions : List Function) (e : Endpoints) (cap : Option ℕ) (seed steps : ℕ) (text : List ℕ) (stuck : Bool) → IsTranscriptOf functions e cap seed steps text stuck → IsTranscriptBy functions e cap steps text stuck
+scheduled_by functions e cap seed steps text stuck t =
     let hosts = hosts_in e.names functions in
     record {
       history = t.history;
       close = t.close;
       last = t.last;
-      run = scheduled_leads e hosts None seed steps t.history (first_state e) t.last 0 t.close t.scheduled;
-      closes = subst (λ (n : ℕ). Closes e None steps t.last n t.close) (count (length t.history)) (closes_last e hosts None seed steps t.history (first_state e) t.last 0 t.close t.scheduled);
+      run = scheduled_leads e hosts cap seed steps t.history (first_state e) t.last 0 t.close t.scheduled;
+      closes = subst (λ (n : ℕ). Closes e cap steps t.last n t.close) (count (length t.history)) (closes_last e hosts cap seed steps t.history (first_state e) t.last 0 t.close t.scheduled);
       text_is = t.text_is;
       stuck_is = t.stuck_is;
     }
 
-pub scheduled_transcript : (functions : List Function) (e : Endpoints) (options : Options) (text : List ℕ) (stuck : Bool) → IsTranscriptOf functions e options.seed options.steps text stuck → IsAskedTranscript functions e options text stuck
+pub scheduled_transcript : (functions : List Function) (e : Endpoints) (options : Options) (text : List ℕ) (stuck : Bool) → IsTranscriptOf functions e options.capacity options.seed options.steps text stuck → IsAskedTranscript functions e options text stuck
 scheduled_transcript functions e options text stuck t = go options.workers
   where
     go : (n : ℕ) → TranscriptBy n functions e options text stuck
     go zero = t
-    go (suc n) = scheduled_by functions e options.seed options.steps text stuck t
+    go (suc n) = scheduled_by functions e options.capacity options.seed options.steps text stuck t
 
-pub closed_transcript : (functions : List Function) (e : Endpoints) (options : Options) (text : List ℕ) (stuck : Bool) → (options.workers ≡ 0 → ⊥) → IsTranscriptBy functions e options.steps text stuck → IsAskedTranscript functions e options text stuck
+pub closed_transcript : (functions : List Function) (e : Endpoints) (options : Options) (text : List ℕ) (stuck : Bool) → (options.workers ≡ 0 → ⊥) → IsTranscriptBy functions e options.capacity options.steps text stuck → IsAskedTranscript functions e options text stuck
 closed_transcript functions e options text stuck some t = go options.workers some
   where
     go : (n : ℕ) → (n ≡ 0 → ⊥) → TranscriptBy n functions e options text stuck
@@ -74,5 +74,5 @@ pub transcripts_agree : (functions : List Function) (bytes : List ℕ) (e f : En
 transcripts_agree functions bytes e f options text stuck p q t = go options.workers t
   where
     go : (n : ℕ) → TranscriptBy n functions e options text stuck → TranscriptBy n functions f options text stuck
-    go zero run = transcript_agrees functions bytes e f options.seed options.steps text stuck p q run
-    go (suc n) run = transcript_same functions e f options.steps text stuck (are_copies (names_of functions) bytes e f p q) run
+    go zero run = transcript_agrees functions bytes e f options.capacity options.seed options.steps text stuck p q run
+    go (suc n) run = transcript_same functions e f options.capacity options.steps text stuck (are_copies (names_of functions) bytes e f p q) run

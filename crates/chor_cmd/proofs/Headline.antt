@@ -1,6 +1,6 @@
 -- The headline's sentences follow from how the rows go.
-use Rattle.std.proofs.Common.{◌≡◌, ◌≢◌, ◌≤◌, inl, inr, ℕ, zero, suc, Bool, true, false, List, [], ◌∷◌, length, refl, sym, ap, ◌∙◌, subst, arith}
-use Rattle.std.specs.Prelude.{Result, Ok, Err, None}
+use Rattle.std.proofs.Common.{◌≡◌, ◌≢◌, ◌≤◌, inl, inr, ℕ, zero, suc, Bool, true, false, List, [], ◌∷◌, length, Option, Some, None, refl, sym, ap, ◌∙◌, subst, arith}
+use Rattle.std.specs.Prelude.{Result, Ok, Err, ◌&&◌, nat_lt}
 use Rattle.chor_base.specs.declared.rule.Refusal.{Refusal}
 use Rattle.chor_tree.specs.declared.file.File.{File}
 use Rattle.chor_base.specs.declared.event.Event.{Event}
@@ -11,9 +11,10 @@ use Rattle.replay.specs.declared.answer.ReplayFault.{ReplayFault}
 use Rattle.replay.specs.declared.answer.ReplayFault.TheVariants.{Unmatched as unlike, Memory as NoMemory}
 use Rattle.command_words.specs.declared.words.Command.TheVariants.{Run, Exec, Link, Replay, Order, Conform, Resume}
 use Rattle.command_words.specs.declared.options.Options.{Options}
+use Rattle.command_words.specs.Between.{is_capacity}
 use Rattle.command_words.specs.declared.order_form.OrderForm.{OrderForm}
 use Rattle.endpoint_code.specs.declared.endpoints.Endpoints.{Endpoints}
-use Rattle.endpoint_code.specs.Network.{NetworkState}
+use Rattle.endpoint_code.specs.Network.{NetworkState, has_room}
 use Rattle.endpoint_code.specs.Scheduled.{Close, Ended, Limit, Stuck as Stands}
 use Rattle.endpoint_check.specs.Programs.{AreProgramsOf, ViolatesPrograms}
 use Rattle.endpoint_text.specs.Text.{endpoints_text}
@@ -28,7 +29,7 @@ use Rattle.chor_cmd.specs.declared.status.Status.TheVariants.{Done, Unmatched}
 use Rattle.chor_cmd.specs.Status.{status_of}
 use Rattle.chor_cmd.specs.Runs.{IsAskedRun, TranscriptBy}
 use Rattle.chor_cmd.proofs.AskedRuns.{scheduled_asked, closed_asked}
-use Rattle.chor_cmd.specs.Outputs.{IsRunText, IsReplayOf, replayed_line, unmatched_line}
+use Rattle.chor_cmd.specs.Outputs.{IsRunUnder, IsReplayOf, replayed_line, unmatched_line}
 use Rattle.chor_cmd.specs.Endings.{MayTell, Tells, Goes}
 use Rattle.chor_cmd.specs.Rows.{Row, Reads, Judges, Closes, AtMost, IsRefused, programs_limit, events_limit, Executes, executes, Replays, replays, misses, Orders, orders, breaks_off, beyond, row_of}
 use Rattle.chor_cmd.specs.Calls.{Call, Must, Comes, HasEnded, IsSettled, ReplaySays, IsBrokenFirst, IsBrokenNext, RunsSource, RunsProjected, AcceptsRuns, LinksPrograms, OrdersRun, JudgesLog, ResumesLog, RefusesBroken}
@@ -37,28 +38,41 @@ use Rattle.chor_cmd.proofs.Settles.{same_bytes, grows, by_table}
 
 -- ---- the text of a projection
 
+-- the capacity that options give leaves room in an empty queue
+room_of : (options : Options) → has_room options.capacity [] ≡ true
+room_of options = go options.capacity options.room
+  where
+    first_true : (a b : Bool) → (a && b) ≡ true → a ≡ true
+    first_true true b e = refl
+    first_true false b e = absurd cc
+
+    go : (cap : Option ℕ) → is_capacity cap ≡ true → has_room cap [] ≡ true
+    go None e = refl
+    go (Some c) e = first_true (nat_lt 0 c) (nat_lt c 1000001) e
+
 module _ (functions : List Function) (options : Options) (source : List ℕ) (f : File) (e : Endpoints) (p : AreProjected functions source f e) (runs : ProjectedTextRuns) (runs_by : ProjectedTextRunsByWorkers) where
   abbrev hosts : Hosts
   hosts = hosts_in f.names functions
 
   -- a run as the options ask for it, which isn't stuck, and its transcript
-  run_text : (text : List ℕ) (h : List Event) (c : Close) (last : NetworkState) → ClosesWell f e hosts None options.steps h last c → IsAskedRun f e hosts options h c → text ≡ transcript (book_of f) h (closing_text (book_of f) (length h) c) → IsRunText functions f options text
+  run_text : (text : List ℕ) (h : List Event) (c : Close) (last : NetworkState) → ClosesWell f e hosts options.capacity options.steps h last c → IsAskedRun f e hosts options.capacity options h c
+      → text ≡ transcript (book_of f) h (closing_text (book_of f) (length h) c) → IsRunUnder options.capacity functions f options text
   run_text text h Ended last well run text_is = record { endpoints = e; projects = p.projects; tells = record { history = h; ended = true; run = run; text_is = text_is } }
   run_text text h Limit last well run text_is = record { endpoints = e; projects = p.projects; tells = record { history = h; ended = false; run = run; text_is = text_is } }
   run_text text h (Stands q why) last well run text_is = absurd well
 
   module _ (programs : Endpoints) (read : AreProgramsOf (names_of functions) (endpoints_text e) programs) (text : List ℕ) (stuck : Bool) where
-    by_workers : (n : ℕ) → options.workers ≡ n → TranscriptBy n functions programs options text stuck → (stuck ≡ false) × IsRunText functions f options text
+    by_workers : (n : ℕ) → options.workers ≡ n → TranscriptBy n functions programs options text stuck → (stuck ≡ false) × IsRunUnder options.capacity functions f options text
     by_workers zero none x =
-        let r = runs functions source f e p programs read options.seed options.steps text stuck x in
+        let r = runs functions source f e p programs read options.capacity (room_of options) options.seed options.steps text stuck x in
         let run = r.0.run in
-        (r.1, run_text text r.0.history r.0.close run.closed.last run.closed.closes (scheduled_asked f e hosts options r.0.history r.0.close run) r.0.text_is)
+        (r.1, run_text text r.0.history r.0.close run.closed.last run.closed.closes (scheduled_asked f e hosts options.capacity options r.0.history r.0.close run) r.0.text_is)
     by_workers (suc n) some x =
-        let r = runs_by functions source f e p programs read options.steps text stuck x in
+        let r = runs_by functions source f e p programs read options.capacity (room_of options) options.steps text stuck x in
         let run = r.0.run in
-        (r.1, run_text text r.0.history r.0.close run.last run.closes (closed_asked f e hosts options r.0.history r.0.close (λ none. let bad : suc n ≡ 0 = sym some ∙ none in absurd cc) run) r.0.text_is)
+        (r.1, run_text text r.0.history r.0.close run.last run.closes (closed_asked f e hosts options.capacity options r.0.history r.0.close (λ none. let bad : suc n ≡ 0 = sym some ∙ none in absurd cc) run) r.0.text_is)
 
-  as_run : (bytes : List ℕ) → bytes ≡ endpoints_text e → (s : Status) (t : List ℕ) → Executes functions options bytes s t → (s ≡ Done) × IsRunText functions f options t
+  as_run : (bytes : List ℕ) → bytes ≡ endpoints_text e → (s : Status) (t : List ℕ) → Executes functions options bytes s t → (s ≡ Done) × IsRunUnder options.capacity functions f options t
   as_run bytes is s t (executes {text = text} stuck x) =
       let r = by_workers x.programs (subst (λ (y : List ℕ). AreProgramsOf (names_of functions) y x.programs) is x.are) text stuck options.workers refl x.run in
       (ap status_of r.0, r.1)
@@ -66,11 +80,11 @@ module _ (functions : List Function) (options : Options) (source : List ℕ) (f 
 module _ (call : Call) where
   pub runs_projected : AreExact call.functions → ProjectedTextIsTaken → ProjectedTextRuns → ProjectedTextRunsByWorkers → HasEnded call → RunsProjected call
   runs_projected exact taken runs runs_by ended = λ options name source f e accepted projects form told few.
-      grows call (Goes (MayTell call.shelf.files) (name ∷ []) (row_of call.functions (Exec options))) (λ s t. (s ≡ Done) × IsRunText call.functions f options t)
+      grows call (Goes (MayTell call.shelf.files) (name ∷ []) (row_of call.functions (Exec options))) (λ s t. (s ≡ Done) × IsRunUnder options.capacity call.functions f options t)
       (by_way options name source f e (record { exact = exact; accepted = accepted; projects = projects }) told few) (by_table call ended (Exec options) (name ∷ []) form)
     where
       by_way : (options : Options) (name source : List ℕ) (f : File) (e : Endpoints) → AreProjected call.functions source f e → Tells call.shelf.files name (endpoints_text e) → length (endpoints_text e) ≤ programs_limit
-          → (s : Status) (t : List ℕ) → Goes (MayTell call.shelf.files) (name ∷ []) (row_of call.functions (Exec options)) s t → (s ≡ Done) × IsRunText call.functions f options t
+          → (s : Status) (t : List ℕ) → Goes (MayTell call.shelf.files) (name ∷ []) (row_of call.functions (Exec options)) s t → (s ≡ Done) × IsRunUnder options.capacity call.functions f options t
       by_way options name source f e p told few s t (b, may, inl (long, is)) =
           absurd (long (subst (AtMost programs_limit) (sym (same_bytes call.shelf.files name b (endpoints_text e) may told)) few))
       by_way options name source f e p told few s t (b, may, inr (less, inl (r, v, is))) =

@@ -12,6 +12,7 @@ use Rattle.endpoint_check.specs.Programs.{ViolatesPrograms}
 use Rattle.projection.specs.Projects.{Projects}
 use Rattle.accepted_links.specs.Linked.{AreToLink, AreLinkedPrograms}
 use Rattle.simulation.specs.Accepted.{AcceptedView}
+use Rattle.simulation.specs.Capacity.{capacity_of}
 use Rattle.source_check.specs.declared.rules.Rules.TheVariants.{All}
 use Rattle.source_check.specs.Source.{Violates}
 use Rattle.chor_cmd.specs.declared.status.Status.{Status}
@@ -42,7 +43,7 @@ module _ (functions : List Function) (before : ShelfState) (name units_name : Li
     go_on l h s t says =
         (h.source, h.source_read.0, inr (h.source_read.1, inr ((h.accepted.typed.file, h.input.accepted), (h.units, h.units_read.0, inr (h.units_read.1, inr ((h.given, h.input.programs), says))))))
 
-    pub linked_runs : (a : AcceptedView) → HasLinked functions before name units_name (Linked a) → (text : List ℕ) → TellsRun functions a.typed.file a.endpoints options text
+    pub linked_runs : (a : AcceptedView) → HasLinked functions before name units_name (Linked a) → (text : List ℕ) → TellsRun functions a.typed.file a.endpoints (capacity_of a.typed.file) options text
         → Goes (MayTell before.files) names (row_of functions (Link options)) status.Done text
     linked_runs a h text tells =
         let input = subst (λ (f : File). AreToLink functions h.source h.units f h.accepted.endpoints h.given) (sym (ap (λ t. t.file) h.linked.0)) h.input in

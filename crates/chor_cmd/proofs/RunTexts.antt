@@ -4,6 +4,7 @@ use Rattle.chor_host.specs.Functions.{Function}
 use Rattle.transcript.specs.Text.{Words, transcript}
 use Rattle.program_runs.specs.Transcripts.{closing_text}
 use Rattle.simulation.specs.Accepted.{AcceptedView}
+use Rattle.simulation.specs.Capacity.{capacity_of}
 use Rattle.simulation.specs.Runs.{close_of}
 use Rattle.simulation.specs.Told.{IsToldOf}
 use Rattle.simulation.specs.ToldBy.{IsToldBy}
@@ -25,18 +26,18 @@ module _ (functions : List Function) (a : AcceptedView) (options : Options) (w :
       ∙ ap (λ (last : List ℕ). transcript w history last) (same_line w ended (length history))
       ∙ ap (λ (b : Words). transcript b history (last_line ended (length history))) same
 
-  pub run_text : IsToldOf w a functions (record { seed = options.seed; steps = options.steps }) text → TellsRun functions a.typed.file a.endpoints options text
+  pub run_text : IsToldOf w a functions (record { seed = options.seed; steps = options.steps }) text → TellsRun functions a.typed.file a.endpoints (capacity_of a.typed.file) options text
   run_text told = record {
     history = told.history;
     ended = told.ended;
-    run = scheduled_asked a.typed.file a.endpoints (hosts_in a.typed.file.names functions) options told.history (close_of told.ended) told.run;
+    run = scheduled_asked a.typed.file a.endpoints (hosts_in a.typed.file.names functions) (capacity_of a.typed.file) options told.history (close_of told.ended) told.run;
     text_is = line told.history told.ended told.text_is;
   }
 
-  pub run_text_by : (options.workers ≡ 0 → ⊥) → IsToldBy w a functions options.steps text → TellsRun functions a.typed.file a.endpoints options text
+  pub run_text_by : (options.workers ≡ 0 → ⊥) → IsToldBy w a functions options.steps text → TellsRun functions a.typed.file a.endpoints (capacity_of a.typed.file) options text
   run_text_by some told = record {
     history = told.history;
     ended = told.ended;
-    run = closed_asked a.typed.file a.endpoints (hosts_in a.typed.file.names functions) options told.history (close_of told.ended) some told.run;
+    run = closed_asked a.typed.file a.endpoints (hosts_in a.typed.file.names functions) (capacity_of a.typed.file) options told.history (close_of told.ended) some told.run;
     text_is = line told.history told.ended told.text_is;
   }

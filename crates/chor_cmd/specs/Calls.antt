@@ -24,7 +24,7 @@ use Rattle.endpoint_text.specs.Text.{endpoints_text}
 use Rattle.projection.specs.Projects.{Projects}
 use Rattle.chor_cmd.specs.declared.status.Status.{Status}
 use Rattle.chor_cmd.specs.declared.status.Status.TheVariants.{Done, Usage, ReadFault, WriteFault, Memory, Unmatched}
-use Rattle.chor_cmd.specs.Outputs.{IsRunText, IsReplayOf, usage_line, replayed_line, unmatched_line}
+use Rattle.chor_cmd.specs.Outputs.{IsRunText, IsRunUnder, IsReplayOf, usage_line, replayed_line, unmatched_line}
 use Rattle.chor_cmd.specs.Endings.{Tells, FetchesOnly, IsTooLarge}
 use Rattle.chor_cmd.specs.Endings.{Ends as MayEndSo, HasEnded as HasEndedSo}
 use Rattle.chor_cmd.specs.Rows.{Row, Reads, Judges, Closes, Exactly, IsRefused, OfSource, Links, Orders, source_limit, programs_limit, events_limit, row_of}
@@ -119,11 +119,12 @@ module _ (call : Call) where
       → IsAccepted All (names_of call.functions) bytes f → Comes (λ status text. (status ≡ Done) × OfSource call.functions All (λ g. IsRunText call.functions g options) bytes text)
 
   -- `exec`, for the text of the projection of a source that violates no rule, which `project` writes: what `run` writes for that source
+  -- where its capacity is the one that the words give
   abbrev pub RunsProjected : Type 0
   RunsProjected =
       (options : Options) (name source : List ℕ) (f : File) (e : Endpoints) → IsAccepted All (names_of call.functions) source f → Projects f e
       → IsForm call.words (Exec options) (name ∷ []) → Tells call.shelf.files name (endpoints_text e) → length (endpoints_text e) ≤ programs_limit
-      → Comes (λ status text. (status ≡ Done) × IsRunText call.functions f options text)
+      → Comes (λ status text. (status ≡ Done) × IsRunUnder options.capacity call.functions f options text)
 
   -- `replay`, for a source and an events file that are told: whatever a replay of these events in the choreography of that source answers
   abbrev pub AcceptsRuns : Type 0

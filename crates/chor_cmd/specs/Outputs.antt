@@ -22,6 +22,7 @@ use Rattle.accepted_resumes.specs.Sources.{IsResumedOf, StopsResume}
 use Rattle.conforming_logs.specs.Logs.{ConformsSource}
 use Rattle.resume.specs.declared.resuming.Plan.{Plan}
 use Rattle.simulation.specs.Accepted.{AcceptedView}
+use Rattle.simulation.specs.Capacity.{capacity_of}
 use Rattle.accepted_links.specs.Linked.{AreLinkedPrograms}
 use Rattle.generated_runs.specs.Texts.{IsGeneratedText, IsSummary}
 use Rattle.endpoint_check.specs.Programs.{AreProgramsOf}
@@ -41,28 +42,32 @@ abbrev pub last_line : Bool → ℕ → List ℕ
 last_line true n = end_line n
 last_line false n = limit_line n
 
--- The text is the transcript of a run, as the options ask for it, of the network of these endpoint programs of a file, which asks
--- these host functions: a run of its choreography in which messages are received first in, first out, and sessions follow their
+-- The text is the transcript of a run under this capacity, as the options ask for it, of the network of these endpoint programs of a
+-- file, which asks these host functions: a run of its choreography in which messages are received first in, first out, and sessions follow their
 -- protocols; with `end` each process has ended, each queue is empty and nothing is left to happen, with `limit` the run
 -- is as long as was asked for and open
-pub record TellsRun (functions : List Function) (f : File) (programs : Endpoints) (options : Options) (text : List ℕ) : Type 0 where
+pub record TellsRun (functions : List Function) (f : File) (programs : Endpoints) (cap : Option ℕ) (options : Options) (text : List ℕ) : Type 0 where
   pub history : List Event
   pub ended : Bool
-  pub run : IsAskedRun f programs (hosts_in f.names functions) options history (close_of ended)
+  pub run : IsAskedRun f programs (hosts_in f.names functions) cap options history (close_of ended)
   pub text_is : text ≡ transcript (book_of f) history (last_line ended (length history))
 
 -- the text is that of such a run of this file's projection
-pub record IsRunText (functions : List Function) (f : File) (options : Options) (text : List ℕ) : Type 0 where
+pub record IsRunUnder (cap : Option ℕ) (functions : List Function) (f : File) (options : Options) (text : List ℕ) : Type 0 where
   pub endpoints : Endpoints
   pub projects : Projects f endpoints
-  pub tells : TellsRun functions f endpoints options text
+  pub tells : TellsRun functions f endpoints cap options text
 
--- the text is that of such a run of a source's projection with given programs in their places
+-- under the file's own capacity
+abbrev pub IsRunText : List Function → File → Options → List ℕ → Type 0
+IsRunText functions f options text = IsRunUnder (capacity_of f) functions f options text
+
+-- the text is that of such a run of a source's projection with given programs in their places, under the source's capacity
 pub record IsLinkedRun (functions : List Function) (options : Options) (source units text : List ℕ) : Type 0 where
   pub file : File
   pub linked : Endpoints
   pub programs : AreLinkedPrograms functions source units file linked
-  pub tells : TellsRun functions file linked options text
+  pub tells : TellsRun functions file linked (capacity_of file) options text
 
 -- the text is that of endpoint programs that are the projection of this file
 pub record IsProjectionText (f : File) (text : List ℕ) : Type 0 where
@@ -116,9 +121,9 @@ beyond_line n = codes "refused O1 " ++ decimal n ++ 10 ∷ []
 
 -- ---- answers
 
--- how a run goes on that the options of `resume` ask for
-abbrev pub plan_of : Options → Plan
-plan_of options = record { capacity = None; schedule = record { seed = options.seed; steps = options.steps } }
+-- how a run of this file goes on that the options of `resume` ask for
+abbrev pub plan_of : File → Options → Plan
+plan_of f options = record { capacity = capacity_of f; schedule = record { seed = options.seed; steps = options.steps } }
 
 -- the bytes are the text of endpoint programs without fault, and the text is the transcript of a run of them, as the options ask
 -- for it, which is stuck or not
@@ -127,11 +132,12 @@ pub record IsExecution (functions : List Function) (options : Options) (bytes te
   pub are : AreProgramsOf (names_of functions) bytes programs
   pub run : IsAskedTranscript functions programs options text stuck
 
--- the bytes are the text of a source that violates no rule, and so a replay of the events file in its choreography answers
+-- the bytes are the text of a source that violates no rule, and so a replay of the events file in its choreography, under its
+-- capacity, answers
 pub record IsReplayOf (functions : List Function) (bytes events : List ℕ) (answer : Result Replayed ReplayFault) : Type 0 where
   pub file : File
   pub accepted : IsAccepted All (names_of functions) bytes file
-  pub replays : ReplaysSource file (hosts_in file.names functions) None events answer
+  pub replays : ReplaysSource file (hosts_in file.names functions) (capacity_of file) events answer
 
 -- the bytes are the text of a source that violates no rule, and the text is the transcript of a run of its choreography that goes on
 -- after the events of this log, as the options ask for it
@@ -139,13 +145,13 @@ pub record IsResumedRun (functions : List Function) (options : Options) (bytes l
   pub accepted : AcceptedView
   pub source : IsAccepted All (names_of functions) bytes accepted.typed.file
   pub projects : Projects accepted.typed.file accepted.endpoints
-  pub resumes : IsResumedOf accepted functions (plan_of options) log text
+  pub resumes : IsResumedOf accepted functions (plan_of accepted.typed.file options) log text
 
 -- the bytes are the text of a source that violates no rule, and this is why no run of its choreography goes on after this log
 pub record IsResumeFault (functions : List Function) (bytes log : List ℕ) (fault : ReplayFault) : Type 0 where
   pub file : File
   pub accepted : IsAccepted All (names_of functions) bytes file
-  pub stops : StopsResume file (hosts_in file.names functions) None log fault
+  pub stops : StopsResume file (hosts_in file.names functions) (capacity_of file) log fault
 
 -- the bytes are the text of a source whose names, protocols and views have no fault, and so a log is judged by its protocols
 pub record IsConformingOf (functions : List Function) (bytes log : List ℕ) (answer : Result Replayed ReplayFault) : Type 0 where

@@ -1,5 +1,5 @@
 -- What each command makes of its files: one row for each (this project's own).
-use Rattle.std.specs.Prelude.{ℕ, ◌≡◌, ◌≤◌, Bool, List, length, None, Ok, Err, codes}
+use Rattle.std.specs.Prelude.{ℕ, ◌≡◌, ◌≤◌, Bool, List, length, Ok, Err, codes}
 use Rattle.chor_base.specs.declared.event.Event.{Event}
 use Rattle.chor_base.specs.declared.rule.Refusal.{Refusal}
 use Rattle.chor_tree.specs.declared.file.File.{File}
@@ -23,6 +23,7 @@ use Rattle.accepted_links.specs.Linked.{IsLinkRefusal}
 use Rattle.accepted_orders.specs.Numbers.{IsBeyond}
 use Rattle.accepted_orders.specs.Sources.{TellsOrder}
 use Rattle.accepted_replays.specs.Events.{HasSourceEvents}
+use Rattle.simulation.specs.Capacity.{capacity_of}
 use Rattle.chor_cmd.specs.declared.status.Status.{Status}
 use Rattle.chor_cmd.specs.declared.status.Status.TheVariants.{Done, Refused, Usage, Unmatched}
 use Rattle.chor_cmd.specs.Status.{status_of}
@@ -141,11 +142,11 @@ module _ (functions : List Function) where
 
   -- what is written for a source that violates no rule and an events file that is replayed on it, of its events
   abbrev pub OfEvents : (File → List Event → Type 0) → List ℕ → List ℕ → Type 0
-  OfEvents Says bytes log = (f : File) × IsAccepted All (names_of functions) bytes f × ((h : List Event) × HasSourceEvents f (hosts_in f.names functions) None log h × Says f h)
+  OfEvents Says bytes log = (f : File) × IsAccepted All (names_of functions) bytes f × ((h : List Event) × HasSourceEvents f (hosts_in f.names functions) (capacity_of f) log h × Says f h)
 
   -- What is asked for of the order of events is told, or a line doesn't match, or no event has a number that is asked for
   pub data Orders (form : OrderForm) (bytes log : List ℕ) : Status → List ℕ → Type 0 where
-    orders : {text : List ℕ} → OfEvents (λ f h. TellsOrder (book_of f) None form h text) bytes log → Orders form bytes log Done text
+    orders : {text : List ℕ} → OfEvents (λ f h. TellsOrder (book_of f) (capacity_of f) form h text) bytes log → Orders form bytes log Done text
     breaks_off : (i : ℕ) → IsReplayOf functions bytes log (Err (unlike i)) → Orders form bytes log Unmatched (unmatched_line i)
     beyond : (n : ℕ) → OfEvents (λ f h. IsBeyond form (length h) n) bytes log → Orders form bytes log Refused (beyond_line n)
 

@@ -1,6 +1,6 @@
 -- Which runs the options of `run`, `exec` and `link` ask for: without workers the scheduled run, with workers any closed run (this project's
--- own).
-use Rattle.std.specs.Prelude.{ℕ, zero, suc, ◌≡◌, Bool, List, None}
+-- own). `exec` runs under the capacity of its options, the others under that of the source.
+use Rattle.std.specs.Prelude.{ℕ, zero, suc, ◌≡◌, Bool, List, Option}
 use Rattle.chor_base.specs.declared.event.Event.{Event}
 use Rattle.chor_base.specs.Meaning.{Hosts}
 use Rattle.chor_host.specs.Functions.{Function}
@@ -17,20 +17,20 @@ use Rattle.simulation.specs.Runs.{IsRunOf}
 use Rattle.program_runs.specs.Transcripts.{IsTranscriptOf}
 use Rattle.program_runs.specs.ByWorkers.{IsTranscriptBy}
 
-abbrev pub RunBy : ℕ → File → Endpoints → Hosts → Options → List Event → Close → Type 0
-RunBy zero f e hosts options h close = IsRunOf f e hosts None options.seed options.steps h close
-RunBy (suc n) f e hosts options h close = IsClosedRunOf f e hosts None options.steps h close
+abbrev pub RunBy : ℕ → File → Endpoints → Hosts → Option ℕ → Options → List Event → Close → Type 0
+RunBy zero f e hosts cap options h close = IsRunOf f e hosts cap options.seed options.steps h close
+RunBy (suc n) f e hosts cap options h close = IsClosedRunOf f e hosts cap options.steps h close
 
--- These events are a run of the network of the file's endpoint programs, as the options ask for it, which closes so: the scheduled
--- run where they ask for no workers, else any closed run
-abbrev pub IsAskedRun : File → Endpoints → Hosts → Options → List Event → Close → Type 0
-IsAskedRun f e hosts options h close = RunBy options.workers f e hosts options h close
+-- These events are a run of the network of the file's endpoint programs under this capacity, as the options ask for it, which closes
+-- so: the scheduled run where they ask for no workers, else any closed run
+abbrev pub IsAskedRun : File → Endpoints → Hosts → Option ℕ → Options → List Event → Close → Type 0
+IsAskedRun f e hosts cap options h close = RunBy options.workers f e hosts cap options h close
 
 abbrev pub TranscriptBy : ℕ → List Function → Endpoints → Options → List ℕ → Bool → Type 0
-TranscriptBy zero functions e options text stuck = IsTranscriptOf functions e options.seed options.steps text stuck
-TranscriptBy (suc n) functions e options text stuck = IsTranscriptBy functions e options.steps text stuck
+TranscriptBy zero functions e options text stuck = IsTranscriptOf functions e options.capacity options.seed options.steps text stuck
+TranscriptBy (suc n) functions e options text stuck = IsTranscriptBy functions e options.capacity options.steps text stuck
 
--- The text is the transcript of such a run of endpoint programs, which is stuck or not
+-- The text is the transcript of such a run of endpoint programs, under the capacity that the options give, which is stuck or not
 abbrev pub IsAskedTranscript : List Function → Endpoints → Options → List ℕ → Bool → Type 0
 IsAskedTranscript functions e options text stuck = TranscriptBy options.workers functions e options text stuck
 

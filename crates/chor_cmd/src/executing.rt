@@ -16,10 +16,12 @@ use chor_base::Word;
 use chor_host::HostTable;
 use chor_io::{Gate, Shelf};
 use command_words::Options;
+use endpoint_runs::Schedule;
 use program_runs::{Executed, execute as scheduled, execute_by as by_workers};
 use std::alloc::Global;
 use std::sync::Wait;
 use std::thread::Threads;
+use workers::Task;
 
 /// Writes the transcript of the scheduled run of the endpoint programs of this name.
 pub fn execute<'a, F: Shelf>(
@@ -33,7 +35,11 @@ pub fn execute<'a, F: Shelf>(
     ensures only { TouchesOnly (name.now ∷ []) (F.state shelf.old) (F.state shelf.new) }
 {
     let programs = fetch_programs(alloc, name, hosts, shelf)?;
-    let executed = scheduled(alloc, &programs, hosts, options.seed, options.steps);
+    let schedule = Schedule {
+        seed: options.seed,
+        steps: options.steps,
+    };
+    let executed = scheduled(alloc, &programs, hosts, options.capacity, schedule);
     drop(programs);
     let executed = executed?;
     Ok(ending_of(executed))
@@ -54,15 +60,11 @@ pub fn execute_by<'a, R: Threads + Wait + Sync, F: Shelf, G: Gate + Sync>(
     ensures only { TouchesOnly (name.now ∷ []) (F.state shelf.old) (F.state shelf.new) }
 {
     let programs = fetch_programs(alloc, name, hosts, shelf)?;
-    let executed = by_workers(
-        rt,
-        alloc,
-        &programs,
-        hosts,
-        options.workers,
-        options.steps,
-        gate,
-    );
+    let task = Task {
+        workers: options.workers,
+        steps: options.steps,
+    };
+    let executed = by_workers(rt, alloc, &programs, hosts, options.capacity, task, gate);
     drop(programs);
     let executed = executed?;
     Ok(ending_of(executed))

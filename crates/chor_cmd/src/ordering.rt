@@ -78,7 +78,7 @@ fn order_log(
     ensures { IfOk result (λ ending. (bytes : List ℕ) → IsAccepted All (host_names hosts.now) bytes accepted.now.typed.file
         → Orders (functions_of hosts.now) form bytes log.now ending.status ending.text.items) }
 {
-    match order_accepted(alloc, accepted, hosts, None, form, log) {
+    match order_accepted(alloc, accepted, hosts, accepted.capacity(), form, log) {
         Ok(text) => Ok(Ending {
             text,
             status: Status::Done,

@@ -74,7 +74,7 @@ fn replay_log(
     ensures { IfOk result (λ ending. (bytes : List ℕ) → IsAccepted All (host_names hosts.now) bytes accepted.now.typed.file
         → Replays (functions_of hosts.now) bytes log.now ending.status ending.text.items) }
 {
-    match replay_accepted(alloc, accepted, hosts, None, log) {
+    match replay_accepted(alloc, accepted, hosts, accepted.capacity(), log) {
         Ok(replayed) => {
             let text = replayed_line(alloc, replayed)?;
             Ok(Ending {

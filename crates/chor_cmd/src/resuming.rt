@@ -111,7 +111,7 @@ fn resume_log(
         steps: options.steps,
     };
     let plan = Plan {
-        capacity: None,
+        capacity: accepted.capacity(),
         schedule,
     };
     match resume_accepted(alloc, accepted, hosts, plan, log) {

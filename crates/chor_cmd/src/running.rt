@@ -4,6 +4,7 @@ ghost use Rattle.std.specs.Prelude.{◌≡◌, ◌≢◌, [], ◌∷◌, IfOk};
 ghost use Rattle.chor_host.specs.Tables.{functions_of};
 ghost use Rattle.chor_tree.specs.Names.{names_in};
 ghost use Rattle.command_words.specs.declared.words.Command.TheVariants.{Run};
+ghost use Rattle.simulation.specs.Capacity.{capacity_of};
 ghost use Rattle.chor_cmd.specs.Endings.{host_names};
 ghost use Rattle.chor_cmd.specs.Outputs.{TellsRun};
 ghost use Rattle.chor_cmd.specs.Stops.{Answers, TouchesOnly};
@@ -79,7 +80,7 @@ pub fn scheduled_text(
     hosts: &HostTable,
 ) -> Result<Vec<u8>, Memory>
     requires hosts { accepted.now.typed.hosts ≡ host_names hosts.now }
-    ensures { IfOk result (λ text. TellsRun (functions_of hosts.now) accepted.now.typed.file accepted.now.endpoints options text.items) }
+    ensures { IfOk result (λ text. TellsRun (functions_of hosts.now) accepted.now.typed.file accepted.now.endpoints (capacity_of accepted.now.typed.file) options text.items) }
 {
     let file = accepted.typed().file();
     let processes = names_of(alloc, file.processes.as_slice())?;
@@ -107,7 +108,7 @@ pub fn text_by<R: Threads + Wait + Sync, G: Gate + Sync>(
 ) -> Result<Vec<u8>, Memory>
     requires hosts { accepted.now.typed.hosts ≡ host_names hosts.now }
     requires workers { options.workers ≢ 0 }
-    ensures { IfOk result (λ text. TellsRun (functions_of hosts.now) accepted.now.typed.file accepted.now.endpoints options text.items) }
+    ensures { IfOk result (λ text. TellsRun (functions_of hosts.now) accepted.now.typed.file accepted.now.endpoints (capacity_of accepted.now.typed.file) options text.items) }
 {
     let file = accepted.typed().file();
     let processes = names_of(alloc, file.processes.as_slice())?;

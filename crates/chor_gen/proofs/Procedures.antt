@@ -5,6 +5,8 @@ use Rattle.std.proofs.lemmas.Bool.{lt-ltb, and_parts}
 use Rattle.std.proofs.lemmas.List.{map-append}
 use Rattle.std.proofs.lemmas.List.Folds.{list_all-append}
 use Rattle.std.proofs.lemmas.Bool.Decides.{nat_tests}
+use Rattle.chor_tree.specs.declared.header.Header.{Header}
+use Rattle.chor_tree.specs.Headers.{no_header, header_kept}
 use Rattle.chor_tree.specs.declared.file.Proc.{Proc}
 use Rattle.chor_tree.specs.declared.file.Named.{Named}
 use Rattle.chor_tree.specs.declared.file.Service.{Service}
@@ -86,17 +88,19 @@ made_more {names} {count} {i} {old} {new} {before} {after} {p} some m d more =
 -- ---- the whole file
 
 -- what the file is made of: its parts are those of the generated source
-pub record IsWhole (names : List (List ℕ)) (count : ℕ) (protocols : List Protocol) (services : List Service) (procs : List Proc) (processes : List Named) (old new : List Node) (body : NodeId) : Type 0 where
+pub record IsWhole (names : List (List ℕ)) (count : ℕ) (header : Header) (protocols : List Protocol) (services : List Service) (procs : List Proc) (processes : List Named) (old new : List Node) (body : NodeId) : Type 0 where
   pub some : 0 < length names
+  pub header_is : header ≡ no_header
   pub protocols_are : protocols ≡ round (named_in names) ∷ fork (named_in names) ∷ []
   pub services_are : services ≡ round_service (named_in names) ∷ fork_service (named_in names) ∷ []
   pub made : Made names count old procs count
   pub processes_are : processes ≡ p_and_q (named_in names)
   pub adds : Adds names old new body (call (named_in names) 1)
 
-module _ {names : List (List ℕ)} {count : ℕ} {protocols : List Protocol} {services : List Service} {procs : List Proc} {processes : List Named} {old new : List Node} {body : NodeId} (w : IsWhole names count protocols services procs processes old new body) where
+module _ {names : List (List ℕ)} {count : ℕ} {header : Header} {protocols : List Protocol} {services : List Service} {procs : List Proc} {processes : List Named} {old new : List Node} {body : NodeId} (w : IsWhole names count header protocols services procs processes old new body) where
   abbrev pub source : Source
   source = record {
+    header = header;
     items = record { protocols = protocols; services = services; procedures = map (procedure_of new) procs };
     processes = processes;
     body = block_in (blocks_of new) body;
@@ -106,6 +110,7 @@ module _ {names : List (List ℕ)} {count : ℕ} {protocols : List Protocol} {se
   source_is =
       let made = procedures_stay old new w.adds.added procs w.adds.parts w.made.there ∙ w.made.procedures in
       λ i. record {
+        header = w.header_is i;
         items = record { protocols = w.protocols_are i; services = w.services_are i; procedures = made i };
         processes = w.processes_are i;
         body = w.adds.block i;
@@ -138,13 +143,14 @@ module _ {names : List (List ℕ)} {count : ℕ} {protocols : List Protocol} {se
       omega (arith, follows, times_append id (body ∷ begins_of procs) (followers_in new), times_first id body (begins_of procs), times_append id (followers_in old) (followers_in w.adds.added), w.made.once id, times_append id (begins_of procs) (followers_in old), w.adds.once id, times_first id body (followers_in w.adds.added), at_most_one id (length new))
 
   -- with no text
-  kept_alone : Keeps names [] protocols services procs processes new body
+  kept_alone : Keeps header names [] protocols services procs processes new body
   kept_alone =
       let n = has_name names in
       let at = named_in names in
       let nodes = all_both (λ (o : Node). form_there n (has_text []) o.form) (λ (o : Node). form_filled o.form) new nodes_good in
       let longer = ap length w.adds.parts in
       record {
+        header = ap header_kept w.header_is;
         numbered = five (ap (list_all (protocol_there n)) w.protocols_are ∙ two (round_there n at known) (two (fork_there n at known) refl))
             (ap (list_all (service_there n)) w.services_are ∙ two (round_service_there n at known) (two (fork_service_there n at known) refl))
             w.made.heads (ap (names_there n) w.processes_are ∙ both_there n at known) nodes.0;
@@ -153,5 +159,5 @@ module _ {names : List (List ℕ)} {count : ℕ} {protocols : List Protocol} {se
         once = λ id. once id;
       }
 
-  pub file_kept : (texts : List (List ℕ)) → texts ≡ [] → Keeps names texts protocols services procs processes new body
-  file_kept texts e = subst (λ (ts : List (List ℕ)). Keeps names ts protocols services procs processes new body) (sym e) kept_alone
+  pub file_kept : (texts : List (List ℕ)) → texts ≡ [] → Keeps header names texts protocols services procs processes new body
+  file_kept texts e = subst (λ (ts : List (List ℕ)). Keeps header names ts protocols services procs processes new body) (sym e) kept_alone

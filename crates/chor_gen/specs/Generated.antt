@@ -6,6 +6,7 @@ use Rattle.chor_base.specs.declared.value.Value.TheVariants.{Int}
 use Rattle.chor_base.specs.declared.value.Sort.TheVariants.{Int as Number}
 use Rattle.chor_base.specs.declared.expr.BinOp.TheVariants.{Add, Lt}
 use Rattle.chor_base.specs.Expr.{Term, Constant, Variable, Binary}
+use Rattle.chor_tree.specs.Headers.{no_header}
 use Rattle.chor_tree.specs.declared.file.Named.{Named}
 use Rattle.chor_tree.specs.declared.file.ProcParam.{ProcParam}
 use Rattle.chor_tree.specs.declared.file.Service.{Service}
@@ -177,6 +178,7 @@ module _ (at : List ℕ → Named) where
   -- The source with so many rounds
   abbrev pub generated : ℕ → Source
   generated count = record {
+    header = no_header;
     items = record {
       protocols = round ∷ fork ∷ [];
       services = round_service ∷ fork_service ∷ [];

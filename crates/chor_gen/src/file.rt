@@ -10,7 +10,7 @@ use crate::declared::{protocols, services};
 use crate::rounds::{Round, p_and_q, push_call, push_round};
 use crate::words::Words;
 use chor_base::{List, Memory, Sort, Texts};
-use chor_tree::{File, Proc, ProcParam, Tree};
+use chor_tree::{File, Header, Proc, ProcParam, Tree};
 use std::alloc::Global;
 
 /// The file with so many rounds, each a procedure that starts a session of its own and calls the
@@ -29,6 +29,7 @@ pub fn generate(alloc: Global, count: u32) -> Result<File, Memory>
     let Bodies { procs, mut tree } = make_procedures(alloc, &words, count)?;
     let body = push_call(alloc, &words, &mut tree, 1)?;
     Ok(File {
+        header: Header::none(),
         names: words.names,
         texts: Texts::new(alloc),
         protocols,

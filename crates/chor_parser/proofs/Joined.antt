@@ -5,6 +5,7 @@ use Rattle.std.proofs.lemmas.List.{append-nil, map-append}
 use Rattle.chor_base.specs.declared.rule.Denied.{Denied}
 use Rattle.chor_lexer.specs.declared.token.Token.{Token}
 use Rattle.chor_lexer.specs.Tokens.{is_ended}
+use Rattle.chor_tree.specs.declared.header.Header.{Header}
 use Rattle.chor_tree.specs.declared.file.Named.{Named}
 use Rattle.chor_tree.specs.declared.file.Proc.{Proc}
 use Rattle.chor_tree.specs.declared.file.Service.{Service}
@@ -123,11 +124,11 @@ adds_bodies {old} {new} d e =
 
 -- ---- the whole file
 
-pub file_within : (names : List (List ℕ)) (tokens : List Token) (end : ℕ) (d : Declared) (final : List Node) (ps : List Named) (b : Block) → Reads SourcePart Nothing names tokens (items_of d, main_of ps b) (drop end tokens) → AreThere d.tree.nodes d.procs → Grows d.tree.nodes final → IsTrue (is_ended tokens) → Ends (drop end tokens) → IsWithin names tokens (record { items = record { protocols = d.protocols; services = d.services; procedures = map (procedure_of final) d.procs }; processes = ps; body = b })
-file_within names tokens end d final ps b r there grows ended e =
+pub file_within : (names : List (List ℕ)) (tokens : List Token) (end : ℕ) (h : Header) (d : Declared) (final : List Node) (ps : List Named) (b : Block) → Reads SourcePart Nothing names tokens (h, (items_of d, main_of ps b)) (drop end tokens) → AreThere d.tree.nodes d.procs → Grows d.tree.nodes final → IsTrue (is_ended tokens) → Ends (drop end tokens) → IsWithin names tokens (record { header = h; items = record { protocols = d.protocols; services = d.services; procedures = map (procedure_of final) d.procs }; processes = ps; body = b })
+file_within names tokens end h d final ps b r there grows ended e =
     let here = within r (end_is tokens end ended e) in
     let same : map (procedure_of final) d.procs ≡ map (procedure_of d.tree.nodes) d.procs = procedures_stay d.tree.nodes final d.procs grows there in
-    subst (λ (qs : List Procedure). IsWithin names tokens (record { items = record { protocols = d.protocols; services = d.services; procedures = qs }; processes = ps; body = b })) (sym same) here
+    subst (λ (qs : List Procedure). IsWithin names tokens (record { header = h; items = record { protocols = d.protocols; services = d.services; procedures = qs }; processes = ps; body = b })) (sym same) here
 
 -- what begins with the word of an item begins as one
 pub begins_protocol : {names : List (List ℕ)} {ts rest : List Token} → WordIs names (codes "protocol") ts rest → Head ItemFirst names ts

@@ -17,7 +17,8 @@ use chor_base::{Denied, List, Names, Rule, Texts};
 use chor_lexer::{Mark, Tokens};
 use chor_tree::{File, Named, NodeId, Proc, Protocol, Service, Tree};
 use source_reader::{
-    Input, Room, read_any_names, read_block, read_parameters, read_protocol, read_service,
+    Input, Room, read_any_names, read_block, read_header, read_parameters, read_protocol,
+    read_service,
 };
 use std::alloc::Global;
 
@@ -34,7 +35,7 @@ const STATEMENTS: usize = 1024;
 ///
 /// It is refused by P1 at the first token that no file has there after those before it, by P2 where
 /// blocks stand too deep or an expression is too long, and by P3 at the first item that is one too
-/// many in its list or on its path.
+/// many in its list or on its path, and at the number of a capacity that isn't from 1 to 1,000,000.
 pub fn parse(alloc: Global, tokens: &Tokens, names: Names, texts: Texts) -> Result<File, Denied>
     requires known { AllByRecursion (IsKnown names) tokens.now.items }
     requires texts { AllByRecursion (IsTextKnown texts) tokens.now.items }
@@ -49,7 +50,8 @@ pub fn parse(alloc: Global, tokens: &Tokens, names: Names, texts: Texts) -> Resu
         tokens,
         names: &names,
     };
-    let (items, at) = read_items(alloc, &input)?;
+    let (header, at) = read_header(&input, 0)?;
+    let (items, at) = read_items(alloc, &input, at)?;
     let Declared {
         protocols,
         services,
@@ -61,6 +63,7 @@ pub fn parse(alloc: Global, tokens: &Tokens, names: Names, texts: Texts) -> Resu
         return Err(input.refused(Rule::P1, at));
     }
     Ok(File {
+        header,
         names,
         texts,
         protocols,
@@ -82,9 +85,9 @@ struct Declared {
 }
 
 // { protocol | service | proc }
-fn read_items(alloc: Global, input: &Input) -> Result<(Declared, usize), Denied>
-    ensures reads { IfOk result (λ x. ReadsTo ItemsPart ItemFirst input.now 0 (items_of x.0) x.1) }
-    ensures halts { IfErr result (Halts ItemsPart ItemFirst (names_of input.now) (tokens_from input.now 0)) }
+fn read_items(alloc: Global, input: &Input, at: usize) -> Result<(Declared, usize), Denied>
+    ensures reads { IfOk result (λ x. ReadsTo ItemsPart ItemFirst input.now at (items_of x.0) x.1) }
+    ensures halts { IfErr result (Halts ItemsPart ItemFirst (names_of input.now) (tokens_from input.now at)) }
     ensures there { IfOk result (λ x. AreThere x.0.tree.nodes x.0.procs) }
     ensures adds { IfOk result (λ x. Adds [] x.0.tree.nodes (begins_of x.0.procs)) }
 {
@@ -98,7 +101,7 @@ fn read_items(alloc: Global, input: &Input) -> Result<(Declared, usize), Denied>
         procs,
         tree,
     };
-    let mut at = 0;
+    let mut at = at;
     'items: loop {
         let next = read_item(alloc, input, at, &mut items)?;
         let Some(after) = next else {

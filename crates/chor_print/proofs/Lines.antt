@@ -15,8 +15,8 @@ use Rattle.chor_tree.specs.declared.tree.Form.TheVariants.{Start, Value, Label, 
 use Rattle.chor_tree.specs.Children.{children_of}
 use Rattle.chor_print.specs.Statements.{if_text}
 use Rattle.chor_print.specs.Lines.{indented, braced, lines_in, lines_of_form, block_lines}
-use Rattle.chor_print.specs.Text.{state_line, protocol_head, protocol_lines, service_line, proc_head, proc_lines, main_head, main_lines, canonical_text}
-use Rattle.chor_print.specs.Parts.{indentation, line_at, lines_at, body_text, statement_text, next_of, protocol_text, service_text, proc_text, main_text}
+use Rattle.chor_print.specs.Text.{header_lines, state_line, protocol_head, protocol_lines, service_line, proc_head, proc_lines, main_head, main_lines, canonical_text}
+use Rattle.chor_print.specs.Parts.{indentation, line_at, lines_at, body_text, statement_text, next_of, header_text, protocol_text, service_text, proc_text, main_text}
 
 -- ---- indentation
 
@@ -61,14 +61,18 @@ braced_lines head lines (x ∷ xs) =
 
 -- the text of a file, unit by unit
 pub canonical : (f : File)
-    → canonical_text f ≡ flat_map (protocol_text f.names) f.protocols ++ flat_map (service_text f.names) f.services ++ flat_map (proc_text f) f.procs ++ main_text f
+    → canonical_text f ≡ header_text f.header ++ flat_map (protocol_text f.names) f.protocols ++ flat_map (service_text f.names) f.services ++ flat_map (proc_text f) f.procs ++ main_text f
 canonical f =
+    let hs = header_lines f.header in
     let ps = flat_map (protocol_lines f.names) f.protocols in
     let ss = map (service_line f.names) f.services in
     let rs = flat_map (proc_lines f) f.procs in
-    flat_map-append (line_at 0) (ps ++ ss ++ rs) (main_lines f)
-    ∙ ap (λ (t : List ℕ). t ++ lines_at 0 (main_lines f)) (flat_map-append (line_at 0) (ps ++ ss) rs ∙ ap (λ (t : List ℕ). t ++ lines_at 0 rs) (flat_map-append (line_at 0) ps ss))
-    ∙ (λ i. braced_lines (protocol_head f.names) (λ p. map (state_line f.names) p.states) f.protocols i
+    flat_map-append (line_at 0) (hs ++ ps ++ ss ++ rs) (main_lines f)
+    ∙ ap (λ (t : List ℕ). t ++ lines_at 0 (main_lines f))
+    (flat_map-append (line_at 0) (hs ++ ps ++ ss) rs
+    ∙ ap (λ (t : List ℕ). t ++ lines_at 0 rs) (flat_map-append (line_at 0) (hs ++ ps) ss ∙ ap (λ (t : List ℕ). t ++ lines_at 0 ss) (flat_map-append (line_at 0) hs ps)))
+    ∙ (λ i. header_text f.header
+    ++ braced_lines (protocol_head f.names) (λ p. map (state_line f.names) p.states) f.protocols i
     ++ mapped_lines 0 (service_line f.names) f.services i
     ++ braced_lines (proc_head f.names) (λ p. block_lines f p.body) f.procs i
     ++ braced_at 0 (main_head f) (block_lines f f.body) i)

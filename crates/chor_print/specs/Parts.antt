@@ -5,6 +5,7 @@ use Rattle.chor_base.specs.declared.names.NameId.{NameId}
 use Rattle.chor_base.specs.Expr.{Term, term_of}
 use Rattle.chor_base.specs.Writing.{name_in}
 use Rattle.chor_tree.specs.declared.file.File.{File}
+use Rattle.chor_tree.specs.declared.header.Header.{Header}
 use Rattle.chor_tree.specs.declared.file.Named.{Named}
 use Rattle.chor_tree.specs.declared.file.Proc.{Proc}
 use Rattle.chor_tree.specs.declared.file.Service.{Service}
@@ -16,7 +17,7 @@ use Rattle.chor_tree.specs.declared.tree.Form.TheVariants.{Start, Value, Label, 
 use Rattle.chor_print.specs.Pieces.{named_text, part_text}
 use Rattle.chor_print.specs.Statements.{term_text, start_text, value_text, label_text, give_text, set_text, host_text, show_text}
 use Rattle.chor_print.specs.Lines.{block_lines}
-use Rattle.chor_print.specs.Text.{ended, state_line, protocol_head, service_line, proc_head, main_head}
+use Rattle.chor_print.specs.Text.{ended, capacity_lines, header_lines, state_line, protocol_head, service_line, proc_head, main_head}
 
 -- two spaces for each open brace
 abbrev pub indentation : ℕ → List ℕ
@@ -94,6 +95,13 @@ next_of End = None
 -- the lines of a body, and the line that closes it
 abbrev pub body_text : List (List ℕ) → List ℕ
 body_text lines = lines_at 1 lines ++ line_at 0 (codes "}")
+
+-- what a header says of the capacity, and the whole header
+abbrev pub capacity_text : Option ℕ → List ℕ
+capacity_text c = lines_at 0 (capacity_lines c)
+
+abbrev pub header_text : Header → List ℕ
+header_text h = lines_at 0 (header_lines h)
 
 abbrev pub protocol_text : List (List ℕ) → Protocol → List ℕ
 protocol_text names p = line_at 0 (protocol_head names p) ++ body_text (map (state_line names) p.states)

@@ -1,6 +1,8 @@
 -- The canonical text of a file (this project's own).
-use Rattle.std.specs.Prelude.{ℕ, List, [], ◌∷◌, ◌++◌, map, codes}
+use Rattle.std.specs.Prelude.{◌==◌, ℕ, Bool, true, false, Option, Some, None, List, [], ◌∷◌, ◌++◌, map, codes}
 use Rattle.std.specs.List.{flat_map}
+use Rattle.std.specs.Fmt.{decimal}
+use Rattle.chor_tree.specs.declared.header.Header.{Header}
 use Rattle.chor_tree.specs.declared.file.File.{File}
 use Rattle.chor_tree.specs.declared.file.Named.{Named}
 use Rattle.chor_tree.specs.declared.file.Service.{Service}
@@ -11,6 +13,19 @@ use Rattle.chor_tree.specs.declared.protocol.ProtoStep.{ProtoStep}
 use Rattle.chor_tree.specs.declared.protocol.ProtoStep.TheVariants as step
 use Rattle.chor_print.specs.Pieces.{named_text, payload_text, arm_text, process_param_text, session_param_text, listed, listed_after}
 use Rattle.chor_print.specs.Lines.{braced, block_lines}
+
+-- `capacity 8;`, or no line
+abbrev pub capacity_lines : Option ℕ → List (List ℕ)
+capacity_lines (Some c) = (codes "capacity " ++ decimal c ++ codes ";") ∷ []
+capacity_lines None = []
+
+-- `chor 2;` and the capacity, or no lines in a file of the first version
+abbrev pub version_lines : (is_second : Bool) → Option ℕ → List (List ℕ)
+version_lines true c = codes "chor 2;" ∷ capacity_lines c
+version_lines false c = []
+
+abbrev pub header_lines : Header → List (List ℕ)
+header_lines h = version_lines (h.version == 2) h.capacity
 
 -- `end`, `A -> B : int then t`, or `A -> B {ok then u, ko then u}`
 abbrev pub step_text : List (List ℕ) → ProtoStep → List ℕ
@@ -58,10 +73,10 @@ main_head f = codes "main (" ++ listed (named_text f.names) f.processes ++ codes
 abbrev pub main_lines : File → List (List ℕ)
 main_lines f = braced (main_head f) (block_lines f f.body)
 
--- all lines: the protocols, the services, the procedures and main
+-- all lines: the header, the protocols, the services, the procedures and main
 abbrev pub file_lines : File → List (List ℕ)
 file_lines f =
-    flat_map (protocol_lines f.names) f.protocols ++ map (service_line f.names) f.services ++ flat_map (proc_lines f) f.procs ++ main_lines f
+    header_lines f.header ++ flat_map (protocol_lines f.names) f.protocols ++ map (service_line f.names) f.services ++ flat_map (proc_lines f) f.procs ++ main_lines f
 
 -- a line with its end, a line feed
 abbrev pub ended : List ℕ → List ℕ

@@ -5,12 +5,12 @@ ghost use Rattle.std.specs.List.{flat_map};
 ghost use Rattle.chor_print.specs.Text.{canonical_text};
 ghost use Rattle.chor_print.specs.Parts.{protocol_text, service_text, proc_text};
 
-use crate::unit::{put_main, put_proc, put_protocol, put_service};
+use crate::unit::{put_header, put_main, put_proc, put_protocol, put_service};
 use chor_base::{Memory, put_bytes};
 use chor_tree::File;
 use std::alloc::Global;
 
-/// Appends the canonical text of a file: its protocols, its services, its procedures and `main`, in
+/// Appends the canonical text of a file: its header, if it has one, its protocols, its services, its procedures and `main`, in
 /// lines that end with a line feed. What isn't in the tables of the file adds no bytes.
 pub fn print(alloc: Global, file: &File, out: &mut Vec<u8>) -> Result<(), Memory>
     ensures ok { OnOk result (out.new.items ≡ out.old.items ++ canonical_text file.now) }
@@ -25,6 +25,7 @@ pub fn print(alloc: Global, file: &File, out: &mut Vec<u8>) -> Result<(), Memory
 fn put_file(out: &mut Vec<u8>, alloc: Global, file: &File) -> Result<(), Memory>
     ensures { OnOk result (out.new.items ≡ out.old.items ++ canonical_text file.now) }
 {
+    put_header(out, alloc, &file.header)?;
     put_protocols(out, file)?;
     put_services(out, file)?;
     put_procs(out, alloc, file)?;

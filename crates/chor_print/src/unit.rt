@@ -1,14 +1,40 @@
-//! Protocols, services, procedures and main.
+//! Headers, protocols, services, procedures and main.
 
 ghost use Rattle.std.specs.Prelude.{◌≡◌, ◌++◌, OnOk, codes, map};
 ghost use Rattle.chor_print.specs.Text.{step_text, state_line, roles_text, protocol_head};
-ghost use Rattle.chor_print.specs.Parts.{line_at, lines_at, protocol_text, service_text, proc_text, main_text};
+ghost use Rattle.chor_print.specs.Parts.{line_at, lines_at, capacity_text, header_text, protocol_text, service_text, proc_text, main_text};
 
 use crate::block::put_body;
 use crate::piece::{Piece, put_after, put_list, put_list_after};
-use chor_base::{Memory, Names, put_bytes};
-use chor_tree::{File, Named, Proc, ProtoStep, Protocol, Service, State};
+use chor_base::{Memory, Names, put_bytes, put_number};
+use chor_tree::{File, Header, Named, Proc, ProtoStep, Protocol, Service, State};
 use std::alloc::Global;
+
+/// Appends a header, `chor 2;` and the capacity each on a line of its own. The first version has
+/// none.
+pub fn put_header(out: &mut Vec<u8>, alloc: Global, header: &Header) -> Result<(), Memory>
+    ensures { OnOk result (out.new.items ≡ out.old.items ++ header_text header.now) }
+{
+    if header.version == 2 {
+        put_bytes(out, b"chor 2;\n")?;
+        put_capacity(out, alloc, header.capacity)
+    } else {
+        Ok(())
+    }
+}
+
+fn put_capacity(out: &mut Vec<u8>, alloc: Global, capacity: Option<u32>) -> Result<(), Memory>
+    ensures { OnOk result (out.new.items ≡ out.old.items ++ capacity_text capacity) }
+{
+    match capacity {
+        Some(number) => {
+            put_bytes(out, b"capacity ")?;
+            put_number(out, alloc, number as u64)?;
+            put_bytes(out, b";\n")
+        }
+        None => Ok(()),
+    }
+}
 
 /// Appends a protocol, each state on a line of its own.
 pub fn put_protocol(out: &mut Vec<u8>, names: &Names, protocol: &Protocol) -> Result<(), Memory>

@@ -6,6 +6,7 @@ use Rattle.std.proofs.Math.Dec.{ltb}
 use Rattle.std.proofs.lemmas.Bool.{and_parts, ltb-true, eqb-true}
 use Rattle.std.proofs.lemmas.List.Elements.{All-nil, All-cons}
 use Rattle.std.proofs.lemmas.List.Sums.{sum_by-cons}
+use Rattle.chor_tree.specs.Headers.{no_header}
 use Rattle.chor_tree.specs.declared.tree.NodeId.{NodeId}
 use Rattle.chor_tree.specs.declared.tree.Node.{Node}
 use Rattle.chor_tree.specs.Children.{children_of, IsClosed}
@@ -70,6 +71,7 @@ stand_once (x ∷ xs) h id = go (stand_once xs (and_parts _ _ h).1 id) (x.0 == i
 -- what the file of a source holds
 abbrev pub contents_in : Source → Contents
 contents_in s = record {
+  header = no_header;
   names = words;
   texts = [];
   protocols = [];
@@ -88,5 +90,5 @@ pub made : (s : Source) → in_order 0 (nodes_of s) ≡ true
     → IsMade s
 made s order numbered filled begin apart = record {
   closed = closed_table (nodes_of s) order;
-  kept = record { numbered = numbered; filled = filled; begin = begin; once = stand_once (bodies_of (contents_in s) ++ followers_in (nodes_of s)) apart };
+  kept = record { header = refl; numbered = numbered; filled = filled; begin = begin; once = stand_once (bodies_of (contents_in s) ++ followers_in (nodes_of s)) apart };
 }

@@ -28,7 +28,7 @@ named n col = record { name = record { 0 = n }; place = record { line = 1; col =
 
 module _ (f : File) (e : Expr) (next : NodeId) where
   -- main (p, p) { end }
-  twice : (kept : Keeps f.names f.texts [] [] [] (named 0 7 ∷ named 0 10 ∷ []) f.tree.nodes f.body)
+  twice : (kept : Keeps f.header f.names f.texts [] [] [] (named 0 7 ∷ named 0 10 ∷ []) f.tree.nodes f.body)
       → declaration_faults (record f { protocols = []; services = []; procs = []; processes = named 0 7 ∷ named 0 10 ∷ []; kept = kept }) ≡ fault N2 (at 10) ∷ []
   unfolding named at
   twice kept = refl
@@ -39,7 +39,7 @@ module _ (f : File) (e : Expr) (next : NodeId) where
   not_in_scope = refl
 
   -- main (p) { p.x := host far(3, 10); p show x; end }, with a function of another name
-  no_function : (kept : Keeps ((112 ∷ []) ∷ (102 ∷ []) ∷ []) f.texts f.protocols f.services f.procs f.processes f.tree.nodes f.body)
+  no_function : (kept : Keeps f.header ((112 ∷ []) ∷ (102 ∷ []) ∷ []) f.texts f.protocols f.services f.procs f.processes f.tree.nodes f.body)
       → node_faults (record f { names = (112 ∷ []) ∷ (102 ∷ []) ∷ []; kept = kept }) ((103 ∷ []) ∷ []) (record { processes = record { 0 = 0 } ∷ []; sessions = [] }) (Host (named 0 12) (record { 0 = 2 }) (named 1 24) e e next) ≡ fault N1 (at 24) ∷ []
   unfolding named at
   no_function kept = refl
@@ -57,7 +57,7 @@ service active serve = record { name = named 20 39; protocol = named 10 43; acti
 
 module _ (f : File) (next : NodeId) where
   abbrev IsKeptWith : List Named → List Named → Type 0
-  IsKeptWith active serve = Keeps f.names f.texts (one_protocol ∷ []) (service active serve ∷ []) [] (named 0 70 ∷ named 1 73 ∷ []) f.tree.nodes f.body
+  IsKeptWith active serve = Keeps f.header f.names f.texts (one_protocol ∷ []) (service active serve ∷ []) [] (named 0 70 ∷ named 1 73 ∷ []) f.tree.nodes f.body
 
   with_service : (active serve : List Named) → IsKeptWith active serve → File
   with_service active serve kept = record f { protocols = one_protocol ∷ []; services = service active serve ∷ []; procs = []; processes = named 0 70 ∷ named 1 73 ∷ []; kept = kept }

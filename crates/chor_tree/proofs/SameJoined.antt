@@ -11,7 +11,7 @@ use Rattle.chor_tree.specs.declared.protocol.Payload.TheVariants as payload
 use Rattle.chor_tree.specs.declared.protocol.ProtoStep.TheVariants as step
 use Rattle.chor_tree.specs.Source.{Starts, Sends, Selects, Gives, Sets, Asks, Shows, Then, Either, Calls, Ends, source_of}
 use Rattle.chor_tree.specs.Same.{Same, same_named, same_part, same_payload, same_arm, same_step, same_state, same_protocol, same_service, same_variable, same_process_param, same_holder, same_session_param, same_value, same_term, same_statement, same_block, same_procedure, same_source, same_words, same_texts, same_files}
-use Rattle.chor_tree.proofs.SameLaws.{two, three, four, five, all_two, all_three, all_four, all_five, same_bytes, found_tells, int_tells, bool_tells, sort_tells, unary_tells, binary_tells, Turned, Joined, all_joined, equal_turned, equal_joined, bytes_own, found_own, number_own, int_own, bool_own, sort_own, unary_own, binary_own, source_own}
+use Rattle.chor_tree.proofs.SameLaws.{two, three, four, five, six, all_two, all_three, all_four, all_five, all_six, same_bytes, found_tells, int_tells, bool_tells, sort_tells, unary_tells, binary_tells, Turned, Joined, all_joined, equal_turned, equal_joined, bytes_own, found_own, number_own, header_joined, int_own, bool_own, sort_own, unary_own, binary_own, source_own}
 use Rattle.chor_tree.proofs.SameTurned.{source_turned}
 
 -- ---- joined
@@ -208,14 +208,15 @@ module _ {n m l : Same NameId} {t u w : Same ℕ} (name_joined : Joined n m l) (
 
   pub source_joined : Joined (same_source n t) (same_source m u) (same_source l w)
   source_joined x y z h j =
-      let a = five h in
-      let b = five j in
-      all_five
-      (all_joined protocol_joined x.items.protocols y.items.protocols z.items.protocols a.0 b.0)
-      (all_joined service_joined x.items.services y.items.services z.items.services a.1 b.1)
-      (all_joined procedure_joined x.items.procedures y.items.procedures z.items.procedures a.2 b.2)
-      (all_joined named_joined x.processes y.processes z.processes a.3 b.3)
-      (block_joined x.body y.body z.body a.4 b.4)
+      let a = six h in
+      let b = six j in
+      all_six
+      (header_joined x.header y.header z.header a.0 b.0)
+      (all_joined protocol_joined x.items.protocols y.items.protocols z.items.protocols a.1 b.1)
+      (all_joined service_joined x.items.services y.items.services z.items.services a.2 b.2)
+      (all_joined procedure_joined x.items.procedures y.items.procedures z.items.procedures a.3 b.3)
+      (all_joined named_joined x.processes y.processes z.processes a.4 b.4)
+      (block_joined x.body y.body z.body a.5 b.5)
 
 -- ---- files
 

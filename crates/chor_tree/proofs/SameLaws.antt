@@ -17,7 +17,7 @@ use Rattle.chor_base.specs.Expr.{Constant, Variable, Unary, Binary, int_same, bo
 use Rattle.chor_tree.specs.declared.protocol.Payload.TheVariants as payload
 use Rattle.chor_tree.specs.declared.protocol.ProtoStep.TheVariants as step
 use Rattle.chor_tree.specs.Source.{Starts, Sends, Selects, Gives, Sets, Asks, Shows, Then, Either, Calls, Ends}
-use Rattle.chor_tree.specs.Same.{Same, all_same, same_named, same_part, same_sort, same_payload, same_arm, same_step, same_state, same_protocol, same_service, same_variable, same_process_param, same_holder, same_session_param, same_value, same_unary, number_of_binary, same_binary, same_term, same_statement, same_block, same_procedure, same_source, same_found}
+use Rattle.chor_tree.specs.Same.{Same, all_same, same_named, same_part, same_sort, same_payload, same_arm, same_step, same_state, same_protocol, same_service, same_variable, same_process_param, same_holder, same_session_param, same_value, same_unary, number_of_binary, same_binary, same_term, same_statement, same_block, same_procedure, same_source, same_found, same_capacity, same_header}
 
 -- ---- what holds together, and each of it
 
@@ -45,6 +45,12 @@ all_four h k l m = both_true (all_three h k l) m
 pub all_five : {a b c d e : Bool} → a ≡ true → b ≡ true → c ≡ true → d ≡ true → e ≡ true → (a && b && c && d && e) ≡ true
 all_five h k l m o = both_true (all_four h k l m) o
 
+pub six : {a b c d e f : Bool} → (a && b && c && d && e && f) ≡ true → (a ≡ true) × (b ≡ true) × (c ≡ true) × (d ≡ true) × (e ≡ true) × (f ≡ true)
+six h = let x = two h in let y = five x.0 in (y.0, y.1, y.2, y.3, y.4, x.1)
+
+pub all_six : {a b c d e f : Bool} → a ≡ true → b ≡ true → c ≡ true → d ≡ true → e ≡ true → f ≡ true → (a && b && c && d && e && f) ≡ true
+all_six h k l m o p = both_true (all_five h k l m o) p
+
 -- ---- what the tests of bytes, numbers and operators tell
 
 pub same_bytes : (xs ys : List ℕ) → bytes_eq xs ys ≡ true → xs ≡ ys
@@ -54,6 +60,11 @@ pub found_tells : (x y : Option (List ℕ)) → same_found x y ≡ true → x �
 found_tells (Some x) (Some y) h = ap Some (same_bytes x y h)
 found_tells None None h = refl
 found_tells _ _ h = absurd (false≢true h)
+
+capacity_tells : (x y : Option ℕ) → same_capacity x y ≡ true → x ≡ y
+capacity_tells (Some c) (Some d) h = ap Some (eqb-true c d h)
+capacity_tells None None h = refl
+capacity_tells _ _ h = absurd (false≢true h)
 
 pub int_tells : (y z : ℤ) → int_same y z ≡ true → y ≡ z
 int_tells (pos a) (pos b) h = ap pos (eqb-true a b h)
@@ -140,6 +151,26 @@ found_own None = refl
 
 pub number_own : Reflexive (λ (x : ℕ) (y : ℕ). x == y)
 number_own x = (Decides-eqb x x).1 refl
+
+capacity_own : Reflexive same_capacity
+capacity_own (Some c) = number_own c
+capacity_own None = refl
+
+header_own : Reflexive same_header
+header_own h = all_two (number_own h.version) (capacity_own h.capacity)
+
+pub header_turned : Turned same_header same_header
+header_turned h k e =
+    let a = two e in
+    all_two (equal_turned number_own eqb-true h.version k.version a.0) (equal_turned capacity_own capacity_tells h.capacity k.capacity a.1)
+
+pub header_joined : Joined same_header same_header same_header
+header_joined h k l e d =
+    let a = two e in
+    let b = two d in
+    all_two
+    (equal_joined number_own eqb-true h.version k.version l.version a.0 b.0)
+    (equal_joined capacity_own capacity_tells h.capacity k.capacity l.capacity a.1 b.1)
 
 pub int_own : Reflexive int_same
 int_own (pos a) = number_own a
@@ -240,7 +271,8 @@ module _ (n : Same NameId) (t : Same ℕ) (name_own : Reflexive n) (text_own : R
 
   pub source_own : Reflexive (same_source n t)
   source_own x =
-      all_five
+      all_six
+      (header_own x.header)
       (all_own (same_protocol n) protocol_own x.items.protocols)
       (all_own (same_service n) service_own x.items.services)
       (all_own (same_procedure n t) procedure_own x.items.procedures)

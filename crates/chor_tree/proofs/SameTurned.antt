@@ -8,7 +8,7 @@ use Rattle.chor_tree.specs.declared.protocol.Payload.TheVariants as payload
 use Rattle.chor_tree.specs.declared.protocol.ProtoStep.TheVariants as step
 use Rattle.chor_tree.specs.Source.{Starts, Sends, Selects, Gives, Sets, Asks, Shows, Then, Either, Calls, Ends}
 use Rattle.chor_tree.specs.Same.{Same, same_named, same_part, same_payload, same_arm, same_step, same_state, same_protocol, same_service, same_variable, same_process_param, same_holder, same_session_param, same_value, same_term, same_statement, same_block, same_procedure, same_source}
-use Rattle.chor_tree.proofs.SameLaws.{two, three, four, five, all_two, all_three, all_four, all_five, int_tells, bool_tells, sort_tells, unary_tells, binary_tells, Turned, all_turned, equal_turned, number_own, int_own, bool_own, sort_own, unary_own, binary_own}
+use Rattle.chor_tree.proofs.SameLaws.{two, three, four, five, six, all_two, all_three, all_four, all_five, all_six, int_tells, bool_tells, sort_tells, unary_tells, binary_tells, Turned, all_turned, equal_turned, number_own, header_turned, int_own, bool_own, sort_own, unary_own, binary_own}
 
 -- ---- turned round
 
@@ -146,10 +146,11 @@ module _ {n m : Same NameId} {t u : Same ℕ} (name_turned : Turned n m) (text_t
 
   pub source_turned : Turned (same_source n t) (same_source m u)
   source_turned x y h =
-      let a = five h in
-      all_five
-      (all_turned protocol_turned x.items.protocols y.items.protocols a.0)
-      (all_turned service_turned x.items.services y.items.services a.1)
-      (all_turned procedure_turned x.items.procedures y.items.procedures a.2)
-      (all_turned named_turned x.processes y.processes a.3)
-      (block_turned x.body y.body a.4)
+      let a = six h in
+      all_six
+      (header_turned x.header y.header a.0)
+      (all_turned protocol_turned x.items.protocols y.items.protocols a.1)
+      (all_turned service_turned x.items.services y.items.services a.2)
+      (all_turned procedure_turned x.items.procedures y.items.procedures a.3)
+      (all_turned named_turned x.processes y.processes a.4)
+      (block_turned x.body y.body a.5)

@@ -4,6 +4,7 @@ use Rattle.chor_tree.specs.Kept.{Contents}
 
 abbrev pub contents_of : File → Contents
 contents_of f = record {
+  header = f.header;
   names = f.names;
   texts = f.texts;
   protocols = f.protocols;

@@ -1,4 +1,4 @@
--- What each file keeps (this project's own): its numbers are in its tables, the lists of which the grammar asks at least one item
+-- What each file keeps (this project's own): its header may be declared, its numbers are in its tables, the lists of which the grammar asks at least one item
 -- have one, and no node is reached twice. `n` tells which names are in the table, and `t` which texts.
 use Rattle.std.specs.Prelude.{ℕ, ◌≡◌, ◌≤◌, ◌==◌, ◌&&◌, ◌||◌, Bool, true, false, not, List, ◌∷◌, ◌++◌, map, length, nat_lt}
 use Rattle.std.specs.List.{flat_map, list_all, count_by}
@@ -23,6 +23,8 @@ use Rattle.chor_tree.specs.declared.tree.Part.{Part}
 use Rattle.chor_tree.specs.declared.tree.Form.{Form}
 use Rattle.chor_tree.specs.declared.tree.Form.TheVariants.{Start, Value, Label, Give, Set, Host, Show, If, Call, End}
 use Rattle.chor_tree.specs.Children.{children_of}
+use Rattle.chor_tree.specs.declared.header.Header.{Header}
+use Rattle.chor_tree.specs.Headers.{header_kept}
 
 -- ---- the names and texts of these are there
 
@@ -116,6 +118,7 @@ times id ids = count_by (λ c. c.0 == id.0) ids
 
 -- what a file holds
 pub record Contents : Type 0 where
+  pub header : Header
   pub names : List (List ℕ)
   pub texts : List (List ℕ)
   pub protocols : List Protocol
@@ -150,6 +153,8 @@ bodies_of f = f.body ∷ map (λ p. p.body) f.procs
 
 -- What a file keeps; that what follows a node is in the table is kept by its tree
 pub record IsKept (f : Contents) : Type 0 where
+  -- the version is 1 or 2, and a capacity of version 2 is from 1 to 1000000
+  pub header : header_kept f.header ≡ true
   pub numbered : is_numbered f ≡ true
   pub filled : is_filled f ≡ true
   -- bodies begin in the table
@@ -157,6 +162,6 @@ pub record IsKept (f : Contents) : Type 0 where
   -- a node begins one body or follows one other node, and no more
   pub once : (id : NodeId) → times id (bodies_of f ++ followers_in f.nodes) ≤ 1
 
-abbrev pub Keeps : (names texts : List (List ℕ)) → List Protocol → List Service → List Proc → List Named → List Node → NodeId → Type 0
-Keeps names texts protocols services procs processes nodes body =
-    IsKept (record { names = names; texts = texts; protocols = protocols; services = services; procs = procs; processes = processes; nodes = nodes; body = body })
+abbrev pub Keeps : Header → (names texts : List (List ℕ)) → List Protocol → List Service → List Proc → List Named → List Node → NodeId → Type 0
+Keeps header names texts protocols services procs processes nodes body =
+    IsKept (record { header = header; names = names; texts = texts; protocols = protocols; services = services; procs = procs; processes = processes; nodes = nodes; body = body })

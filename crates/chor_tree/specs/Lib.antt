@@ -1,4 +1,5 @@
 pub mod Children
+pub mod Headers
 pub mod Kept
 pub mod Contents
 pub mod Names

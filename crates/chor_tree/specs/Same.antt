@@ -17,6 +17,7 @@ use Rattle.chor_tree.specs.declared.file.Service.{Service}
 use Rattle.chor_tree.specs.declared.file.ProcParam.{ProcParam}
 use Rattle.chor_tree.specs.declared.file.SessionParam.{SessionParam}
 use Rattle.chor_tree.specs.declared.file.File.{File}
+use Rattle.chor_tree.specs.declared.header.Header.{Header}
 use Rattle.chor_tree.specs.declared.protocol.Payload.{Payload}
 use Rattle.chor_tree.specs.declared.protocol.Payload.TheVariants as payload
 use Rattle.chor_tree.specs.declared.protocol.ProtoArm.{ProtoArm}
@@ -37,6 +38,16 @@ all_same p [] [] = true
 all_same p (x ∷ xs) (y ∷ ys) = p x y && all_same p xs ys
 all_same p [] (y ∷ ys) = false
 all_same p (x ∷ xs) [] = false
+
+-- ---- headers: the same version, and the same capacity or none
+
+abbrev pub same_capacity : Same (Option ℕ)
+same_capacity (Some c) (Some d) = c == d
+same_capacity None None = true
+same_capacity _ _ = false
+
+abbrev pub same_header : Same Header
+same_header h k = h.version == k.version && same_capacity h.capacity k.capacity
 
 -- ---- names and texts
 
@@ -160,7 +171,8 @@ same_procedure n t p q =
 
 abbrev pub same_source : Same NameId → Same ℕ → Same Source
 same_source n t s r =
-    all_same (same_protocol n) s.items.protocols r.items.protocols && all_same (same_service n) s.items.services r.items.services
+    same_header s.header r.header
+    && all_same (same_protocol n) s.items.protocols r.items.protocols && all_same (same_service n) s.items.services r.items.services
     && all_same (same_procedure n t) s.items.procedures r.items.procedures
     && all_same (same_named n) s.processes r.processes && same_block n t s.body r.body
 

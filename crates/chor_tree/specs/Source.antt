@@ -5,6 +5,7 @@ use Rattle.chor_base.specs.declared.names.NameId.{NameId}
 use Rattle.chor_base.specs.declared.rule.Place.{Place}
 use Rattle.chor_base.specs.Expr.{Term, term_of}
 use Rattle.chor_tree.specs.declared.file.File.{File}
+use Rattle.chor_tree.specs.declared.header.Header.{Header}
 use Rattle.chor_tree.specs.declared.file.Named.{Named}
 use Rattle.chor_tree.specs.declared.file.Service.{Service}
 use Rattle.chor_tree.specs.declared.file.Proc.{Proc}
@@ -64,6 +65,7 @@ pub record Items : Type 0 where
 
 -- a whole source
 pub record Source : Type 0 where
+  pub header : Header
   pub items : Items
   pub processes : List Named
   pub body : Block
@@ -113,6 +115,7 @@ body_of f id = block_in (blocks_of f.tree.nodes) id
 -- The source that a file is
 abbrev pub source_of : File → Source
 source_of f = record {
+  header = f.header;
   items = record {
     protocols = f.protocols;
     services = f.services;

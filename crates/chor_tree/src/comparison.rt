@@ -21,7 +21,8 @@ use crate::file::File;
 pub fn same(a: &File, b: &File) -> bool
     ensures { result ≡ same_files a.now b.now }
 {
-    a.protocols.says(&b.protocols, a, b)
+    a.header.says(&b.header, a, b)
+        && a.protocols.says(&b.protocols, a, b)
         && a.services.says(&b.services, a, b)
         && a.procs.says(&b.procs, a, b)
         && a.processes.says(&b.processes, a, b)

@@ -2,6 +2,7 @@
 
 ghost use Rattle.chor_tree.specs.Kept.{Keeps};
 
+use crate::header::Header;
 use crate::protocol::Protocol;
 use crate::tree::{NodeId, Tree};
 use chor_base::{List, NameId, Names, Place, Sort, Texts};
@@ -13,11 +14,12 @@ pub struct Named {
     pub place: Place,
 }
 
-/// A whole source: its tables of names and texts, what it declares, and its choreography.
+/// A whole source: its header, its tables of names and texts, what it declares, and its choreography.
 ///
-/// Its numbers are in its tables, it has an item in each list for which the grammar asks one, and a
+/// Its version is 1 or 2, and only version 2 has a capacity, from 1 to 1,000,000. Its numbers are in its tables, it has an item in each list for which the grammar asks one, and a
 /// node begins one body or follows one other node, and no more.
 pub struct File {
+    pub header: Header,
     pub names: Names,
     pub texts: Texts,
     pub protocols: List<Protocol>,
@@ -29,12 +31,13 @@ pub struct File {
     pub tree: Tree,
     /// Where the body of `main` begins.
     pub body: NodeId,
-    ghost kept: { Keeps names texts protocols services procs processes tree.nodes body },
+    ghost kept: { Keeps header names texts protocols services procs processes tree.nodes body },
 }
 
 impl Drop for File {
     fn drop(self) {
         let File {
+            header: _,
             names: _,
             texts: _,
             protocols: _,

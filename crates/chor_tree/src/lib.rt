@@ -3,6 +3,7 @@
 
 mod comparison;
 mod file;
+mod header;
 mod laws;
 mod protocol;
 mod tree;
@@ -10,6 +11,7 @@ mod walks;
 
 pub use comparison::same;
 pub use file::{File, Named, Proc, ProcParam, Service, SessionParam};
+pub use header::Header;
 pub use laws::same_is_an_equivalence;
 pub use protocol::{Payload, ProtoArm, ProtoStep, Protocol, State};
 pub use tree::{Form, Node, NodeId, Part, Tree};

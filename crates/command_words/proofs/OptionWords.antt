@@ -1,5 +1,6 @@
 -- Options, one after another: what is left of them, and that words tell one number of each.
 use Rattle.std.proofs.Common.{◌≡◌, ◌<◌, ◌≤◌, ◌-◌, ◌^◌, ◌∙◌, ℕ, List, [], ◌∷◌, ◌++◌, length, get_or, take, drop, Option, Some, None, true, false, refl, sym, ap, subst, arith, append-nil}
+use mathlib.Core.Bool.{Bool-set}
 use Rattle.std.specs.Prelude.{◌↔◌, ◌==◌, cond, MatchOption}
 use Rattle.std.specs.List.{AllByRecursion}
 use Rattle.std.proofs.lemmas.Bool.{eqb-true}
@@ -11,12 +12,13 @@ use Rattle.std.proofs.Math.Path.{subst₂}
 use Rattle.std.proofs.Math.Bridge.{le_prop}
 use Rattle.command_words.specs.declared.command_name.CommandName.{CommandName}
 use Rattle.command_words.specs.declared.option_name.OptionName.{OptionName}
-use Rattle.command_words.specs.declared.option_name.OptionName.TheVariants.{Seed, Steps, Workers}
+use Rattle.command_words.specs.declared.option_name.OptionName.TheVariants.{Seed, Steps, Workers, Capacity}
 use Rattle.command_words.specs.declared.options.Options.{Options}
 use Rattle.command_words.specs.declared.settings.Setting.{Setting}
 use Rattle.command_words.specs.declared.settings.Settings.{Settings}
-use Rattle.command_words.specs.Tables.{option_word}
-use Rattle.command_words.specs.Options.{words_of, MaySet, is_same, set_to, numbers_of, IsValue, number_in, AreOptions, IsSetting, IsNoSetting, set_in, IsAmong, Adds, AreBounded}
+use Rattle.command_words.specs.Between.{is_capacity}
+use Rattle.command_words.specs.Tables.{option_word, least_of, most_of}
+use Rattle.command_words.specs.Options.{IsBetween, words_of, MaySet, is_same, set_to, numbers_of, IsValue, number_in, AreOptions, IsSetting, IsNoSetting, set_in, IsAmong, Adds, AreBounded}
 use Rattle.command_words.proofs.Names.{same_option_name, most_small}
 
 -- two words are one setting
@@ -44,6 +46,7 @@ set_itself s = go s.name s.number
     go Seed n = refl
     go Steps n = refl
     go Workers n = refl
+    go Capacity n = refl
 
 module _ (command : CommandName) (set : Settings) (option number : List ℕ) (rest : List (List ℕ)) (options : Options) where
   -- the first of the settings, and those after it
@@ -131,16 +134,20 @@ same_settings command (s ∷ ss) (t ∷ ts) a b e =
     let later : ss ≡ ts = same_settings command ss ts a.1 b.1 (cc) in
     λ i. first i ∷ later i
 
-same_value : (name : OptionName) (numbers : List ℕ) (v w : ℕ) → IsValue name numbers v → IsValue name numbers w → v ≡ w
+same_value : (name : OptionName) (numbers : List ℕ) (v w : Option ℕ) → IsValue name numbers v → IsValue name numbers w → v ≡ w
 same_value name [] v w a b = a ∙ sym b
 same_value name (n ∷ []) v w a b = a ∙ sym b
 same_value name (n ∷ m ∷ ns) v w a b = absurd a
 
 -- options are the same where their numbers are
-same_fields : (o p : Options) → o.seed ≡ p.seed → o.steps ≡ p.steps → o.workers ≡ p.workers → o ≡ p
-same_fields o p e d c =
-    subst (λ (w : ℕ). (small : p.seed < 2 ^ 32) (few : p.steps ≤ 1000000) (crew : w ≤ 16) → o ≡ record { seed = p.seed; steps = p.steps; workers = w; small = small; few = few; crew = crew }) c
-    (subst₂ (λ (s t : ℕ). (small : s < 2 ^ 32) (few : t ≤ 1000000) (crew : o.workers ≤ 16) → o ≡ record { seed = s; steps = t; workers = o.workers; small = small; few = few; crew = crew }) e d here) p.small p.few p.crew
+same_fields : (o p : Options) → o.seed ≡ p.seed → o.steps ≡ p.steps → o.workers ≡ p.workers → o.capacity ≡ p.capacity → o ≡ p
+same_fields o p e d c q =
+    subst (λ (k : Option ℕ). (small : p.seed < 2 ^ 32) (few : p.steps ≤ 1000000) (crew : p.workers ≤ 16) (room : is_capacity k ≡ true)
+    → o ≡ record { seed = p.seed; steps = p.steps; workers = p.workers; capacity = k; small = small; few = few; crew = crew; room = room }) q
+    (subst (λ (w : ℕ). (small : p.seed < 2 ^ 32) (few : p.steps ≤ 1000000) (crew : w ≤ 16) (room : is_capacity o.capacity ≡ true)
+    → o ≡ record { seed = p.seed; steps = p.steps; workers = w; capacity = o.capacity; small = small; few = few; crew = crew; room = room }) c
+    (subst₂ (λ (s t : ℕ). (small : s < 2 ^ 32) (few : t ≤ 1000000) (crew : o.workers ≤ 16) (room : is_capacity o.capacity ≡ true)
+    → o ≡ record { seed = s; steps = t; workers = o.workers; capacity = o.capacity; small = small; few = few; crew = crew; room = room }) e d here)) p.small p.few p.crew p.room
   where
     one_small : IsProp (o.seed < 2 ^ 32)
     one_small = hlevel le_prop
@@ -151,12 +158,28 @@ same_fields o p e d c =
     one_crew : IsProp (o.workers ≤ 16)
     one_crew = hlevel le_prop
 
-    here : (small : o.seed < 2 ^ 32) (few : o.steps ≤ 1000000) (crew : o.workers ≤ 16) → o ≡ record { seed = o.seed; steps = o.steps; workers = o.workers; small = small; few = few; crew = crew }
-    here small few crew i = record { seed = o.seed; steps = o.steps; workers = o.workers; small = one_small o.small small i; few = one_few o.few few i; crew = one_crew o.crew crew i }
+    one_room : IsProp (is_capacity o.capacity ≡ true)
+    one_room = Bool-set _ _
+
+    here : (small : o.seed < 2 ^ 32) (few : o.steps ≤ 1000000) (crew : o.workers ≤ 16) (room : is_capacity o.capacity ≡ true)
+        → o ≡ record { seed = o.seed; steps = o.steps; workers = o.workers; capacity = o.capacity; small = small; few = few; crew = crew; room = room }
+    here small few crew room i = record {
+      seed = o.seed;
+      steps = o.steps;
+      workers = o.workers;
+      capacity = o.capacity;
+      small = one_small o.small small i;
+      few = one_few o.few few i;
+      crew = one_crew o.crew crew i;
+      room = one_room o.room room i;
+    }
 
 pub same_options : (command : CommandName) (words : List (List ℕ)) (o p : Options) → AreOptions command words o → AreOptions command words p → o ≡ p
-same_options command words o p a b = same_fields o p (number Seed) (number Steps) (number Workers)
+same_options command words o p a b = same_fields o p (some_number (number Seed)) (some_number (number Steps)) (some_number (number Workers)) (number Capacity)
   where
+    some_number : {m n : ℕ} → Some m ≡ Some n → m ≡ n
+    some_number e = cc
+
     settings : b.settings ≡ a.settings
     settings = same_settings command b.settings a.settings b.allowed a.allowed (sym b.words_are ∙ a.words_are)
 
@@ -169,12 +192,13 @@ same_options command words o p a b = same_fields o p (number Seed) (number Steps
 
 -- no option is set
 abbrev unset : Settings
-unset = record { seed = None; steps = None; workers = None }
+unset = record { seed = None; steps = None; workers = None; capacity = None }
 
 nothing_in : (name : OptionName) → set_in name unset ≡ None
 nothing_in Seed = refl
 nothing_in Steps = refl
 nothing_in Workers = refl
+nothing_in Capacity = refl
 
 pub nothing_set : (command : CommandName) (words : List (List ℕ)) (options : Options) → AreOptions command words options ↔ Completes command unset words options
 nothing_set command words options = (
@@ -184,6 +208,31 @@ nothing_set command words options = (
 
 pub nothing_bounded : AreBounded unset
 nothing_bounded name x e = let none = sym (nothing_in name) ∙ e in absurd cc
+
+-- one option more is set, within its bounds
+pub seed_bounded : (s : Settings) (n : ℕ) → IsBetween (least_of Seed) (most_of Seed) n → AreBounded s → AreBounded (record { seed = Some n; steps = s.steps; workers = s.workers; capacity = s.capacity })
+seed_bounded s n within b Seed x e = let same : n ≡ x = cc in subst (IsBetween (least_of Seed) (most_of Seed)) same within
+seed_bounded s n within b Steps x e = b Steps x e
+seed_bounded s n within b Workers x e = b Workers x e
+seed_bounded s n within b Capacity x e = b Capacity x e
+
+pub steps_bounded : (s : Settings) (n : ℕ) → IsBetween (least_of Steps) (most_of Steps) n → AreBounded s → AreBounded (record { seed = s.seed; steps = Some n; workers = s.workers; capacity = s.capacity })
+steps_bounded s n within b Seed x e = b Seed x e
+steps_bounded s n within b Steps x e = let same : n ≡ x = cc in subst (IsBetween (least_of Steps) (most_of Steps)) same within
+steps_bounded s n within b Workers x e = b Workers x e
+steps_bounded s n within b Capacity x e = b Capacity x e
+
+pub workers_bounded : (s : Settings) (n : ℕ) → IsBetween (least_of Workers) (most_of Workers) n → AreBounded s → AreBounded (record { seed = s.seed; steps = s.steps; workers = Some n; capacity = s.capacity })
+workers_bounded s n within b Seed x e = b Seed x e
+workers_bounded s n within b Steps x e = b Steps x e
+workers_bounded s n within b Workers x e = let same : n ≡ x = cc in subst (IsBetween (least_of Workers) (most_of Workers)) same within
+workers_bounded s n within b Capacity x e = b Capacity x e
+
+pub capacity_bounded : (s : Settings) (n : ℕ) → IsBetween (least_of Capacity) (most_of Capacity) n → AreBounded s → AreBounded (record { seed = s.seed; steps = s.steps; workers = s.workers; capacity = Some n })
+capacity_bounded s n within b Seed x e = b Seed x e
+capacity_bounded s n within b Steps x e = b Steps x e
+capacity_bounded s n within b Workers x e = b Workers x e
+capacity_bounded s n within b Capacity x e = let same : n ≡ x = cc in subst (IsBetween (least_of Capacity) (most_of Capacity)) same within
 
 -- a list of two items or more
 pairs : (l : List (List ℕ)) (a b : List ℕ) → 2 ≤ length l → a ≡ get_or l 0 a → b ≡ get_or l 1 b → l ≡ a ∷ b ∷ take (length l - 2) (drop 2 l)

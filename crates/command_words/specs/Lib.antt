@@ -1,3 +1,4 @@
+pub mod Between
 pub mod Tables
 pub mod Options
 pub mod Words

@@ -1,9 +1,9 @@
 -- The tables of commands and of options (this project's own).
-use Rattle.std.specs.Prelude.{ℕ, Bool, true, false, List, codes}
+use Rattle.std.specs.Prelude.{ℕ, Bool, true, false, List, Option, Some, None, codes}
 use Rattle.command_words.specs.declared.command_name.CommandName.{CommandName}
 use Rattle.command_words.specs.declared.command_name.CommandName.TheVariants.{Check, Fmt, Types, Project, Run, Exec, Link, Replay, Order, Conform, Resume, Gen}
 use Rattle.command_words.specs.declared.option_name.OptionName.{OptionName}
-use Rattle.command_words.specs.declared.option_name.OptionName.TheVariants.{Seed, Steps, Workers}
+use Rattle.command_words.specs.declared.option_name.OptionName.TheVariants.{Seed, Steps, Workers, Capacity}
 
 -- ---- commands
 
@@ -37,10 +37,12 @@ file_count Conform = 2
 file_count Resume = 2
 file_count Gen = 0
 
--- whether it takes an option: a run that goes on has no workers
+-- whether it takes an option: a source declares its own capacity, and a run that goes on has no workers
 abbrev pub takes : CommandName → OptionName → Bool
-takes Run option = true
 takes Exec option = true
+takes Run Capacity = false
+takes Run option = true
+takes Link Capacity = false
 takes Link option = true
 takes Resume Seed = true
 takes Resume Steps = true
@@ -53,21 +55,25 @@ abbrev pub option_word : OptionName → List ℕ
 option_word Seed = codes "--seed"
 option_word Steps = codes "--steps"
 option_word Workers = codes "--workers"
+option_word Capacity = codes "--capacity"
 
 -- the least number that it is set to
 abbrev pub least_of : OptionName → ℕ
 least_of Seed = 0
 least_of Steps = 1
 least_of Workers = 0
+least_of Capacity = 1
 
 -- the greatest
 abbrev pub most_of : OptionName → ℕ
 most_of Seed = 4294967295
 most_of Steps = 1000000
 most_of Workers = 16
+most_of Capacity = 1000000
 
--- its number where it isn't set
-abbrev pub default_of : OptionName → ℕ
-default_of Seed = 0
-default_of Steps = 100000
-default_of Workers = 0
+-- its number where it isn't set, if it has one then
+abbrev pub default_of : OptionName → Option ℕ
+default_of Seed = Some 0
+default_of Steps = Some 100000
+default_of Workers = Some 0
+default_of Capacity = None

@@ -91,8 +91,9 @@ impl CommandName {
         ensures { result ≡ takes self option }
     {
         match self {
-            CommandName::Run | CommandName::Exec | CommandName::Link => true,
-            CommandName::Resume => !matches!(option, OptionName::Workers),
+            CommandName::Exec => true,
+            CommandName::Run | CommandName::Link => !matches!(option, OptionName::Capacity),
+            CommandName::Resume => matches!(option, OptionName::Seed | OptionName::Steps),
             _ => false,
         }
     }

@@ -1,9 +1,9 @@
 //! The names of options.
 
-ghost use Rattle.std.specs.Prelude.{◌≡◌, ◌≤◌};
+ghost use Rattle.std.specs.Prelude.{◌≡◌, ◌≤◌, Some};
 ghost use Rattle.std.specs.Option.{option_to_list, ForSome};
 ghost use Rattle.command_words.specs.Tables.{option_word, least_of, most_of, default_of};
-ghost use Rattle.command_words.specs.Options.{IsValue};
+ghost use Rattle.command_words.specs.Options.{IsBetween, IsValue};
 ghost use Rattle.event_reader.specs.Readings.{IsReading};
 
 /// The name of an option that sets a number of a run.
@@ -12,9 +12,15 @@ pub enum OptionName {
     Seed,
     Steps,
     Workers,
+    Capacity,
 }
 
-const ALL: [OptionName; 3] = [OptionName::Seed, OptionName::Steps, OptionName::Workers];
+const ALL: [OptionName; 4] = [
+    OptionName::Seed,
+    OptionName::Steps,
+    OptionName::Workers,
+    OptionName::Capacity,
+];
 
 impl OptionName {
     /// The option with this word.
@@ -32,6 +38,7 @@ impl OptionName {
             OptionName::Seed => b"--seed",
             OptionName::Steps => b"--steps",
             OptionName::Workers => b"--workers",
+            OptionName::Capacity => b"--capacity",
         }
     }
 
@@ -41,7 +48,7 @@ impl OptionName {
     {
         match self {
             OptionName::Seed | OptionName::Workers => 0,
-            OptionName::Steps => 1,
+            OptionName::Steps | OptionName::Capacity => 1,
         }
     }
 
@@ -51,31 +58,19 @@ impl OptionName {
     {
         match self {
             OptionName::Seed => 4_294_967_295,
-            OptionName::Steps => 1_000_000,
+            OptionName::Steps | OptionName::Capacity => 1_000_000,
             OptionName::Workers => 16,
         }
     }
 
-    /// The number that it has, where it is set to this one or isn't set.
-    pub fn value(self, given: Option<u64>) -> u64
-        requires { ForSome given (λ n. n ≤ most_of self) }
-        ensures value { IsValue self (option_to_list given) result }
+    /// The number that it has, where it is set to this one, or isn't set and has this default.
+    #[tactic(auto, using(crate::proofs::Names::value_is, crate::proofs::Names::value_bounded))]
+    pub fn value(self, given: Option<u64>, default: u64) -> u64
+        requires default { default_of self ≡ Some default }
+        requires within { ForSome given (IsBetween (least_of self) (most_of self)) }
+        ensures value { IsValue self (option_to_list given) (Some result) }
         ensures bounded { result ≤ most_of self }
     {
-        match given {
-            Some(number) => number,
-            None => self.default(),
-        }
-    }
-
-    // Its number where it isn't set.
-    fn default(self) -> u64
-        ensures value { result ≡ default_of self }
-        ensures bounded { result ≤ most_of self }
-    {
-        match self {
-            OptionName::Seed | OptionName::Workers => 0,
-            OptionName::Steps => 100_000,
-        }
+        given.unwrap_or(default)
     }
 }

@@ -1,10 +1,12 @@
 //! Reading the options of a run.
 
-ghost use Rattle.std.specs.Prelude.{◌≤◌, MatchOption, IfSome};
-ghost use Rattle.std.specs.Option.{option_to_list};
+ghost use Rattle.std.specs.Prelude.{◌≡◌, true, MatchOption, IfSome};
+ghost use Rattle.std.specs.Option.{option_to_list, ForSome};
 ghost use Rattle.command_words.specs.declared.option_name.OptionName.{OptionName as NameOfOption};
-ghost use Rattle.command_words.specs.Tables.{most_of};
-ghost use Rattle.command_words.specs.Options.{AreOptions, AreNoOptions, IsSetting, IsNoSetting, IsValue, number_in, set_in, IsAmong, Adds, AreBounded};
+ghost use Rattle.command_words.specs.declared.option_name.OptionName.TheVariants.{Capacity};
+ghost use Rattle.command_words.specs.Between.{is_capacity};
+ghost use Rattle.command_words.specs.Tables.{least_of, most_of};
+ghost use Rattle.command_words.specs.Options.{AreOptions, AreNoOptions, IsSetting, IsNoSetting, IsValue, number_in, set_in, IsAmong, Adds, AreBounded, IsBetween};
 
 use crate::command_name::CommandName;
 use crate::numbers::number_between;
@@ -25,6 +27,7 @@ pub struct Settings {
     pub seed: Option<u64>,
     pub steps: Option<u64>,
     pub workers: Option<u64>,
+    pub capacity: Option<u64>,
 }
 
 /// The options that these words set, in any order, each at most once. It takes no memory.
@@ -35,6 +38,7 @@ pub fn options_of(command: CommandName, words: &[Word]) -> Option<Options>
         seed: None,
         steps: None,
         workers: None,
+        capacity: None,
     };
     let mut rest = words;
     while let [option, number, more @ ..] = rest {
@@ -64,7 +68,7 @@ fn setting_of(command: CommandName, option: &[u8], number: &[u8]) -> Option<Sett
 impl Settings {
     // These and one more, which isn't among them.
     fn with(self, setting: Setting) -> Option<Settings>
-        requires { setting.number ≤ most_of setting.name }
+        requires { IsBetween (least_of setting.name) (most_of setting.name) setting.number }
         ensures bounded { AreBounded self → IfSome result AreBounded }
         ensures added { MatchOption result (IsAmong self setting.name) (Adds self setting) }
     {
@@ -81,6 +85,10 @@ impl Settings {
                 workers: Some(setting.number),
                 ..self
             }),
+            OptionName::Capacity if self.capacity.is_none() => Some(Settings {
+                capacity: Some(setting.number),
+                ..self
+            }),
             _ => None,
         }
     }
@@ -91,9 +99,23 @@ impl Settings {
         ensures { (name : NameOfOption) → IsValue name (option_to_list (set_in name self)) (number_in name result) }
     {
         Options {
-            seed: OptionName::Seed.value(self.seed),
-            steps: OptionName::Steps.value(self.steps),
-            workers: OptionName::Workers.value(self.workers) as u32,
+            seed: OptionName::Seed.value(self.seed, 0),
+            steps: OptionName::Steps.value(self.steps, 100_000),
+            workers: OptionName::Workers.value(self.workers, 0) as u32,
+            capacity: capacity_of(self.capacity),
         }
+    }
+}
+
+// The capacity that the option is set to, if it is.
+#[tactic(auto, using(crate::proofs::Names::between_capacity))]
+fn capacity_of(given: Option<u64>) -> Option<u32>
+    requires { ForSome given (IsBetween 1 1000000) }
+    ensures value { IsValue Capacity (option_to_list given) result }
+    ensures bounded { is_capacity result ≡ true }
+{
+    match given {
+        Some(number) => Some(number as u32),
+        None => None,
     }
 }

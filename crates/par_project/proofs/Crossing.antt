@@ -29,6 +29,7 @@ use Rattle.endpoint_code.specs.contracts.code.CodeNode as code_node
 use Rattle.file_codes.specs.contracts.prepared.UnitCode as unit
 use Rattle.chor_tree.specs.contracts.file.Named as named
 use Rattle.chor_tree.specs.contracts.file.File as file
+use Rattle.chor_tree.specs.contracts.header.Header as header
 use Rattle.chor_tree.specs.contracts.file.Service as service
 use Rattle.chor_tree.specs.contracts.file.Proc as proc
 use Rattle.chor_tree.specs.contracts.file.ProcParam as param
@@ -60,6 +61,9 @@ place_sync = search sendable depth 20
 
 sort_sync : IsSync sort.the_row
 sort_sync = search sendable depth 20
+
+header_sync : IsSync header.the_row
+header_sync = search sendable depth 20
 
 form_sync : IsSync form.the_row
 form_sync =
@@ -145,20 +149,23 @@ proc_sync = declared_sync proc.the_type (named_sync, (listed_sync param.the_row 
 
 pub file_sync : IsSync file.the_row
 file_sync = declared_sync file.the_type (
-  as_row_sync name_table.the_field name_table_sync,
+  header_sync,
   (
-    as_row_sync text_table.the_field text_table_sync,
+    as_row_sync name_table.the_field name_table_sync,
     (
-      as_row_sync (list.the_field protocol.the_row) (list_sync protocol.the_row protocol_sync),
+      as_row_sync text_table.the_field text_table_sync,
       (
-        listed_sync service.the_row service_sync,
+        as_row_sync (list.the_field protocol.the_row) (list_sync protocol.the_row protocol_sync),
         (
-          listed_sync proc.the_row proc_sync,
+          listed_sync service.the_row service_sync,
           (
-            listed_sync named.the_row named_sync,
+            listed_sync proc.the_row proc_sync,
             (
-              tree_sync,
-              (id_sync, tt),
+              listed_sync named.the_row named_sync,
+              (
+                tree_sync,
+                (id_sync, tt),
+              ),
             ),
           ),
         ),

@@ -34,11 +34,11 @@ SameRunsAreWrittenAlike =
 -- a transcript of programs is one of a copy of them
 abbrev pub TranscriptsAgree : Type 0
 TranscriptsAgree =
-    (functions : List Function) (e e' : Endpoints) (seed steps : ℕ) (text : List ℕ) (stuck : Bool) → IsCopy e e' → IsTranscriptOf functions e seed steps text stuck
-    → IsTranscriptOf functions e' seed steps text stuck
+    (functions : List Function) (e e' : Endpoints) (cap : Option ℕ) (seed steps : ℕ) (text : List ℕ) (stuck : Bool) → IsCopy e e'
+    → IsTranscriptOf functions e cap seed steps text stuck → IsTranscriptOf functions e' cap seed steps text stuck
 
 -- and so is one of a run that workers made
 abbrev pub TranscriptsByWorkersAgree : Type 0
 TranscriptsByWorkersAgree =
-    (functions : List Function) (e e' : Endpoints) (steps : ℕ) (text : List ℕ) (stuck : Bool) → IsCopy e e' → IsTranscriptBy functions e steps text stuck
-    → IsTranscriptBy functions e' steps text stuck
+    (functions : List Function) (e e' : Endpoints) (cap : Option ℕ) (steps : ℕ) (text : List ℕ) (stuck : Bool) → IsCopy e e'
+    → IsTranscriptBy functions e cap steps text stuck → IsTranscriptBy functions e' cap steps text stuck

@@ -1,5 +1,5 @@
 -- Transcripts of runs of endpoint programs (this project's own).
-use Rattle.std.specs.Prelude.{ℕ, ◌≡◌, Bool, true, false, List, ◌++◌, length, map, None, codes}
+use Rattle.std.specs.Prelude.{ℕ, ◌≡◌, Bool, true, false, List, ◌++◌, length, map, Option, codes}
 use Rattle.std.specs.Fmt.{decimal}
 use Rattle.chor_base.specs.declared.event.Event.{Event}
 use Rattle.chor_host.specs.Functions.{Function, hosts_in}
@@ -24,12 +24,12 @@ abbrev pub is_stuck : Close → Bool
 is_stuck (Stuck p why) = true
 is_stuck _ = false
 
--- The text is the transcript of the scheduled run of endpoint programs from their first state, where these host functions are there,
--- and the run is stuck or not
-pub record IsTranscriptOf (functions : List Function) (e : Endpoints) (seed steps : ℕ) (text : List ℕ) (stuck : Bool) : Type 0 where
+-- The text is the transcript of the scheduled run of endpoint programs from their first state, where queues have this capacity and these
+-- host functions are there, and the run is stuck or not
+pub record IsTranscriptOf (functions : List Function) (e : Endpoints) (cap : Option ℕ) (seed steps : ℕ) (text : List ℕ) (stuck : Bool) : Type 0 where
   pub history : List Event
   pub close : Close
   pub last : NetworkState
-  pub scheduled : IsScheduled e (hosts_in e.names functions) None seed steps (first_state e) 0 history last close
+  pub scheduled : IsScheduled e (hosts_in e.names functions) cap seed steps (first_state e) 0 history last close
   pub text_is : text ≡ transcript (book_of e) history (closing_text (book_of e) (length history) close)
   pub stuck_is : stuck ≡ is_stuck close

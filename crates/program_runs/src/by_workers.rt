@@ -19,26 +19,36 @@ use std::alloc::Global;
 use std::sync::Wait;
 use std::thread::Threads;
 use transcript::Book;
-use workers::{Report, run_workers};
+use workers::{Report, Task, run_workers};
 
 /// The transcript of a run of endpoint programs that so many workers make, each in its turn, until every
-/// process has ended, there are as many events as asked for, or no process can step. Its last line tells
-/// which, and where the run is stuck, who waits for what. The call waits until all workers have ended.
+/// process has ended, there are as many events as asked for, or no process can step. Each queue takes at
+/// most as many loads as the capacity says, if there is one. The last line tells how the run ends, and
+/// where it is stuck, who waits for what. The call waits until all workers have ended.
 pub fn execute_by<R: Threads + Wait + Sync, G: Gate + Sync>(
     rt: &R,
     alloc: Global,
     endpoints: &Endpoints,
     hosts: &HostTable,
-    workers: u32,
-    steps: u64,
+    capacity: Option<u32>,
+    task: Task,
     gate: &G,
 ) -> Result<Executed, Memory>
     requires faultless { IsFaultlessWith (names_of (functions_of hosts.now)) endpoints.now }
-    requires workers { (1 ≤ workers) × (workers ≤ 16) }
-    requires steps { steps ≤ 1000000 }
-    ensures { IfOk result (λ x. IsTranscriptBy (functions_of hosts.now) endpoints.now steps x.text.items x.stuck) }
+    requires workers { (1 ≤ task.workers) × (task.workers ≤ 16) }
+    requires steps { task.steps ≤ 1000000 }
+    ensures { IfOk result (λ x. IsTranscriptBy (functions_of hosts.now) endpoints.now capacity task.steps x.text.items x.stuck) }
 {
-    let told = run_workers(rt, alloc, endpoints, hosts, None, workers, steps, gate)?;
+    let told = run_workers(
+        rt,
+        alloc,
+        endpoints,
+        hosts,
+        capacity,
+        task.workers,
+        task.steps,
+        gate,
+    )?;
     let text = text_of(alloc, endpoints, &told)?;
     Ok(Executed {
         text,

@@ -25,22 +25,23 @@ pub struct Executed {
 }
 
 /// The transcript of the run of endpoint programs by the pick rule with this seed, until every process
-/// has ended, there are as many events as asked for, or no process can step. Its last line tells which,
-/// and where the run is stuck, who waits for what.
+/// has ended, there are as many events as asked for, or no process can step. Each queue takes at most as
+/// many loads as the capacity says, if there is one. The last line tells how the run ends, and where it
+/// is stuck, who waits for what.
 #[tactic(auto, using(crate::proofs::Transcripts::told))]
 pub fn execute(
     alloc: Global,
     endpoints: &Endpoints,
     hosts: &HostTable,
-    seed: u64,
-    steps: u64,
+    capacity: Option<u32>,
+    schedule: Schedule,
 ) -> Result<Executed, Memory>
     requires faultless { IsFaultlessWith (names_of (functions_of hosts.now)) endpoints.now }
-    requires seed { seed < 2 ^ 32 }
-    requires few { steps ≤ 1000000 }
-    ensures { IfOk result (λ x. IsTranscriptOf (functions_of hosts.now) endpoints.now seed steps x.text.items x.stuck) }
+    requires seed { schedule.seed < 2 ^ 32 }
+    requires few { schedule.steps ≤ 1000000 }
+    ensures { IfOk result (λ x. IsTranscriptOf (functions_of hosts.now) endpoints.now capacity schedule.seed schedule.steps x.text.items x.stuck) }
 {
-    let run = Run::new(alloc, endpoints, None, Schedule { seed, steps })?;
+    let run = Run::new(alloc, endpoints, capacity, schedule)?;
     let processes = names_of(alloc, endpoints.processes.as_slice())?;
     let book = Book {
         names: &endpoints.names,

@@ -52,8 +52,8 @@ pub fn projected_text_is_taken()
     endpoint_laws::text_is_taken();
 }
 
-/// What is read from that text has no transcript but that of the source's own run: first in, first
-/// out, each session by its protocol, and never stuck.
+/// What is read from that text has, under a capacity that leaves room in an empty queue, no transcript but
+/// that of the source's own run: first in, first out, each session by its protocol, and never stuck.
 pub fn projected_text_runs()
     ensures { ProjectedTextRuns }
 {

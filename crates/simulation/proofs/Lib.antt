@@ -1,3 +1,4 @@
 pub mod Judged
+pub mod Capacity
 pub mod Runs
 pub mod RunsBy

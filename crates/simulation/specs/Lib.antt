@@ -1,4 +1,5 @@
 pub mod Accepted
+pub mod Capacity
 pub mod Runs
 pub mod Told
 pub mod RunsBy

@@ -1,11 +1,12 @@
 //! Accepting a source.
 
-ghost use Rattle.std.specs.Prelude.{◌≡◌, [], IfOk, OnOk, IfErr};
+ghost use Rattle.std.specs.Prelude.{◌≡◌, [], true, IfOk, OnOk, IfErr};
 ghost use Rattle.chor_base.specs.Faults.{IsDenial};
 ghost use Rattle.chor_host.specs.Functions.{names_of};
 ghost use Rattle.chor_host.specs.Tables.{functions_of};
 ghost use Rattle.endpoint_code.specs.AboveUnits.{AreUnitsAbove};
 ghost use Rattle.endpoint_code.specs.Faults.{IsFaultlessWith};
+ghost use Rattle.endpoint_code.specs.Network.{has_room};
 ghost use Rattle.accepted_files.specs.AboveProjection.{ProjectionIsAbove, AboveStaysAbove};
 ghost use Rattle.accepted_files.specs.FaultlessLaws.{ProjectionAsksKnown, ProjectionIsFaultless};
 ghost use Rattle.linear_check.specs.Class.{IsLinearityFault};
@@ -16,6 +17,7 @@ ghost use Rattle.source_check.specs.Source.{IsBroken};
 ghost use Rattle.source_check.specs.declared.rules.Rules.TheVariants.{All};
 ghost use Rattle.source_check.specs.declared.rules.Class.TheVariants.{Linearity};
 ghost use Rattle.simulation.specs.Accepted.{IsAccepted};
+ghost use Rattle.simulation.specs.Capacity.{capacity_of};
 
 use chor_base::Denied;
 use chor_host::HostTable;
@@ -75,6 +77,16 @@ impl Accepted {
         ensures accepted { IsAccepted self.now.typed.hosts self.now.typed.file result.now }
     {
         &self.endpoints
+    }
+
+    /// The capacity that the file declares for its queues, if any. It leaves room in an empty queue. It takes
+    /// no memory.
+    #[tactic(auto, using(crate::proofs::Capacity::capacity_of_same, crate::proofs::Capacity::room_of_file))]
+    pub fn capacity(&self) -> Option<u32>
+        ensures capacity { result ≡ capacity_of self.now.typed.file }
+        ensures room { has_room result [] ≡ true }
+    {
+        self.typed.file().header.capacity
     }
 
     /// The same file with other endpoint programs, which are, unit by unit, above the ones that it has. It

@@ -2,12 +2,14 @@
 #![tactic(auto)]
 
 mod accepted;
+mod laws;
 mod running;
 mod running_by;
 mod telling;
 mod telling_by;
 
 pub use accepted::{Accepted, accept};
+pub use laws::capacities_leave_room;
 pub use running::{Outcome, run_accepted};
 pub use running_by::run_accepted_by;
 pub use telling::tell_accepted;

@@ -11,7 +11,7 @@ ghost use Rattle.simulation.specs.Runs.{IsOutcomeOf};
 use crate::accepted::Accepted;
 use chor_base::{Entry, List, Memory};
 use chor_host::HostTable;
-use endpoint_runs::{Closed, run_endpoints};
+use endpoint_runs::{Closed, Schedule, run_within};
 use std::alloc::Global;
 
 /// The events of a run.
@@ -22,8 +22,8 @@ pub struct Outcome {
     pub ended: bool,
 }
 
-/// The run of an accepted file by the pick rule with this seed, to its end or to as many events as
-/// asked for. It asks the host functions of the table with which the file was accepted. It is never
+/// The run of an accepted file by the pick rule with this seed, under the file's capacity, to its end or
+/// to as many events as asked for. It asks the host functions of the table with which the file was accepted. It is never
 /// stuck.
 pub fn run_accepted(
     alloc: Global,
@@ -42,7 +42,8 @@ pub fn run_accepted(
     let endpoints = accepted.endpoints();
     // that no name stands twice
     let _count = endpoints.names.len();
-    let ran = run_endpoints(alloc, endpoints, hosts, seed, steps)?;
+    let schedule = Schedule { seed, steps };
+    let ran = run_within(alloc, endpoints, hosts, accepted.capacity(), schedule)?;
     match ran.closed {
         Closed::Ended => Ok(Outcome {
             history: ran.history,

@@ -18,8 +18,8 @@ use std::sync::Wait;
 use std::thread::Threads;
 use workers::run_workers;
 
-/// A run of an accepted file that so many workers make, each in its turn, to its end or to as many
-/// events as asked for. The order of their turns isn't determined. It asks the host functions of the
+/// A run of an accepted file that so many workers make, each in its turn, under the file's capacity, to
+/// its end or to as many events as asked for. The order of their turns isn't determined. It asks the host functions of the
 /// table with which the file was accepted. It is never stuck. The call waits until all workers have
 /// ended.
 pub fn run_accepted_by<R: Threads + Wait + Sync, G: Gate + Sync>(
@@ -41,7 +41,16 @@ pub fn run_accepted_by<R: Threads + Wait + Sync, G: Gate + Sync>(
     let endpoints = accepted.endpoints();
     // that no name stands twice
     let _count = endpoints.names.len();
-    let told = run_workers(rt, alloc, endpoints, hosts, None, workers, steps, gate)?;
+    let told = run_workers(
+        rt,
+        alloc,
+        endpoints,
+        hosts,
+        accepted.capacity(),
+        workers,
+        steps,
+        gate,
+    )?;
     match told.close {
         Closed::Ended => Ok(Outcome {
             history: told.history,

@@ -15,9 +15,9 @@ use program_runs::tell_run;
 use std::alloc::Global;
 use transcript::Book;
 
-/// The transcript, with the words of this book, of the run of an accepted file by the pick rule, to its
-/// end or to as many events as asked for. It asks the host functions of the table with which the file
-/// was accepted. It is never stuck.
+/// The transcript, with the words of this book, of the run of an accepted file by the pick rule, under the
+/// file's capacity, to its end or to as many events as asked for. It asks the host functions of the table
+/// with which the file was accepted. It is never stuck.
 pub fn tell_accepted(
     alloc: Global,
     accepted: &Accepted,
@@ -35,7 +35,7 @@ pub fn tell_accepted(
     let endpoints = accepted.endpoints();
     // that no name stands twice
     let _count = endpoints.names.len();
-    let run = Run::new(alloc, endpoints, None, schedule)?;
+    let run = Run::new(alloc, endpoints, accepted.capacity(), schedule)?;
     let told = tell_run(alloc, run, hosts, book)?;
     Ok(told.text)
 }

@@ -22,8 +22,9 @@ use transcript::Book;
 use workers::Task;
 
 /// The transcript, with the words of this book, of a run of an accepted file that workers make, each in
-/// its turn, to its end or to as many events as asked for. It asks the host functions of the table with
-/// which the file was accepted. It is never stuck. The call waits until all workers have ended.
+/// its turn, under the file's capacity, to its end or to as many events as asked for. It asks the host
+/// functions of the table with which the file was accepted. It is never stuck. The call waits until all
+/// workers have ended.
 pub fn tell_accepted_by<R: Threads + Wait + Sync, G: Gate + Sync>(
     rt: &R,
     alloc: Global,

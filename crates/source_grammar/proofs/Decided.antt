@@ -1,7 +1,11 @@
 -- Tokens, lists, protocols, services and heads of procedures are read, or there is a token at which they are refused.
-use Rattle.std.proofs.Common.{◌≡◌, ◌⊎◌, inl, inr, ◌-◌, ℕ, Bool, true, false, List, [], length, Option, Some, None, refl, sym, ap, ◌∙◌, codes, bytes_eq, slice_get}
+use Rattle.std.proofs.Common.{◌≡◌, ◌⊎◌, inl, inr, ◌-◌, ◌==◌, ℕ, Bool, true, false, List, [], length, Option, Some, None, refl, sym, ap, ◌∙◌, codes, bytes_eq, slice_get}
 use Rattle.std.specs.List.{list_any}
+use Rattle.std.specs.Prelude.{pos, negsuc}
+use Rattle.std.proofs.lemmas.Bool.{eqb-true}
+use Rattle.std.proofs.lemmas.Bool.Decides.{Decides-eqb}
 use Rattle.std.proofs.lemmas.Slice.Eq.{bytes_eq-Decides}
+use Rattle.chor_base.specs.declared.rule.Rule.TheVariants.{P1, P3}
 use Rattle.chor_base.specs.declared.names.NameId.{NameId}
 use Rattle.chor_lexer.specs.declared.mark.Mark.{Mark}
 use Rattle.chor_lexer.specs.declared.mark.Mark.TheVariants.{OpenBrace, CloseBrace, OpenParen, CloseParen, CloseBracket, Comma, Semicolon, Colon, Bar}
@@ -11,11 +15,14 @@ use Rattle.chor_lexer.specs.declared.token.Token.{Token}
 use Rattle.chor_lexer.specs.Keywords.{keywords, HasMark}
 use Rattle.chor_lexer.specs.Mark.{spelling}
 use Rattle.chor_lexer.proofs.Fronts.{mark_same}
-use Rattle.source_grammar.specs.Symbols.{Part, Further, Nothing, Then}
+use Rattle.source_grammar.specs.Symbols.{Part, Further, Nothing, AreWhole, Then, Head}
 use Rattle.source_grammar.proofs.Starts.{then_begins, nothing_apart}
-use Rattle.source_grammar.proofs.DecidedTokens.{Tells, IsDecided, decided_same, decided_then, decided_by, decided_choice, decided_option, decided_within, decided_one, decided_times}
-use Rattle.source_grammar.specs.Grammar.{NameIs, ArmIs, VariableIs, HolderIs, SessionParamIs}
+use Rattle.source_grammar.proofs.DecidedTokens.{Outcome, reads, halts, Tells, tells_head, refuses_first, IsDecided, decided_same, decided_then, decided_by, decided_choice, decided_option, decided_within, decided_one, decided_times}
+use Rattle.source_grammar.specs.Grammar.{NumberIs, NameIs, ArmIs, VariableIs, HolderIs, SessionParamIs}
 use Rattle.source_grammar.specs.Parts.{MarkPart, WordPart, NamePart, AMark, AWord, AName, Or, OrComma, OrName, OrBar, OrSession, OrParams, IsKeyword, NamesPart, AnyNamesPart, PartPart, SortPart, PayloadPart, ArmPart, ArmsPart, StepPart, StatePart, StatesPart, ProtocolPart, ServedPart, ServicePart, VariablePart, VarsPart, VariablesPart, ProcParamPart, ProcParamsPart, HolderPart, HoldersPart, SessionParamPart, SessionParamsPart, SessionsPart, ParamsPart}
+use Rattle.chor_tree.specs.Headers.{is_capacity}
+use Rattle.source_grammar.specs.Files.{NumberPart, CapacityNumber}
+use Rattle.source_grammar.proofs.Headers.{ANumber, SomeNumber, number_of, number_class, number_alike, WordAtIs, word_at_class, word_at_alike, capacity_number_part, capacity_number_reads, no_number_halts, no_capacity_halts}
 use Rattle.source_grammar.proofs.Terminals.{mark_class, mark_alike, mark_begins, mark_stable, word_class, word_alike, word_begins, word_stable, name_class, name_alike, said_name, name_begins, name_stable, word_not_name, words_differ, nothing_among, or_left, or_right, or_stable, distinct_or, protocol_keyword, service_keyword, end_keyword, then_keyword, int_keyword, bool_keyword, text_keyword}
 use Rattle.source_grammar.proofs.ItemLists.{AreItems, IsItem, CommaAnd, Commas, Roomy, Bare, roomy_items, repeated, apart_from_more}
 use Rattle.source_grammar.proofs.Protocols as p
@@ -131,6 +138,57 @@ decided_word {w = w} k = decided_same (decided_one (word_class k) (tells_also (t
 
 pub decided_name : {n : ℕ} → IsDecided n NamePart Nothing
 decided_name = decided_same (decided_one name_class (tells_also tells_name said_name (λ names t x. (x.0.name, x.1.name)))) name_alike
+
+-- the number that a token is, or none
+numbered : (t : Token) → SomeNumber [] t ⊎ (SomeNumber [] t → ⊥)
+numbered t = go t.kind refl
+  where
+    go : (k : Kind) → t.kind ≡ k → SomeNumber [] t ⊎ (SomeNumber [] t → ⊥)
+    go (kind.Number (pos n)) e = inl (n, e)
+    go (kind.Number (negsuc n)) e = inr (λ h. let both : kind.Number (negsuc n) ≡ kind.Number (pos h.0) = sym e ∙ h.1 in absurd cc)
+    go (kind.Word n) e = inr (λ h. let both : kind.Word n ≡ kind.Number (pos h.0) = sym e ∙ h.1 in absurd cc)
+    go (kind.Text n) e = inr (λ h. let both : kind.Text n ≡ kind.Number (pos h.0) = sym e ∙ h.1 in absurd cc)
+    go (kind.Mark m) e = inr (λ h. let both : kind.Mark m ≡ kind.Number (pos h.0) = sym e ∙ h.1 in absurd cc)
+    go kind.Last e = inr (λ h. let both : kind.Last ≡ kind.Number (pos h.0) = sym e ∙ h.1 in absurd cc)
+
+tells_some_number : Tells SomeNumber
+tells_some_number = record { by = λ names t. numbered t }
+
+pub tells_number : (m : ℕ) → Tells (ANumber m)
+tells_number m = record { by = λ names t. go t (numbered t) }
+  where
+    compared : (t : Token) (n : ℕ) → t.kind ≡ kind.Number (pos n) → (b : Bool) → (n == m) ≡ b → ANumber m [] t ⊎ (ANumber m [] t → ⊥)
+    compared t n e true q = inl (e ∙ ap (λ (k : ℕ). kind.Number (pos k)) (eqb-true n m q))
+    compared t n e false q = inr (λ h.
+        let same : n ≡ m = number_of (sym e ∙ h) in
+        let yes = (Decides-eqb n m).1 same in
+        absurd cc)
+
+    go : (t : Token) → SomeNumber [] t ⊎ (SomeNumber [] t → ⊥) → ANumber m [] t ⊎ (ANumber m [] t → ⊥)
+    go t (inl h) = compared t h.0 h.1 (h.0 == m) refl
+    go t (inr n) = inr (λ h. n (m, h))
+
+pub decided_number : {n : ℕ} (m : ℕ) → IsDecided n (NumberPart m) Nothing
+decided_number m = decided_same (decided_one (number_class m) (tells_also (tells_number m) (λ names t x. (tt, x)) (λ names t x. x.1))) (number_alike m)
+
+pub decided_word_at : {n : ℕ} {w : List ℕ} → IsKeyword w → IsDecided n (WordAtIs w) Nothing
+decided_word_at {w = w} k =
+    decided_same
+    (decided_one (word_at_class k) (tells_also (tells_word w) (λ names t x. (t.place, record { word = x; place = refl })) (λ names t x. x.1.word)))
+    (word_at_alike w)
+
+pub decided_capacity_number : {n : ℕ} → IsDecided n CapacityNumber Nothing
+decided_capacity_number {n} = record { part = capacity_number_part; by = λ names ts s w. go names ts w (tells_head tells_some_number w) }
+  where
+    limited : (names : List (List ℕ)) (ts : List Token) → AreWhole names ts → {m : ℕ} {rest : List Token} → NumberIs m ts rest → (b : Bool) → is_capacity m ≡ b → Outcome CapacityNumber Nothing names ts
+    limited names ts w h true e = reads (capacity_number_reads h e)
+    limited names ts w h false e = let r = refuses_first P3 w in halts r.0 (no_capacity_halts h e r.1)
+
+    go : (names : List (List ℕ)) (ts : List Token) → AreWhole names ts → Head SomeNumber names ts ⊎ (Head SomeNumber names ts → ⊥) → Outcome CapacityNumber Nothing names ts
+    go names ts w (inl h) = limited names ts w {m = h.is.0} {rest = h.rest} (record { token = h.token; parts = h.parts; is = h.is.1 }) (is_capacity h.is.0) refl
+    go names ts w (inr h) =
+        let r = refuses_first P1 w in
+        halts r.0 (no_number_halts (λ m rest k. h (record { token = k.token; rest = rest; parts = k.parts; is = (m, k.is) })) r.1)
 
 -- ---- one token and then a part
 

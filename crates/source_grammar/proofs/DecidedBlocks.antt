@@ -14,18 +14,19 @@ use Rattle.source_grammar.proofs.ExpressionAnswers.{expr_begins}
 use Rattle.source_grammar.proofs.DecidedTokens.{Tells, IsDecided, decided_same, decided_as, decided_further, decided_then, decided_after, decided_later, decided_choice, decided_either, decided_option, decided_within, decided_at, decided_times}
 use Rattle.source_grammar.proofs.DecidedExpressions.{decided_expr}
 use Rattle.source_grammar.specs.Grammar.{NameIs, PartIs}
-use Rattle.source_grammar.specs.Parts.{MarkPart, WordPart, NamePart, PartPart, OrComma, IsKeyword}
+use Rattle.source_grammar.specs.Parts.{MarkPart, AWord, WordPart, NamePart, PartPart, OrComma, IsKeyword}
 use Rattle.source_grammar.specs.Statements.{RolesPart, NewRolesPart, RoleMore, StatementPart, StatementFirst, StatementMore, StartTail, ValueTail, GiveTail, SessionTail, PathTail, RoleTail, SendingTail, HostTail, SetTail, PlainTail, NameTail}
 use Rattle.source_grammar.specs.Blocks.{BlockPart, LinesPart, LinePart, TailPart, TailFirst, LineAt, TailAt, LaterAt, AllNamesPart, PassedSessionsPart, PassedSessionsMore, PassedPart, PassedMore, CallTail, IfTail}
-use Rattle.source_grammar.specs.Files.{ProcedurePart, AnItemPart, ItemFirst, ItemsPart, MainPart, SourcePart}
-use Rattle.source_grammar.proofs.Terminals.{mark_begins, mark_stable, word_begins, word_stable, name_begins, name_stable, word_not_name, start_keyword, new_keyword, host_keyword, show_keyword, end_keyword, call_keyword, if_keyword, else_keyword, proc_keyword, main_keyword}
+use Rattle.source_grammar.specs.Files.{ProcedurePart, AnItemPart, ItemFirst, ItemsPart, MainPart, NumberPart, CapacityNumber, CapacityPart, HeaderPart, HeaderMore, SourcePart}
+use Rattle.source_grammar.proofs.Terminals.{mark_begins, mark_stable, word_begins, word_stable, name_begins, name_stable, nothing_among, word_not_name, start_keyword, new_keyword, host_keyword, show_keyword, end_keyword, call_keyword, if_keyword, else_keyword, proc_keyword, main_keyword}
 use Rattle.source_grammar.proofs.ItemLists.{Bare, any_list_alike}
 use Rattle.source_grammar.proofs.ShortParts.{part_items}
 use Rattle.source_grammar.proofs.Statements as s
 use Rattle.source_grammar.proofs.PassedNames as c
 use Rattle.source_grammar.proofs.Nested as b
+use Rattle.source_grammar.proofs.Headers as o
 use Rattle.source_grammar.proofs.Files as f
-use Rattle.source_grammar.proofs.Decided.{tells_mark, tells_word, tells_name, tells_or, decided_mark, decided_word, decided_name, mark_and, name_and, word_and, decided_commas, decided_any_names, decided_part, decided_protocol, decided_service, decided_params}
+use Rattle.source_grammar.proofs.Decided.{tells_number, decided_number, decided_capacity_number, decided_word_at, tells_mark, tells_word, tells_name, tells_or, decided_mark, decided_word, decided_name, mark_and, name_and, word_and, decided_commas, decided_any_names, decided_part, decided_protocol, decided_service, decided_params}
 
 -- ---- one part and then what is told of it
 
@@ -164,5 +165,17 @@ decided_items n = decided_same (decided_times {R = f.EachItem} f.items_repeated 
 decided_main : (n : ℕ) → IsDecided n MainPart Nothing
 decided_main n = word_and main_keyword (mark_and (decided_then (decided_any_names 64) (mark_and (decided_body n)) f.names_end))
 
+decided_capacity : {n : ℕ} → IsDecided n CapacityPart (AWord (codes "capacity"))
+decided_capacity =
+    decided_same
+    (decided_option (decided_then (decided_word_at o.capacity_keyword) (decided_then decided_capacity_number (decided_mark Semicolon) nothing_apart) nothing_apart) o.some_capacity_begins (word_stable (codes "capacity")) (tells_word (codes "capacity")) (nothing_among (AWord (codes "capacity"))) (o.same_among (AWord (codes "capacity"))) (word_stable (codes "capacity")))
+    o.capacity_alike
+
+decided_header : {n : ℕ} → IsDecided n HeaderPart HeaderMore
+decided_header =
+    decided_same
+    (decided_option (word_and o.chor_keyword (decided_then (decided_number 2) (mark_and decided_capacity) nothing_apart)) o.some_header_begins (word_stable (codes "chor")) (tells_word (codes "chor")) o.capacity_more o.chor_more o.header_more_stable)
+    o.header_alike
+
 pub decided_source : (n : ℕ) → IsDecided n SourcePart Nothing
-decided_source n = decided_then (decided_items n) (decided_main n) f.items_end
+decided_source n = decided_then decided_header (decided_then (decided_items n) (decided_main n) f.items_end) f.header_end

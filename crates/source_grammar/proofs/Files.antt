@@ -16,12 +16,13 @@ use Rattle.source_grammar.specs.Grammar.{ProcedureIs, ItemsAre}
 use Rattle.source_grammar.specs.Limits.{KeepsProcedure, KeepsItems}
 use Rattle.source_grammar.specs.Parts.{MarkPart, WordPart, NamePart, AMark, AWord, Or, OrName, OrParams, AnyNamesPart, ParamsPart, ProtocolPart, ServicePart}
 use Rattle.source_grammar.specs.Blocks.{BlockPart}
-use Rattle.source_grammar.specs.Files.{ProcedurePart, Item, AnItemPart, ItemFirst, ItemsPart, with_item, MainPart, SourcePart}
-use Rattle.source_grammar.proofs.Terminals.{mark_begins, word_part, word_begins, word_stable, mark_not_name, marks_differ, words_differ, nothing_distinct, nothing_among, or_stable, distinct_or, proc_keyword, main_keyword}
+use Rattle.source_grammar.specs.Files.{ProcedurePart, Item, AnItemPart, ItemFirst, ItemsPart, with_item, Main, MainPart, HeaderMore, BarePart, SourcePart}
+use Rattle.source_grammar.proofs.Terminals.{mark_begins, word_part, word_begins, word_stable, mark_not_name, marks_differ, words_differ, nothing_distinct, nothing_among, or_stable, or_distinct, distinct_or, proc_keyword, main_keyword}
 use Rattle.source_grammar.proofs.Protocols.{protocol_alike, protocol_part, service_alike, service_part}
 use Rattle.source_grammar.proofs.ShortParts.{seq, and_then, mark_then, name_then, any_names_part}
 use Rattle.source_grammar.proofs.Heads.{params_part}
 use Rattle.source_grammar.proofs.Nested.{block_part}
+use Rattle.source_grammar.proofs.Headers.{header_part}
 
 -- ---- procedures
 
@@ -176,5 +177,35 @@ main_part = and_then (word_part main_keyword) main_tail
 pub items_end : Apart ItemFirst MainPart Nothing
 items_end = begins_apart (then_begins (word_begins (codes "main"))) (distinct_or (words_differ (codes "main") (codes "protocol") refl refl) (distinct_or (words_differ (codes "main") (codes "service") refl refl) (words_differ (codes "main") (codes "proc") refl refl)))
 
+pub bare_part : IsPart BarePart Nothing
+bare_part = then_part items_part main_part items_end
+
+-- the words with which begins what follows the header
+abbrev pub BareFirst : Further
+BareFirst = Or ItemFirst (AWord (codes "main"))
+
+bare_head : {Q : Allowed} {names : List (List ℕ)} {ts mid rest : List Token} {is : Items} {m : Main} (d : ItemsAre names ts is mid) → KeepsItems Q d → MainPart Q names mid m rest → Head BareFirst names ts
+bare_head g.no_item k m = let h = (then_begins (word_begins (codes "main"))).by m in record { token = h.token; rest = h.rest; parts = h.parts; is = inr h.is }
+bare_head {Q} (g.protocol_first p is) k m = let h = protocol_begins.by {Q = Q} (p, k.0) in record { token = h.token; rest = h.rest; parts = h.parts; is = inl (inl h.is) }
+bare_head {Q} (g.service_first s is) k m = let h = service_begins.by {Q = Q} (s, k.0) in record { token = h.token; rest = h.rest; parts = h.parts; is = inl (inr (inl h.is)) }
+bare_head {Q} (g.procedure_first p is) k m = let h = procedure_begins.by {Q = Q} (p, k.0) in record { token = h.token; rest = h.rest; parts = h.parts; is = inl (inr (inr h.is)) }
+
+bare_begins : Begins BarePart BareFirst
+bare_begins = record { by = λ h. bare_head h.first.0 h.first.1 h.second }
+
+-- what follows a header doesn't go on with it
+bare_no_header : AreDistinct BareFirst HeaderMore
+bare_no_header =
+    or_distinct
+    (or_distinct
+    (distinct_or (words_differ (codes "protocol") (codes "chor") refl refl) (words_differ (codes "protocol") (codes "capacity") refl refl))
+    (or_distinct
+    (distinct_or (words_differ (codes "service") (codes "chor") refl refl) (words_differ (codes "service") (codes "capacity") refl refl))
+    (distinct_or (words_differ (codes "proc") (codes "chor") refl refl) (words_differ (codes "proc") (codes "capacity") refl refl))))
+    (distinct_or (words_differ (codes "main") (codes "chor") refl refl) (words_differ (codes "main") (codes "capacity") refl refl))
+
+pub header_end : Apart HeaderMore BarePart Nothing
+header_end = begins_apart bare_begins bare_no_header
+
 pub source_part : IsPart SourcePart Nothing
-source_part = then_part items_part main_part items_end
+source_part = then_part header_part bare_part header_end

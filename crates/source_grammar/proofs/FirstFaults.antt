@@ -14,6 +14,7 @@ use Rattle.chor_lexer.specs.Tokens.{IsKnown, is_ended}
 use Rattle.source_grammar.specs.Symbols.{Allowed, anywhere, nowhere, only_at, but_at, Nothing, more_words, AreWhole, Completes, Only, Reads, Reason, wrong, excess, Stops, Halts, RefusesFirst}
 use Rattle.source_grammar.proofs.Wholes.{whole_first, whole_after}
 use Rattle.source_grammar.proofs.Sequels.{again}
+use Rattle.chor_tree.specs.declared.header.Header.{Header}
 use Rattle.chor_tree.specs.Source.{Items, Source}
 use Rattle.source_grammar.specs.Grammar.{FileIs, a_file, EndIs}
 use Rattle.source_grammar.specs.Limits.{Keeps}
@@ -25,8 +26,12 @@ use Rattle.source_grammar.proofs.ShortParts.{seq}
 
 -- ---- a source and its end
 
-abbrev pub source_by : Items × Main → Source
-source_by v = record { items = v.0; processes = v.1.1.1.0; body = v.1.1.1.1.1 }
+-- a header, what stands before main, and main
+abbrev pub Whole : Type 0
+Whole = Header × (Items × Main)
+
+abbrev pub source_by : Whole → Source
+source_by v = record { header = v.0; items = v.1.0; processes = v.1.1.1.1.0; body = v.1.1.1.1.1.1 }
 
 -- tokens that derive a source that exceeds a limit only where Q allows it
 pub record Derives (Q : Allowed) (names : List (List ℕ)) (ts : List Token) (s : Source) : Type 0 where
@@ -34,27 +39,32 @@ pub record Derives (Q : Allowed) (names : List (List ℕ)) (ts : List Token) (s 
   pub keeps : Keeps Q is
 
 pub record Parts (Q : Allowed) (names : List (List ℕ)) (ts : List Token) (s : Source) : Type 0 where
-  pub value : Items × Main
+  pub value : Whole
   pub rest : List Token
   pub is : SourcePart Q names ts value rest
   pub end : EndIs rest
   pub same : s ≡ source_by value
 
 pub into_parts : {Q : Allowed} {names : List (List ℕ)} {ts : List Token} {s : Source} (d : FileIs names ts s) → Keeps Q d → Parts Q names ts s
-into_parts (a_file {t6 = t6} {is = is} {ps = ps} {b = b} items w o processes c body e) k = record {
-  value = (is, (tt, (tt, (ps, (tt, b)))));
-  rest = t6;
-  is = record { mid = _; first = (items, k.0); second = seq _ w (seq _ o (record { mid = _; first = (processes, k.1); second = seq _ c (record { is = body; keeps = k.2 }) })) };
+into_parts (a_file {t7 = t7} {h = h} {is = is} {ps = ps} {b = b} header items w o processes c body e) k = record {
+  value = (h, (is, (tt, (tt, (ps, (tt, b))))));
+  rest = t7;
+  is = record {
+    mid = _;
+    first = (header, k.0);
+    second = record { mid = _; first = (items, k.1); second = seq _ w (seq _ o (record { mid = _; first = (processes, k.2); second = seq _ c (record { is = body; keeps = k.3 }) })) };
+  };
   end = e;
   same = refl;
 }
 
-pub from_parts : {Q : Allowed} {names : List (List ℕ)} {ts : List Token} {v : Items × Main} {rest : List Token} → SourcePart Q names ts v rest → EndIs rest → Derives Q names ts (source_by v)
+pub from_parts : {Q : Allowed} {names : List (List ℕ)} {ts : List Token} {v : Whole} {rest : List Token} → SourcePart Q names ts v rest → EndIs rest → Derives Q names ts (source_by v)
 from_parts h e =
-    let t = h.second.second.second in
+    let m = h.second.second in
+    let t = m.second.second in
     record {
-      is = a_file h.first.0 h.second.first h.second.second.first t.first.0 t.second.first t.second.second.is e;
-      keeps = (h.first.1, t.first.1, t.second.second.keeps);
+      is = a_file h.first.0 h.second.first.0 m.first m.second.first t.first.0 t.second.first t.second.second.is e;
+      keeps = (h.first.1, h.second.first.1, t.first.1, t.second.second.keeps);
     }
 
 abbrev pub end_token : Token
@@ -161,7 +171,7 @@ refusal_is (Refused r) w h = let s = h.by r refl w in (first_fault s.0, s.1)
 not_last : {t u : Token} {ts us : List Token} → t ∷ ts ≡ u ∷ us → u.kind ≡ Last → t.kind ≡ Last
 not_last {t} {u} {ts} {us} e k = let same : t ≡ u = cc in ap (λ (x : Token). x.kind) same ∙ k
 
-pub after_source : {names : List (List ℕ)} {ts : List Token} {v : Items × Main} {rest : List Token} → AreWhole names ts → (r : Reads SourcePart Nothing names ts v rest) → (o : Only SourcePart Nothing names ts v rest) → (t : Token) (left : List Token) → rest ≡ t ∷ left → (t.kind ≡ Last → ⊥) → IsFirstFault names ts P1 t.place
+pub after_source : {names : List (List ℕ)} {ts : List Token} {v : Whole} {rest : List Token} → AreWhole names ts → (r : Reads SourcePart Nothing names ts v rest) → (o : Only SourcePart Nothing names ts v rest) → (t : Token) (left : List Token) → rest ≡ t ∷ left → (t.kind ≡ Last → ⊥) → IsFirstFault names ts P1 t.place
 after_source {names} {ts} {v} {rest} w r o t left e n =
     let ends : (p : Place) → CanEnd (only_at p) names o.front = λ p. record {
       words = more_words;
@@ -183,7 +193,7 @@ after_source {names} {ts} {v} {rest} w r o t left e n =
       first = λ front u more q f g. no_fault ends front u more q f g;
     }
 
-pub unended : {names : List (List ℕ)} {ts : List Token} {v : Items × Main} {rest : List Token} (d : Denied) → AreWhole names ts → Reads SourcePart Nothing names ts v rest → ((t : Token) (left : List Token) → rest ≡ t ∷ left → t.kind ≡ Last → ⊥) → RefusesFirst P1 rest d → IsRefusal names ts d
+pub unended : {names : List (List ℕ)} {ts : List Token} {v : Whole} {rest : List Token} (d : Denied) → AreWhole names ts → Reads SourcePart Nothing names ts v rest → ((t : Token) (left : List Token) → rest ≡ t ∷ left → t.kind ≡ Last → ⊥) → RefusesFirst P1 rest d → IsRefusal names ts d
 unended Memory w r n f = tt
 unended {names} {ts} {v} {rest} (Refused q) w r n f =
     let first = whole_first (whole_after source_part r.is w) in
@@ -193,7 +203,7 @@ unended {names} {ts} {v} {rest} (Refused q) w r n f =
 
 -- ---- laws
 
-pub within : {names : List (List ℕ)} {ts : List Token} {v : Items × Main} {rest : List Token} → Reads SourcePart Nothing names ts v rest → EndIs rest → IsWithin names ts (source_by v)
+pub within : {names : List (List ℕ)} {ts : List Token} {v : Whole} {rest : List Token} → Reads SourcePart Nothing names ts v rest → EndIs rest → IsWithin names ts (source_by v)
 within r e = let d = from_parts r.is e in record { is = d.is; keeps = d.keeps }
 
 pub one_source_is : (names : List (List ℕ)) (ts : List Token) (s s' : Source) → FileIs names ts s → FileIs names ts s' → s ≡ s'

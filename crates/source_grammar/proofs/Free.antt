@@ -6,6 +6,7 @@ use Rattle.chor_base.specs.declared.rule.Rule.TheVariants.{P2, P3}
 use Rattle.chor_base.specs.declared.value.Sort.{Sort}
 use Rattle.chor_lexer.specs.declared.token.Token.{Token}
 use Rattle.source_grammar.specs.Symbols.{AllowsFirst, Room}
+use Rattle.chor_tree.specs.declared.header.Header.{Header}
 use Rattle.chor_tree.specs.declared.file.Named.{Named}
 use Rattle.chor_tree.specs.declared.file.Service.{Service}
 use Rattle.chor_tree.specs.declared.file.ProcParam.{ProcParam}
@@ -14,9 +15,9 @@ use Rattle.chor_tree.specs.Protocols.{Protocol}
 use Rattle.chor_tree.specs.declared.protocol.State.{State}
 use Rattle.chor_tree.specs.declared.protocol.ProtoStep.{ProtoStep}
 use Rattle.chor_tree.specs.Source.{Statement, Block, Procedure, Items, Source}
-use Rattle.source_grammar.specs.Grammar.{MoreAre, no_more, one_more, ListIs, a_list, AnyNamesAre, no_names, some_names, StepIs, end_step, value_step, choice_step, StateIs, a_state, MoreStatesAre, no_state, one_state, StatesAre, some_states, ProtocolIs, a_protocol, ServedAre, none_served, some_served, ServiceIs, a_service, VariablesAre, no_variables, some_variables, ProcParamIs, a_param, SessionsAre, no_sessions, some_sessions, ParamsAre, no_params, some_params, StatementIs, a_start, a_value, a_label, a_delegation, a_set, a_host_call, a_show, BlockIs, a_block, LinesAre, a_line, a_tail, TailIs, an_end, a_call, a_conditional, ProcedureIs, a_procedure, ItemsAre, no_item, protocol_first, service_first, procedure_first, FileIs, a_file}
+use Rattle.source_grammar.specs.Grammar.{MoreAre, no_more, one_more, ListIs, a_list, AnyNamesAre, no_names, some_names, StepIs, end_step, value_step, choice_step, StateIs, a_state, MoreStatesAre, no_state, one_state, StatesAre, some_states, ProtocolIs, a_protocol, ServedAre, none_served, some_served, ServiceIs, a_service, VariablesAre, no_variables, some_variables, ProcParamIs, a_param, SessionsAre, no_sessions, some_sessions, ParamsAre, no_params, some_params, StatementIs, a_start, a_value, a_label, a_delegation, a_set, a_host_call, a_show, BlockIs, a_block, LinesAre, a_line, a_tail, TailIs, an_end, a_call, a_conditional, ProcedureIs, a_procedure, HeaderIs, without_header, a_header, no_capacity, a_capacity, ItemsAre, no_item, protocol_first, service_first, procedure_first, FileIs, a_file}
 use Rattle.source_grammar.specs.Expressions.{KeepsLength}
-use Rattle.source_grammar.specs.Limits.{KeepsMore, KeepsList, KeepsAnyNames, KeepsStep, KeepsState, KeepsMoreStates, KeepsStates, KeepsProtocol, KeepsServed, KeepsService, KeepsVariables, KeepsParam, KeepsSessions, KeepsParams, KeepsStatement, KeepsBlock, KeepsLines, KeepsTail, KeepsProcedure, KeepsItems, Keeps}
+use Rattle.source_grammar.specs.Limits.{KeepsMore, KeepsList, KeepsAnyNames, KeepsStep, KeepsState, KeepsMoreStates, KeepsStates, KeepsProtocol, KeepsServed, KeepsService, KeepsVariables, KeepsParam, KeepsSessions, KeepsParams, KeepsStatement, KeepsBlock, KeepsLines, KeepsTail, KeepsProcedure, KeepsItems, KeepsHeader, Keeps}
 
 -- by both rules
 pub record IsFree (Q : Rule → Place → Type 0) : Type 0 where
@@ -119,5 +120,10 @@ items_free f (protocol_first p is) = (protocol_free f p, items_free f is)
 items_free f (service_first s is) = (service_free f s, items_free f is)
 items_free f (procedure_first p is) = (procedure_free f p, items_free f is)
 
+pub header_free : {Q : Rule → Place → Type 0} {names : List (List ℕ)} {ts : List Token} {h : Header} {rest : List Token} → IsFree Q → (d : HeaderIs names ts h rest) → KeepsHeader Q d
+header_free f without_header = tt
+header_free f (a_header w n m no_capacity) = tt
+header_free {Q} f (a_header w n m (a_capacity {t1 = t1} at v i s)) = λ e. first_free Q P3 t1 f.items
+
 pub file_free : {Q : Rule → Place → Type 0} {names : List (List ℕ)} {ts : List Token} {s : Source} → IsFree Q → (d : FileIs names ts s) → Keeps Q d
-file_free f (a_file is w o processes c body e) = (items_free f is, names_free 64 f processes, block_free 64 1024 f body)
+file_free f (a_file h is w o processes c body e) = (header_free f h, items_free f is, names_free 64 f processes, block_free 64 1024 f body)

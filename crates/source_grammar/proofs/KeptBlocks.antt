@@ -24,7 +24,8 @@ use Rattle.source_grammar.proofs.ShortParts.{any_names_part}
 use Rattle.source_grammar.proofs.Heads.{params_part}
 use Rattle.source_grammar.proofs.Statements.{statement_part}
 use Rattle.source_grammar.proofs.Files.{body_part, procedure_part, items_part}
-use Rattle.source_grammar.proofs.Free.{IsFree, names_free, statement_free, protocol_free, service_free, params_free, block_free, procedure_free, items_free}
+use Rattle.source_grammar.proofs.Headers.{header_part}
+use Rattle.source_grammar.proofs.Free.{IsFree, names_free, statement_free, protocol_free, service_free, params_free, block_free, procedure_free, items_free, header_free}
 use Rattle.source_grammar.proofs.KnownTexts.{TermKept, or_kept}
 use Rattle.source_grammar.proofs.KeptHeads.{two, three, four, five, named, list_filled, any_names_kept, part_kept, parts_kept, new_parts_kept, protocol_kept, service_kept, params_kept, passed_kept}
 
@@ -188,7 +189,7 @@ any_rest : {names : List (List ℕ)} {ns : List Named} {ts rest : List Token} {t
 any_rest d h = rest_of (any_names_part 64) (d, names_free 64 free d) h
 
 pub source_good : (names texts : List (List ℕ)) {ts : List Token} {s : Source} → FileIs names ts s → AllByRecursion (IsTextKnown texts) ts → SourceKept names texts s
-source_good names texts (g.a_file is w o ps c body e) each =
-    let h : AreKnown texts _ = record { each = each } in
+source_good names texts (g.a_file d is w o ps c body e) each =
+    let h : AreKnown texts _ = rest_of header_part (d, header_free free d) (record { each = each }) in
     let at = mark_rest c (any_rest ps (mark_rest o (word_rest w (items_rest is h)))) in
     record { items = items_good names texts is h; processes = any_names_kept ps; body = block_good names texts body at }

@@ -1,11 +1,14 @@
 -- What files keep that were read.
-use Rattle.std.proofs.Common.{◌≡◌, ◌<◌, ◌≤◌, ◌&&◌, nat_lt, ℕ, Bool, true, List, [], ◌∷◌, ◌++◌, length, map, ap, refl, sym, ◌∙◌, arith}
+use Rattle.std.proofs.Common.{◌≡◌, ◌<◌, ◌≤◌, ◌&&◌, nat_lt, ℕ, Bool, true, false, List, [], ◌∷◌, ◌++◌, length, map, ap, refl, sym, ◌∙◌, subst, arith}
 use Rattle.std.specs.List.{AllByRecursion, list_all}
 use Rattle.std.proofs.lemmas.Bool.{lt-ltb, and_parts}
 use Rattle.std.proofs.lemmas.List.Folds.{list_all-map}
 use Rattle.chor_base.specs.declared.names.NameId.{NameId}
 use Rattle.chor_lexer.specs.declared.token.Token.{Token}
 use Rattle.chor_lexer.proofs.Each.{each_append, each_front, each_back}
+use Rattle.chor_base.specs.declared.rule.Rule.TheVariants.{P3}
+use Rattle.chor_tree.specs.declared.header.Header.{Header}
+use Rattle.chor_tree.specs.Headers.{is_capacity, header_kept}
 use Rattle.chor_tree.specs.declared.file.Proc.{Proc}
 use Rattle.chor_tree.specs.declared.tree.Node.{Node}
 use Rattle.chor_tree.specs.declared.tree.NodeId.{NodeId}
@@ -14,6 +17,9 @@ use Rattle.chor_tree.specs.Kept.{form_there, form_filled, has_name, has_text, bo
 use Rattle.source_grammar.specs.Known.{IsTextKnown}
 use Rattle.source_grammar.specs.Growing.{form_kept, block_kept, begins_of, Adds}
 use Rattle.source_grammar.specs.Faults.{IsWithin}
+use Rattle.source_grammar.specs.Symbols.{nowhere, AllowsFirst}
+use Rattle.source_grammar.specs.Grammar.{HeaderIs, without_header, a_header, no_capacity, a_capacity, FileIs, a_file}
+use Rattle.source_grammar.specs.Limits.{KeepsHeader, KeepsAll}
 use Rattle.source_grammar.proofs.Growth.{adds_on, times_append, times_first}
 use Rattle.source_grammar.proofs.KeptHeads.{two, three, five}
 use Rattle.source_grammar.proofs.KeptBlocks.{head_there, head_filled, SourceKept, source_good}
@@ -21,6 +27,7 @@ use Rattle.source_grammar.proofs.KeptBlocks.{head_there, head_filled, SourceKept
 -- the source that is made of these
 abbrev pub source_in : Contents → Source
 source_in f = record {
+  header = f.header;
   items = record { protocols = f.protocols; services = f.services; procedures = map (procedure_of f.nodes) f.procs };
   processes = f.processes;
   body = block_in (blocks_of f.nodes) f.body;
@@ -74,6 +81,19 @@ once_in f a id =
     let e = ap (λ (l : List Node). times id (bodies_of f ++ followers_in l)) a.adds.parts in
     omega (arith, e, body_first id f.body (begins_of f.procs) (followers_in a.adds.added), a.adds.once id)
 
+-- a header that was read within the limits
+true_or_false : (b : Bool) → (b ≡ false → ⊥) → b ≡ true
+true_or_false true n = refl
+true_or_false false n = absurd (n refl)
+
+kept_header : {names : List (List ℕ)} {ts : List Token} {h : Header} {rest : List Token} (d : HeaderIs names ts h rest) → KeepsHeader nowhere d → header_kept h ≡ true
+kept_header without_header k = refl
+kept_header (a_header w n m no_capacity) k = refl
+kept_header (a_header w n m (a_capacity {n = c} at v i s)) k = true_or_false (is_capacity c) (λ e. subst (λ (l : List Token). AllowsFirst nowhere P3 l) i.parts (k e))
+
+header_good : {names : List (List ℕ)} {ts : List Token} {s : Source} (d : FileIs names ts s) → KeepsAll d → header_kept s.header ≡ true
+header_good (a_file h is w o ps c body e) k = kept_header h k.0
+
 -- a file that was read from tokens whose texts are known
 pub file_kept : (f : Contents) (ts : List Token) → IsWithin f.names ts (source_in f) → AllByRecursion (IsTextKnown f.texts) ts → NodesAre f → IsKept f
 file_kept f ts within known a =
@@ -84,6 +104,7 @@ file_kept f ts within known a =
     let heads = sym (list_all-map (head_there f.names) (procedure_of f.nodes) f.procs) ∙ s.items.heads in
     let filled = sym (list_all-map head_filled (procedure_of f.nodes) f.procs) ∙ s.items.heads_filled in
     record {
+      header = header_good within.is within.keeps;
       numbered = five s.items.protocols s.items.services heads s.processes nodes.0;
       filled = three s.items.services_filled filled nodes.1;
       begin = body_there f a;

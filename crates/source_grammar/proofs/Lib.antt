@@ -25,6 +25,7 @@ pub mod Statements
 pub mod StatementSteps
 pub mod PassedNames
 pub mod Nested
+pub mod Headers
 pub mod Files
 pub mod Free
 pub mod KeptBlocks

@@ -10,12 +10,12 @@ use Rattle.chor_lexer.specs.Tokens.{is_last, is_ended}
 use Rattle.source_grammar.specs.Symbols.{but_at, also_at, Nothing, AreWhole, Reads, Reason, wrong, excess, Stops}
 use Rattle.source_grammar.proofs.Wholes.{whole_first, whole_after}
 use Rattle.source_grammar.proofs.DecidedTokens.{Outcome, reads, halts}
-use Rattle.chor_tree.specs.Source.{Items, Source}
+use Rattle.chor_tree.specs.Source.{Source}
 use Rattle.source_grammar.specs.Faults.{IsViable, IsFaultAt, unexpected, excess as exceeds, IsFirstFault, IsWithin}
-use Rattle.source_grammar.specs.Files.{Main, SourcePart}
+use Rattle.source_grammar.specs.Files.{SourcePart}
 use Rattle.source_grammar.proofs.Files.{source_part}
 use Rattle.source_grammar.proofs.Free.{IsFree, file_free}
-use Rattle.source_grammar.proofs.FirstFaults.{CanEnd, can_end, viable, derives_wider, other, other_differs, wrong_is_free, fault_of, first_fault, after_source, within, never_refused_is}
+use Rattle.source_grammar.proofs.FirstFaults.{Whole, CanEnd, can_end, viable, derives_wider, other, other_differs, wrong_is_free, fault_of, first_fault, after_source, within, never_refused_is}
 use Rattle.source_grammar.proofs.DecidedBlocks.{decided_source}
 
 -- ---- the rules of limits
@@ -134,7 +134,7 @@ end_is t [] e l = refl
 end_is t (u ∷ left) e l = let no : (not (is_last t.kind) && is_ended (u ∷ left)) ≡ false = ap (λ (b : Bool). not b && is_ended (u ∷ left)) l in let both : true ≡ false = sym e ∙ no in absurd cc
 
 -- after a source the end comes, or what comes can't be there
-sourced : {names : List (List ℕ)} {ts : List Token} {v : Items × Main} {rest : List Token} → AreWhole names ts → Reads SourcePart Nothing names ts v rest → Verdict names ts
+sourced : {names : List (List ℕ)} {ts : List Token} {v : Whole} {rest : List Token} → AreWhole names ts → Reads SourcePart Nothing names ts v rest → Verdict names ts
 sourced {names} {ts} {v} {rest} w r =
     let whole = whole_after source_part r.is w in
     let f = whole_first whole in

@@ -1,7 +1,7 @@
 -- The grammar of sources (this project's own). Each nonterminal relates the tokens from some place on, what they derive there,
 -- and the tokens that are left after it; its premises are the symbols of its production in order. The words have the numbers
 -- of `names`.
-use Rattle.std.specs.Prelude.{◌≡◌, ℕ, List, [], ◌∷◌, codes}
+use Rattle.std.specs.Prelude.{◌≡◌, ℕ, pos, List, [], ◌∷◌, Option, Some, None, codes}
 use Rattle.chor_base.specs.declared.rule.Place.{Place}
 use Rattle.chor_base.specs.declared.value.Sort.{Sort}
 use Rattle.chor_base.specs.declared.value.Sort.TheVariants as sort
@@ -13,6 +13,8 @@ use Rattle.chor_lexer.specs.declared.token.Token.{Token}
 use Rattle.chor_lexer.specs.Keywords.{HasMark, HasWord, HasName}
 use Rattle.chor_lexer.specs.Grammar.{ExprIs}
 pub use Rattle.source_grammar.specs.Values.{StandsAt}
+use Rattle.chor_tree.specs.declared.header.Header.{Header}
+use Rattle.chor_tree.specs.Headers.{first_place, no_header}
 use Rattle.chor_tree.specs.declared.file.Named.{Named}
 use Rattle.chor_tree.specs.declared.file.Service.{Service}
 use Rattle.chor_tree.specs.declared.file.ProcParam.{ProcParam}
@@ -47,6 +49,12 @@ pub record NameIs (names : List (List ℕ)) (ts : List Token) (n : Named) (rest 
   pub parts : ts ≡ token ∷ rest
   pub is : HasName names n.name token
   pub place : n.place ≡ token.place
+
+-- a number
+pub record NumberIs (n : ℕ) (ts rest : List Token) : Type 0 where
+  pub token : Token
+  pub parts : ts ≡ token ∷ rest
+  pub is : token.kind ≡ kind.Number (pos n)
 
 -- ---- lists
 
@@ -288,6 +296,23 @@ mutual
         → BlockIs names t4 a t5 → WordIs names (codes "else") t5 t6 → BlockIs names t6 b t7
         → TailIs names t0 (Either p q e a b) t7
 
+-- ---- headers
+
+-- [ "capacity" NUMBER ";" ], and where the word stands
+pub data CapacityIs (names : List (List ℕ)) : List Token → Option ℕ → Place → List Token → Type 0 where
+  no_capacity : {ts : List Token} → CapacityIs names ts None first_place ts
+  a_capacity : {t0 t1 t2 t3 : List Token} {n : ℕ} {p : Place}
+      → StandsAt p t0 → WordIs names (codes "capacity") t0 t1 → NumberIs n t1 t2 → MarkIs Semicolon t2 t3
+      → CapacityIs names t0 (Some n) p t3
+
+-- [ header ]
+-- header = "chor" "2" ";" [ "capacity" NUMBER ";" ]
+pub data HeaderIs (names : List (List ℕ)) : List Token → Header → List Token → Type 0 where
+  without_header : {ts : List Token} → HeaderIs names ts no_header ts
+  a_header : {t0 t1 t2 t3 t4 : List Token} {c : Option ℕ} {p : Place}
+      → WordIs names (codes "chor") t0 t1 → NumberIs 2 t1 t2 → MarkIs Semicolon t2 t3 → CapacityIs names t3 c p t4
+      → HeaderIs names t0 (record { version = 2; capacity = c; place = p }) t4
+
 -- ---- files
 
 -- proc = "proc" NAME "(" [ parameter { "," parameter } [ ";" session { "," session } ] ] ")" block
@@ -316,10 +341,10 @@ pub record EndIs (ts : List Token) : Type 0 where
   pub alone : ts ≡ token ∷ []
   pub last : token.kind ≡ kind.Last
 
--- file = { protocol | service | proc } main
+-- file = [ header ] { protocol | service | proc } main
 -- main = "main" "(" [ names ] ")" block
 pub data FileIs (names : List (List ℕ)) : List Token → Source → Type 0 where
-  a_file : {t0 t1 t2 t3 t4 t5 t6 : List Token} {is : Items} {ps : List Named} {b : Block}
-      → ItemsAre names t0 is t1 → WordIs names (codes "main") t1 t2
-      → MarkIs OpenParen t2 t3 → AnyNamesAre names t3 ps t4 → MarkIs CloseParen t4 t5 → BlockIs names t5 b t6 → EndIs t6
-      → FileIs names t0 (record { items = is; processes = ps; body = b })
+  a_file : {t0 t1 t2 t3 t4 t5 t6 t7 : List Token} {h : Header} {is : Items} {ps : List Named} {b : Block}
+      → HeaderIs names t0 h t1 → ItemsAre names t1 is t2 → WordIs names (codes "main") t2 t3
+      → MarkIs OpenParen t3 t4 → AnyNamesAre names t4 ps t5 → MarkIs CloseParen t5 t6 → BlockIs names t6 b t7 → EndIs t7
+      → FileIs names t0 (record { header = h; items = is; processes = ps; body = b })

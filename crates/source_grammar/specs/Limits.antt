@@ -1,13 +1,15 @@
 -- The limits of a source (this project's own), judged on how its tokens derive it. `Q` says by which rule, and at which place, a
 -- limit may be exceeded: where it allows none, all limits are kept.
-use Rattle.std.specs.Prelude.{◌-◌, ℕ, List, length}
+use Rattle.std.specs.Prelude.{◌≡◌, ◌-◌, ℕ, false, List, Option, length}
 use Rattle.chor_base.specs.declared.rule.Place.{Place}
 use Rattle.chor_base.specs.declared.rule.Rule.{Rule}
 use Rattle.chor_base.specs.declared.rule.Rule.TheVariants.{P2, P3}
 use Rattle.chor_base.specs.declared.value.Sort.{Sort}
 use Rattle.chor_lexer.specs.declared.token.Token.{Token}
-use Rattle.source_grammar.specs.Symbols.{Room}
+use Rattle.source_grammar.specs.Symbols.{AllowsFirst, Room}
 use Rattle.source_grammar.specs.Expressions.{KeepsLength}
+use Rattle.chor_tree.specs.declared.header.Header.{Header}
+use Rattle.chor_tree.specs.Headers.{is_capacity}
 use Rattle.chor_tree.specs.declared.file.Named.{Named}
 use Rattle.chor_tree.specs.declared.file.Service.{Service}
 use Rattle.chor_tree.specs.declared.file.ProcParam.{ProcParam}
@@ -16,7 +18,7 @@ use Rattle.chor_tree.specs.Protocols.{Protocol}
 use Rattle.chor_tree.specs.declared.protocol.State.{State}
 use Rattle.chor_tree.specs.declared.protocol.ProtoStep.{ProtoStep}
 use Rattle.chor_tree.specs.Source.{Statement, Block, Procedure, Items, Source}
-use Rattle.source_grammar.specs.Grammar.{MoreAre, no_more, one_more, ListIs, a_list, NamesAre, AnyNamesAre, no_names, some_names, StepIs, end_step, value_step, choice_step, StateIs, a_state, MoreStatesAre, no_state, one_state, StatesAre, some_states, ProtocolIs, a_protocol, ServedAre, none_served, some_served, ServiceIs, a_service, VariablesAre, no_variables, some_variables, ProcParamIs, a_param, SessionsAre, no_sessions, some_sessions, ParamsAre, no_params, some_params, StatementIs, a_start, a_value, a_label, a_delegation, a_set, a_host_call, a_show, BlockIs, a_block, LinesAre, a_line, a_tail, TailIs, an_end, a_call, a_conditional, ProcedureIs, a_procedure, ItemsAre, no_item, protocol_first, service_first, procedure_first, FileIs, a_file}
+use Rattle.source_grammar.specs.Grammar.{MoreAre, no_more, one_more, ListIs, a_list, NamesAre, AnyNamesAre, no_names, some_names, StepIs, end_step, value_step, choice_step, StateIs, a_state, MoreStatesAre, no_state, one_state, StatesAre, some_states, ProtocolIs, a_protocol, ServedAre, none_served, some_served, ServiceIs, a_service, VariablesAre, no_variables, some_variables, ProcParamIs, a_param, SessionsAre, no_sessions, some_sessions, ParamsAre, no_params, some_params, StatementIs, a_start, a_value, a_label, a_delegation, a_set, a_host_call, a_show, BlockIs, a_block, LinesAre, a_line, a_tail, TailIs, an_end, a_call, a_conditional, ProcedureIs, a_procedure, CapacityIs, no_capacity, a_capacity, HeaderIs, without_header, a_header, ItemsAre, no_item, protocol_first, service_first, procedure_first, FileIs, a_file}
 
 -- ---- lists of which each item keeps its own limits, as K says
 
@@ -108,6 +110,16 @@ abbrev mutual
   KeepsTail Q blocks path (a_call at w f o passed c) = Unit {0}
   KeepsTail Q blocks path (a_conditional {t3 = t3} {t4 = t4} at w q d e first v second) = KeepsLength Q t3 t4 × KeepsBlock Q blocks path first × KeepsBlock Q blocks path second
 
+-- ---- headers: a capacity is from 1 to 1000000
+
+abbrev pub KeepsCapacity : (Rule → Place → Type 0) → {names : List (List ℕ)} {ts : List Token} {c : Option ℕ} {p : Place} {rest : List Token} → CapacityIs names ts c p rest → Type 0
+KeepsCapacity Q no_capacity = Unit {0}
+KeepsCapacity Q (a_capacity {t1 = t1} {n = n} at w i m) = is_capacity n ≡ false → AllowsFirst Q P3 t1
+
+abbrev pub KeepsHeader : (Rule → Place → Type 0) → {names : List (List ℕ)} {ts : List Token} {h : Header} {rest : List Token} → HeaderIs names ts h rest → Type 0
+KeepsHeader Q without_header = Unit {0}
+KeepsHeader Q (a_header w n m c) = KeepsCapacity Q c
+
 -- ---- files: 64 processes of main, 64 blocks, 1,024 statements
 
 abbrev pub KeepsProcedure : (Rule → Place → Type 0) → {names : List (List ℕ)} {ts : List Token} {p : Procedure} {rest : List Token} → ProcedureIs names ts p rest → Type 0
@@ -121,7 +133,7 @@ KeepsItems Q (procedure_first p is) = KeepsProcedure Q p × KeepsItems Q is
 
 -- a whole source exceeds no limit but where Q allows it
 abbrev pub Keeps : (Rule → Place → Type 0) → {names : List (List ℕ)} {ts : List Token} {s : Source} → FileIs names ts s → Type 0
-Keeps Q (a_file is w o processes c body e) = KeepsItems Q is × KeepsAnyNames Q 64 processes × KeepsBlock Q 64 1024 body
+Keeps Q (a_file h is w o processes c body e) = KeepsHeader Q h × KeepsItems Q is × KeepsAnyNames Q 64 processes × KeepsBlock Q 64 1024 body
 
 -- it exceeds no limit
 abbrev pub KeepsAll : {names : List (List ℕ)} {ts : List Token} {s : Source} → FileIs names ts s → Type 0

@@ -39,6 +39,7 @@ module _ (bytes : List ℕ) (names texts : List (List ℕ)) (ts : List Token) (a
       let r = laid_all [] none_closed s.items.procedures in
       let l = laid r.nodes r.closed s.body in
       let f : Contents = record {
+        header = s.header;
         names = names;
         texts = texts;
         protocols = s.items.protocols;
@@ -49,9 +50,10 @@ module _ (bytes : List ℕ) (names texts : List (List ℕ)) (ts : List Token) (a
         body = l.root;
       } in
       let bodies : map (procedure_of l.nodes) r.procs ≡ s.items.procedures = procedures_stay r.nodes l.nodes r.procs (l.adds.added, l.adds.parts) (are_there r.nodes r.procs r.adds.there) ∙ r.are in
-      let same : s ≡ source_in f = sym (λ i. record { items = record { protocols = s.items.protocols; services = s.items.services; procedures = bodies i }; processes = s.processes; body = l.is i }) in
+      let same : s ≡ source_in f = sym (λ i. record { header = s.header; items = record { protocols = s.items.protocols; services = s.items.services; procedures = bodies i }; processes = s.processes; body = l.is i }) in
       let here : IsWithin names ts (source_in f) = subst (IsWithin names ts) same within in
       let file : File = record {
+        header = s.header;
         names = names;
         texts = texts;
         protocols = s.items.protocols;

@@ -3,3 +3,4 @@ pub mod Places
 pub mod Coming
 pub mod Lines
 pub mod Blocks
+pub mod HeaderReaders

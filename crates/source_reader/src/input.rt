@@ -6,8 +6,9 @@ ghost use Rattle.chor_lexer.specs.declared.token.Token.{Token};
 ghost use Rattle.chor_lexer.specs.Keywords.{IsName};
 ghost use Rattle.chor_tree.specs.declared.file.Named.{Named};
 ghost use Rattle.source_grammar.specs.Symbols.{Nothing, Head, Halts, RefusesFirst, HasRoom, IsFull};
-ghost use Rattle.source_grammar.specs.Grammar.{NameIs, WordIs, MarkIs};
+ghost use Rattle.source_grammar.specs.Grammar.{NameIs, WordIs, NumberIs, MarkIs};
 ghost use Rattle.source_grammar.specs.Parts.{MarkPart, WordPart, NamePart, AName, IsKeyword};
+ghost use Rattle.source_grammar.specs.Files.{NumberPart};
 ghost use Rattle.source_reader.specs.Reading.{names_of, tokens_from, Ends};
 
 use chor_base::{Denied, NameId, Names, Place, Refusal, Rule};
@@ -61,6 +62,36 @@ impl Input<'_> {
         }
     }
 
+    /// The number that stands here, and the place after it.
+    pub fn number_at(&self, at: usize) -> Option<(u64, usize)>
+        ensures found { IfSome result (λ x. NumberIs x.0 (tokens_from self.now at) (tokens_from self.now x.1)) }
+        ensures none { IfNone result ((n : ℕ) (rest : List Token) → NumberIs n (tokens_from self.now at) rest → ⊥) }
+    {
+        let token = *self.tokens.items.as_slice().get(at)?;
+        let Kind::Number(number) = token.kind else {
+            return None;
+        };
+        if number < 0 {
+            return None;
+        }
+        Some((number.unsigned_abs(), at + 1))
+    }
+
+    /// The place after this number, if it stands here.
+    pub fn after_number(&self, at: usize, number: u64) -> Option<usize>
+        ensures found { IfSome result (λ after. NumberIs number (tokens_from self.now at) (tokens_from self.now after)) }
+        ensures none { IfNone result ((rest : List Token) → NumberIs number (tokens_from self.now at) rest → ⊥) }
+    {
+        let token = *self.tokens.items.as_slice().get(at)?;
+        let Kind::Number(found) = token.kind else {
+            return None;
+        };
+        if found < 0 || found.unsigned_abs() != number {
+            return None;
+        }
+        Some(at + 1)
+    }
+
     /// The place after this mark, if it stands here.
     pub fn after_mark(&self, at: usize, mark: Mark) -> Option<usize>
         ensures found { IfSome result (λ after. MarkIs mark (tokens_from self.now at) (tokens_from self.now after)) }
@@ -90,6 +121,17 @@ impl Input<'_> {
         ensures halts { IfErr result (λ d. IsKeyword word.now → Halts (WordPart word.now) Nothing (names_of self.now) (tokens_from self.now at) d) }
     {
         match self.after_word(at, word) {
+            Some(after) => Ok(after),
+            None => Err(self.refused(Rule::P1, at)),
+        }
+    }
+
+    /// The place after this number, which has to stand here.
+    pub fn take_number(&self, at: usize, number: u64) -> Result<usize, Denied>
+        ensures read { IfOk result (λ after. NumberIs number (tokens_from self.now at) (tokens_from self.now after)) }
+        ensures halts { IfErr result (Halts (NumberPart number) Nothing (names_of self.now) (tokens_from self.now at)) }
+    {
+        match self.after_number(at, number) {
             Some(after) => Ok(after),
             None => Err(self.refused(Rule::P1, at)),
         }

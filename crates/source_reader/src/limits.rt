@@ -1,5 +1,7 @@
 //! How much of each thing a declaration may have.
 
+/// The greatest capacity that a header may declare.
+pub const CAPACITY: u64 = 1_000_000;
 /// Roles of a protocol; of a service, over both its lists.
 pub const ROLES: usize = 16;
 /// States of a protocol.

@@ -70,6 +70,28 @@ fn one_thing_makes_a_difference_both_ways_round(rt: HostRuntime) -> Result<(), F
     Ok(())
 }
 
+// Headers: none, a version alone, and two capacities.
+const HEADERS: [&[u8]; 4] = [
+    b"main(){end}",
+    b"chor 2;main(){end}",
+    b"chor 2;capacity 1;main(){end}",
+    b"chor 2;capacity 2;main(){end}",
+];
+
+#[test]
+fn headers_make_a_difference(rt: HostRuntime) -> Result<(), Fail> {
+    let alloc = rt.alloc();
+    for (place, header) in HEADERS.iter().enumerate() {
+        for (other_place, other) in HEADERS.iter().enumerate() {
+            let is_same = say_the_same(alloc, header, other)?;
+            assert_eq!(rt; is_same, place == other_place, "{header:?} {other:?}");
+        }
+    }
+    let elsewhere = b"chor 02 ; // a comment\ncapacity 1 ; main ( ) { end }".as_slice();
+    assert!(rt; say_the_same(alloc, HEADERS[2], elsewhere)?);
+    Ok(())
+}
+
 #[test]
 fn order_within_a_kind_makes_a_difference(rt: HostRuntime) -> Result<(), Fail> {
     let alloc = rt.alloc();

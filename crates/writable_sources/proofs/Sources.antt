@@ -108,14 +108,14 @@ module _ (e : Endpoints) (words : AreWords e.names) where
   -- ---- the whole
 
   file_writable : (s : Source) {us : List Token} (d : FileIs e.names us s) → KeepsAll d → AllTerms (IsSource e.names e.texts) s → IsWritableSource e s
-  file_writable s (a_file {is = is} {ps = ps} {b = b} d1 d2 d3 d4 d5 d6 d7) keeps ok =
-      let items = gathered is d1 keeps.0 in
+  file_writable s (a_file {is = is} {ps = ps} {b = b} d0 d1 d2 d3 d4 d5 d6 d7) keeps ok =
+      let items = gathered is d1 keeps.1 in
       record {
         services = derived_all {Item = ServicePart nowhere e.names} (IsWritableService e) is.services (λ us x vs i. service_writable x i.0 i.1) items.services;
         procedures = procedures_writable is.procedures items.procedures ok.0;
         processes = any_names_named e words ps d4;
-        few = any_names_few 64 ps d4 keeps.1;
-        body = block_writable e words b 64 1024 d6 keeps.2 ok.1;
+        few = any_names_few 64 ps d4 keeps.2;
+        body = block_writable e words b 64 1024 d6 keeps.3 ok.1;
       }
 
 -- A source that tokens derive within the limits can be written

@@ -12,6 +12,7 @@ _chor() {
         case $command in
           order) options='--pair --lead' ;;
           resume) options='--seed --steps' ;;
+          exec) options='--workers --seed --steps --capacity' ;;
           *) options='--workers --seed --steps' ;;
         esac
         mapfile -t COMPREPLY < <(compgen -W "$options" -- "$word")

@@ -24,6 +24,7 @@ complete -c chor -n '__fish_seen_subcommand_from explain' -a '(chor explain | st
 complete -c chor -n '__fish_seen_subcommand_from run exec link' -x -l workers -d 'has so many threads make the run'
 complete -c chor -n '__fish_seen_subcommand_from run exec link resume' -x -l seed -d 'picks another order of events'
 complete -c chor -n '__fish_seen_subcommand_from run exec link resume' -x -l steps -d 'stops after so many events'
+complete -c chor -n '__fish_seen_subcommand_from exec' -x -l capacity -d 'bounds the messages in a queue'
 complete -c chor -n '__fish_seen_subcommand_from order' -x -l pair -d 'says how two events stand to each other'
 complete -c chor -n '__fish_seen_subcommand_from order' -x -l lead -d 'writes the shortest run that leads to an event'
 complete -c chor -n '__fish_seen_subcommand_from gen' -l text -d 'writes the text of the choreography'

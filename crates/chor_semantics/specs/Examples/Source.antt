@@ -9,6 +9,7 @@ use Rattle.chor_base.specs.declared.value.Load.TheVariants.{Value as Carries}
 use Rattle.chor_base.specs.declared.event.Event.{Event}
 use Rattle.chor_base.specs.declared.expr.Expr.{Expr}
 use Rattle.chor_base.specs.declared.expr.Expr.TheVariants.{Lit}
+use Rattle.chor_tree.specs.Headers.{no_header}
 use Rattle.chor_tree.specs.declared.file.File.{File}
 use Rattle.chor_tree.specs.declared.file.Named.{Named as Written}
 use Rattle.chor_tree.specs.declared.file.Proc.{Proc}
@@ -55,10 +56,11 @@ nodes_of s = map (λ f. record { place = nowhere; form = f }) s.forms
 -- what the table and the file of a source keep
 pub record IsMade (s : Source) : Type 0 where
   pub closed : IsClosed (nodes_of s)
-  pub kept : Keeps words [] [] [] s.procs (map written s.processes) (nodes_of s) (node (length s.forms - 1))
+  pub kept : Keeps no_header words [] [] [] s.procs (map written s.processes) (nodes_of s) (node (length s.forms - 1))
 
 abbrev pub file_of : (s : Source) → IsMade s → File
 file_of s made = record {
+  header = no_header;
   names = words;
   texts = [];
   protocols = [];

@@ -2,12 +2,26 @@
 
 ghost use Rattle.std.specs.Prelude.{◌≡◌};
 ghost use Rattle.chor_tree.specs.Both.{words_of};
-ghost use Rattle.chor_tree.specs.Same.{same_sort, same_payload, same_arm, same_step, same_state, same_protocol, same_service, same_process_param, same_session_param};
+ghost use Rattle.chor_tree.specs.Same.{same_sort, same_payload, same_arm, same_step, same_state, same_protocol, same_service, same_header, same_process_param, same_session_param};
 
 use crate::comparison::both::Say;
 use crate::file::{File, ProcParam, Service, SessionParam};
+use crate::header::Header;
 use crate::protocol::{Payload, ProtoArm, ProtoStep, Protocol, State};
 use chor_base::Sort;
+
+impl Say for Header {
+    ghost same = { λ f g. same_header };
+
+    fn says(&self, other: &Self, left: &File, right: &File) -> bool {
+        let capacity = match (self.capacity, other.capacity) {
+            (Some(a), Some(b)) => a == b,
+            (None, None) => true,
+            _ => false,
+        };
+        (self.version == other.version) & capacity
+    }
+}
 
 impl Say for Sort {
     ghost same = { λ f g. same_sort };

@@ -8,6 +8,7 @@
 --     end
 use Rattle.std.specs.Prelude.{ℕ, List, [], ◌∷◌}
 use Rattle.chor_base.specs.declared.names.NameId.{NameId}
+use Rattle.chor_tree.specs.Headers.{no_header}
 use Rattle.chor_tree.specs.declared.file.File.{File}
 use Rattle.chor_tree.specs.declared.file.Service.{Service}
 use Rattle.chor_tree.specs.Children.{IsClosed as IsClosedTree}
@@ -55,10 +56,11 @@ abbrev pub service : NameId → Service
 service c = record { name = written c; protocol = written D; active = written A ∷ []; serve = written S ∷ [] }
 
 abbrev pub FileIsKept : Type 0
-FileIsKept = Keeps words [] [] (service a ∷ service d ∷ []) [] (written p ∷ written q ∷ []) (nodes_of source) (node 6)
+FileIsKept = Keeps no_header words [] [] (service a ∷ service d ∷ []) [] (written p ∷ written q ∷ []) (nodes_of source) (node 6)
 
 abbrev pub file : IsClosedTree (nodes_of source) → FileIsKept → File
 file closed kept = record {
+  header = no_header;
   names = words;
   texts = [];
   protocols = [];

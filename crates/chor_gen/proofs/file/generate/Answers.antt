@@ -4,6 +4,7 @@ use Rattle.chor_gen.proofs.file.generate.Goals as goal
 pub returns-clause-source : goal.returns-clause-source
 returns-clause-source c = source_is (record {
   some = c.in_ok-words.words.some;
+  header_is = c.none.ensures;
   protocols_are = c.in_ok-protocols.ensures;
   services_are = c.in_ok-services.ensures;
   made = c.in_ok-procs.ensures;
@@ -15,6 +16,7 @@ pub invariant_of-result : goal.invariant_of-result
 invariant_of-result c = record {
   kept = file_kept (record {
     some = c.in_ok-words.words.some;
+    header_is = c.none.ensures;
     protocols_are = c.in_ok-protocols.ensures;
     services_are = c.in_ok-services.ensures;
     made = c.in_ok-procs.ensures;

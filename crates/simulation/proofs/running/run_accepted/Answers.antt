@@ -5,8 +5,8 @@ use Rattle.endpoint_runs.specs.declared.run.Closed.TheVariants.{Ended, Limit, St
 use Rattle.simulation.proofs.Runs.{checked, outcome_of}
 use Rattle.simulation.proofs.running.run_accepted.Goals as goal
 
-pub run_endpoints-requires-clause-faultless : goal.run_endpoints-requires-clause-faultless
-run_endpoints-requires-clause-faultless g c = subst (λ (words : List (List ℕ)). IsFaultlessWith words c.endpoints-endpoints.result.now) c.requires.hosts c.endpoints-endpoints.ensures.accepted.faultless
+pub run_within-requires-clause-faultless : goal.run_within-requires-clause-faultless
+run_within-requires-clause-faultless g c = subst (λ (words : List (List ℕ)). IsFaultlessWith words c.endpoints-endpoints.result.now) c.requires.hosts c.endpoints-endpoints.ensures.accepted.faultless
 
 pub unreachable-requires : goal.unreachable-requires
 unreachable-requires g c =
@@ -16,7 +16,7 @@ unreachable-requires g c =
     let ok = checked typed.hosts typed.file e typed.fine a in
     let ran = c.in_ok-ran in
     let stuck = Stuck c.in-Stuck.field-0 c.in-Stuck.field-1 in
-    let run = outcome_of typed.file typed.hosts e ok a c.len-count.ensures.distinct (functions_of c.args.hosts.now) c.functions_answer.ensures c.laws.ensures.alike c.laws.ensures.runs c.args.seed c.args.steps ran.ran.history ran.ran.closed stuck ran.ensures c.in-Stuck.is c.args.accepted.now.endpoints c.endpoints-endpoints.ensures.endpoints in
+    let run = outcome_of typed.file typed.hosts e ok a c.len-count.ensures.distinct (functions_of c.args.hosts.now) c.functions_answer.ensures c.laws.ensures.alike c.laws.ensures.runs c.capacity.result c.capacity.ensures.room c.capacity.ensures.capacity c.args.seed c.args.steps ran.ran.history ran.ran.closed stuck ran.ensures c.in-Stuck.is c.args.accepted.now.endpoints c.endpoints-endpoints.ensures.endpoints in
     run.run.closed.closes
 
 pub returns-in-Ended : goal.returns-in-Ended
@@ -26,7 +26,7 @@ returns-in-Ended g c =
     let a = c.endpoints-endpoints.ensures.accepted in
     let ok = checked typed.hosts typed.file e typed.fine a in
     let ran = c.in_ok-ran in
-    outcome_of typed.file typed.hosts e ok a c.len-count.ensures.distinct (functions_of c.args.hosts.now) c.functions_answer.ensures c.laws.ensures.alike c.laws.ensures.runs c.args.seed c.args.steps ran.ran.history ran.ran.closed Ended ran.ensures c.in-Ended.is c.args.accepted.now.endpoints c.endpoints-endpoints.ensures.endpoints
+    outcome_of typed.file typed.hosts e ok a c.len-count.ensures.distinct (functions_of c.args.hosts.now) c.functions_answer.ensures c.laws.ensures.alike c.laws.ensures.runs c.capacity.result c.capacity.ensures.room c.capacity.ensures.capacity c.args.seed c.args.steps ran.ran.history ran.ran.closed Ended ran.ensures c.in-Ended.is c.args.accepted.now.endpoints c.endpoints-endpoints.ensures.endpoints
 
 pub returns-in-Limit : goal.returns-in-Limit
 returns-in-Limit g c =
@@ -35,4 +35,4 @@ returns-in-Limit g c =
     let a = c.endpoints-endpoints.ensures.accepted in
     let ok = checked typed.hosts typed.file e typed.fine a in
     let ran = c.in_ok-ran in
-    outcome_of typed.file typed.hosts e ok a c.len-count.ensures.distinct (functions_of c.args.hosts.now) c.functions_answer.ensures c.laws.ensures.alike c.laws.ensures.runs c.args.seed c.args.steps ran.ran.history ran.ran.closed Limit ran.ensures c.in-Limit.is c.args.accepted.now.endpoints c.endpoints-endpoints.ensures.endpoints
+    outcome_of typed.file typed.hosts e ok a c.len-count.ensures.distinct (functions_of c.args.hosts.now) c.functions_answer.ensures c.laws.ensures.alike c.laws.ensures.runs c.capacity.result c.capacity.ensures.room c.capacity.ensures.capacity c.args.seed c.args.steps ran.ran.history ran.ran.closed Limit ran.ensures c.in-Limit.is c.args.accepted.now.endpoints c.endpoints-endpoints.ensures.endpoints

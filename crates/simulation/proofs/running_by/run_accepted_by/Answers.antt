@@ -17,7 +17,7 @@ unreachable-requires g c =
     let ok = checked typed.hosts typed.file e typed.fine a in
     let told = c.in_ok-told in
     let stuck = Stuck c.in-Stuck.field-0 c.in-Stuck.field-1 in
-    let run = closed_of typed.file typed.hosts e ok a c.len-count.ensures.distinct (functions_of c.args.hosts.now) c.functions_answer.ensures c.laws.ensures.alike c.laws.ensures.runs c.args.workers c.args.steps told.told.history told.told.close stuck told.ensures c.in-Stuck.is c.args.accepted.now.endpoints c.endpoints-endpoints.ensures.endpoints in
+    let run = closed_of typed.file typed.hosts e ok a c.len-count.ensures.distinct (functions_of c.args.hosts.now) c.functions_answer.ensures c.laws.ensures.alike c.laws.ensures.runs c.capacity.result c.capacity.ensures.room c.capacity.ensures.capacity c.args.workers c.args.steps told.told.history told.told.close stuck told.ensures c.in-Stuck.is c.args.accepted.now.endpoints c.endpoints-endpoints.ensures.endpoints in
     run.closes
 
 pub returns-in-Ended : goal.returns-in-Ended
@@ -28,8 +28,8 @@ returns-in-Ended g c =
     let ok = checked typed.hosts typed.file e typed.fine a in
     let told = c.in_ok-told in
     record {
-      run = closed_of typed.file typed.hosts e ok a c.len-count.ensures.distinct (functions_of c.args.hosts.now) c.functions_answer.ensures c.laws.ensures.alike c.laws.ensures.runs c.args.workers c.args.steps told.told.history told.told.close Ended told.ensures c.in-Ended.is c.args.accepted.now.endpoints c.endpoints-endpoints.ensures.endpoints;
-      owned = owned_of typed.file typed.hosts e ok a c.len-count.ensures.distinct (functions_of c.args.hosts.now) c.functions_answer.ensures c.laws.ensures.alike c.laws.ensures.runs c.args.workers c.args.steps told.told.history told.told.close Ended told.ensures c.in-Ended.is c.args.accepted.now.endpoints c.endpoints-endpoints.ensures.endpoints;
+      run = closed_of typed.file typed.hosts e ok a c.len-count.ensures.distinct (functions_of c.args.hosts.now) c.functions_answer.ensures c.laws.ensures.alike c.laws.ensures.runs c.capacity.result c.capacity.ensures.room c.capacity.ensures.capacity c.args.workers c.args.steps told.told.history told.told.close Ended told.ensures c.in-Ended.is c.args.accepted.now.endpoints c.endpoints-endpoints.ensures.endpoints;
+      owned = owned_of typed.file typed.hosts e ok a c.len-count.ensures.distinct (functions_of c.args.hosts.now) c.functions_answer.ensures c.laws.ensures.alike c.laws.ensures.runs c.capacity.result c.capacity.ensures.room c.capacity.ensures.capacity c.args.workers c.args.steps told.told.history told.told.close Ended told.ensures c.in-Ended.is c.args.accepted.now.endpoints c.endpoints-endpoints.ensures.endpoints;
     }
 
 pub returns-in-Limit : goal.returns-in-Limit
@@ -40,6 +40,6 @@ returns-in-Limit g c =
     let ok = checked typed.hosts typed.file e typed.fine a in
     let told = c.in_ok-told in
     record {
-      run = closed_of typed.file typed.hosts e ok a c.len-count.ensures.distinct (functions_of c.args.hosts.now) c.functions_answer.ensures c.laws.ensures.alike c.laws.ensures.runs c.args.workers c.args.steps told.told.history told.told.close Limit told.ensures c.in-Limit.is c.args.accepted.now.endpoints c.endpoints-endpoints.ensures.endpoints;
-      owned = owned_of typed.file typed.hosts e ok a c.len-count.ensures.distinct (functions_of c.args.hosts.now) c.functions_answer.ensures c.laws.ensures.alike c.laws.ensures.runs c.args.workers c.args.steps told.told.history told.told.close Limit told.ensures c.in-Limit.is c.args.accepted.now.endpoints c.endpoints-endpoints.ensures.endpoints;
+      run = closed_of typed.file typed.hosts e ok a c.len-count.ensures.distinct (functions_of c.args.hosts.now) c.functions_answer.ensures c.laws.ensures.alike c.laws.ensures.runs c.capacity.result c.capacity.ensures.room c.capacity.ensures.capacity c.args.workers c.args.steps told.told.history told.told.close Limit told.ensures c.in-Limit.is c.args.accepted.now.endpoints c.endpoints-endpoints.ensures.endpoints;
+      owned = owned_of typed.file typed.hosts e ok a c.len-count.ensures.distinct (functions_of c.args.hosts.now) c.functions_answer.ensures c.laws.ensures.alike c.laws.ensures.runs c.capacity.result c.capacity.ensures.room c.capacity.ensures.capacity c.args.workers c.args.steps told.told.history told.told.close Limit told.ensures c.in-Limit.is c.args.accepted.now.endpoints c.endpoints-endpoints.ensures.endpoints;
     }

@@ -1,4 +1,4 @@
-use Rattle.std.proofs.Common.{List, ℕ, Option, sym, None, subst}
+use Rattle.std.proofs.Common.{List, ℕ, Option, sym, subst}
 use Rattle.chor_host.specs.Functions.{hosts_in, names_of}
 use Rattle.chor_host.specs.Tables.{functions_of}
 use Rattle.endpoint_code.specs.declared.endpoints.Endpoints.{Endpoints}
@@ -34,8 +34,8 @@ returns g c =
     let told = c.in_ok-told.ensures in
     let close = close_of c.in_ok-told.told.closed in
     let free = subst (λ (cap : Option ℕ). IsScheduled run.network.endpoints (hosts_in run.network.endpoints.names fs) cap run.schedule.seed run.schedule.steps run.network.state 0 told.history told.last close) begun.capacity told.scheduled in
-    let first = subst (λ (n : NetworkState). IsScheduled run.network.endpoints (hosts_in run.network.endpoints.names fs) None run.schedule.seed run.schedule.steps n 0 told.history told.last close) begun.state free in
-    let asked_for = subst (λ (s : Schedule). IsScheduled run.network.endpoints (hosts_in run.network.endpoints.names fs) None s.seed s.steps (first_state e) 0 told.history told.last close) begun.schedule first in
-    let scheduled = subst (λ (x : Endpoints). IsScheduled x (hosts_in x.names fs) None c.args.schedule.seed c.args.schedule.steps (first_state e) 0 told.history told.last close) begun.endpoints asked_for in
-    let of_file = run_of typed.file typed.hosts e ok a c.len-count.ensures.distinct fs c.functions_answer.ensures c.laws.ensures.alike c.laws.ensures.runs c.args.schedule.seed c.args.schedule.steps told.history told.last close scheduled accepted.endpoints c.endpoints-endpoints.ensures.endpoints in
+    let first = subst (λ (n : NetworkState). IsScheduled run.network.endpoints (hosts_in run.network.endpoints.names fs) c.capacity.result run.schedule.seed run.schedule.steps n 0 told.history told.last close) begun.state free in
+    let asked_for = subst (λ (s : Schedule). IsScheduled run.network.endpoints (hosts_in run.network.endpoints.names fs) c.capacity.result s.seed s.steps (first_state e) 0 told.history told.last close) begun.schedule first in
+    let scheduled = subst (λ (x : Endpoints). IsScheduled x (hosts_in x.names fs) c.capacity.result c.args.schedule.seed c.args.schedule.steps (first_state e) 0 told.history told.last close) begun.endpoints asked_for in
+    let of_file = run_of typed.file typed.hosts e ok a c.len-count.ensures.distinct fs c.functions_answer.ensures c.laws.ensures.alike c.laws.ensures.runs c.capacity.result c.capacity.ensures.room c.capacity.ensures.capacity c.args.schedule.seed c.args.schedule.steps told.history told.last close scheduled accepted.endpoints c.endpoints-endpoints.ensures.endpoints in
     told_of (words c.args.book.now) accepted fs c.args.schedule c.in_ok-told.told.closed told.history c.in_ok-told.told.text.items of_file told.text_is
