@@ -11,6 +11,7 @@ use Rattle.endpoint_link.specs.declared.fault.LinkRule.TheVariants.{K1, K2}
 use Rattle.endpoint_link.specs.declared.fault.Unit.{Unit as AnyUnit}
 use Rattle.endpoint_link.specs.declared.fault.Unit.TheVariants as units
 
+-- `K1` or `K2`
 abbrev pub rule_word : LinkRule → List ℕ
 rule_word K1 = codes "K1"
 rule_word K2 = codes "K2"

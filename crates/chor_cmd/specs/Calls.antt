@@ -52,6 +52,7 @@ Must Has Come (name ∷ names) (Reads Fits next) =
 
 -- ---- what a replay says
 
+-- the status and the text of a replay with this answer
 abbrev pub ReplaySays : Result Replayed ReplayFault → Status → List ℕ → Type 0
 ReplaySays (Ok r) = Exactly Done (replayed_line r)
 ReplaySays (Err (unlike i)) = Exactly Unmatched (unmatched_line i)
@@ -86,6 +87,7 @@ module _ (call : Call) where
   abbrev pub EndsBy : Status → Type 0
   EndsBy status = HasEndedSo call.functions call.words call.shelf call.shelf' call.sink call.sink' status
 
+  -- how the call has ended is one of the ways in which it may end
   abbrev pub HasEnded : Type 0
   HasEnded = EndsBy call.status
 

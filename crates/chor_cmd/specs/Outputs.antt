@@ -34,6 +34,7 @@ use Rattle.chor_cmd.specs.Runs.{IsAskedRun, IsAskedTranscript}
 abbrev pub end_line : ℕ → List ℕ
 end_line n = codes "end " ++ decimal n
 
+-- the last line of the transcript of a run that is open after n events
 abbrev pub limit_line : ℕ → List ℕ
 limit_line n = codes "limit " ++ decimal n
 
@@ -77,15 +78,19 @@ pub record IsProjectionText (f : File) (text : List ℕ) : Type 0 where
 
 -- ---- the lines
 
+-- for words of no form
 abbrev pub usage_line : List ℕ
 usage_line = codes "usage: chor COMMAND ARGUMENTS\n"
 
+-- a line that names a file
 abbrev pub line_naming : List ℕ → List ℕ → List ℕ
 line_naming what name = what ++ name ++ 10 ∷ []
 
+-- for a file that could not be read
 abbrev pub read_fault_line : List ℕ → List ℕ
 read_fault_line name = line_naming (codes "read fault ") name
 
+-- for a file that is longer than it may be
 abbrev pub too_large_line : List ℕ → List ℕ
 too_large_line name = line_naming (codes "too large ") name
 

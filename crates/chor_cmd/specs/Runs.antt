@@ -17,6 +17,7 @@ use Rattle.simulation.specs.Runs.{IsRunOf}
 use Rattle.program_runs.specs.Transcripts.{IsTranscriptOf}
 use Rattle.program_runs.specs.ByWorkers.{IsTranscriptBy}
 
+-- these events are a run of endpoint programs, by how many workers make it: the scheduled run for none, else any closed run
 abbrev pub RunBy : ℕ → File → Endpoints → Hosts → Option ℕ → Options → List Event → Close → Type 0
 RunBy zero f e hosts cap options h close = IsRunOf f e hosts cap options.seed options.steps h close
 RunBy (suc n) f e hosts cap options h close = IsClosedRunOf f e hosts cap options.steps h close
@@ -26,6 +27,7 @@ RunBy (suc n) f e hosts cap options h close = IsClosedRunOf f e hosts cap option
 abbrev pub IsAskedRun : File → Endpoints → Hosts → Option ℕ → Options → List Event → Close → Type 0
 IsAskedRun f e hosts cap options h close = RunBy options.workers f e hosts cap options h close
 
+-- the text is the transcript of such a run, by the number of workers
 abbrev pub TranscriptBy : ℕ → List Function → Endpoints → Options → List ℕ → Bool → Type 0
 TranscriptBy zero functions e options text stuck = IsTranscriptOf functions e options.capacity options.seed options.steps text stuck
 TranscriptBy (suc n) functions e options text stuck = IsTranscriptBy functions e options.capacity options.steps text stuck

@@ -20,6 +20,7 @@ closing_text w n Ended = codes "end " ++ decimal n
 closing_text w n Limit = codes "limit " ++ decimal n
 closing_text w n (Stuck p why) = stuck_text w n p why
 
+-- the run is stuck
 abbrev pub is_stuck : Close → Bool
 is_stuck (Stuck p why) = true
 is_stuck _ = false
