@@ -7,7 +7,7 @@ import re
 NAME = re.compile(r"[^\s(){},;:\"]+")
 SIGNS = {"pub", "record", "data", "abbrev", "where", "if", "then", "else", "with", "Type", "λ", "→", "=", "×", "⊥", "_"}
 TYPE = re.compile(
-    r"((?:^ *///[^\n]*\n|^#\[[^\n]*\n)*)"  # the comment and the attributes
+    r"((?:^ *//[^!\n][^\n]*\n|^ *//\n|^#\[[^\n]*\n)*)"  # the comment and the attributes
     r"^(?:pub )?(?:struct|enum|trait) (\w+)"
     r"([^\n]*\n(?:[ }][^\n]*\n|\n)*?(?:\}|(?=\n))|[^\n]*;)",  # its body
     re.M,
@@ -140,12 +140,12 @@ class RustType:
 
     def __init__(self, path, crate, name, comment, body, roots):
         self.path, self.crate, self.name, self.body, self.roots = path, crate, name, body, roots
-        lines = [line.strip()[3:].strip() for line in comment.split("\n") if line.startswith("///")]
+        lines = [line.lstrip("/ ").rstrip() for line in comment.split("\n") if line.startswith("//")]
         self.comment = " ".join(lines[: lines.index("")] if "" in lines else lines)
         self.key = path, name
 
     def parts(self, repository):
-        for word in re.findall(r"\w+", re.sub(r"///[^\n]*", "", self.body)):
+        for word in re.findall(r"\w+", re.sub(r"//[^\n]*", "", self.body)):
             root = self.roots.get(word, "crate")
             yield repository.types.get((self.crate if root == "crate" else root, word))
 
