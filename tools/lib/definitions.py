@@ -6,6 +6,7 @@ import re
 
 NAME = re.compile(r"[^\s(){},;:\"]+")
 SIGNS = {"pub", "record", "data", "abbrev", "where", "if", "then", "else", "with", "Type", "λ", "→", "=", "×", "⊥", "_"}
+FIELD = re.compile(r"[{;] *[^\s{};]+ = |^ +[^\s{};]+ = (?=.*[;{]$)")  # of a record: its name, not its value
 TYPE = re.compile(
     r"((?:^ *//[^!\n][^\n]*\n|^ *//\n|^#\[[^\n]*\n)*)"  # the comment and the attributes
     r"^(?:pub )?(?:struct|enum|trait) (\w+)"
@@ -74,7 +75,7 @@ class Definition:
             if self.kind == "abbrev" and number and depth_of(line) == depth_of(self.lines[0]):
                 head, sign, _ = line.partition(" =")
                 clause = set(variables(head)) if sign else set()
-            for word in NAME.findall(line):
+            for word in NAME.findall(FIELD.sub(" ", line)):
                 if word not in SIGNS and word.split(".")[0] not in bound | clause:
                     yield word
 
@@ -92,7 +93,7 @@ class SpecFile:
     def __init__(self, path, crate, text):
         self.path, self.crate, self.about = path, crate, ""
         self.imports, self.definitions = {}, {}
-        self.comment, self.last, self.modules = [], None, []
+        self.comment, self.group, self.last, self.modules = [], "", None, []
         for line in text.split("\n"):
             self.take(line, line.split())
         self.made_by = {name: it for it in self.definitions.values() for name in it.constructors()}
@@ -111,8 +112,9 @@ class SpecFile:
             text = line.strip()[2:].strip()
             self.comment = [] if text.startswith("----") else self.comment + [text]
             return
-        elif is_outer and words[0] in ("module", "mutual"):
+        elif is_outer and (words[0] in ("module", "mutual") or words[:2] == ["abbrev", "mutual"]):
             self.modules.append((depth_of(line) + 2, line.strip() if words[0] == "module" else ""))
+            self.group = " ".join(self.comment)
         elif is_outer:
             self.begin(line)
         elif self.last:
@@ -122,14 +124,15 @@ class SpecFile:
     def begin(self, line):
         """A definition begins here, or a clause of the one before."""
         found = re.match(r"\s*(?:(abbrev|record|data)\s+|(pub)\s+|)(?:pub\s+)?(?:(record|data)\s+)?([^\s:(){}]+)", line)
-        kind = found and (found.group(1) or found.group(3) or found.group(2))
+        kind = found and (found.group(1) or found.group(3) or found.group(2) or line.split()[1] == ":")
         if not kind:
             if self.last:
                 self.last.lines.append(line)
             return
         above = [" " * (depth_of(line) + 4) + module for _, module in self.modules if module]
         kind = kind if kind in ("record", "data") else "abbrev"
-        self.last = Definition(self, kind, found.group(4), " ".join(self.comment), [line] + above)
+        self.last = Definition(self, kind, found.group(4), " ".join(self.comment) or self.group, [line] + above)
+        self.group = ""
         self.definitions.setdefault(self.last.name, self.last)
 
 
