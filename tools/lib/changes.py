@@ -4,7 +4,7 @@ import re
 TOKEN = re.compile(rb'"(?:\\.|[^"\\\n])*"|\w+|:=|->|==|!=|<=|&&|\|\||\s+|.', re.DOTALL)
 WORDS = [
     *(word.encode() for word in "protocol service proc main start new if else call end show host then int bool text true false chor capacity".split()),
-    *(word.encode() for word in "endpoints channel process join send recv pick branch give gain set min max gap k p q A B".split()),
+    *(word.encode() for word in "endpoints channel process join send recv pick branch give gain set min max gap dice k p q A B".split()),
     *(mark.encode() for mark in "{ } ( ) [ ] , ; : . = := -> | @ + - * / == != < <= && || !".split()),
     b"0", b"1", b"2", b"007", b"9223372036854775807", b"9223372036854775808", b'""', b'"a\\"\\n"', b'"', b"//", b"%2", b"#0", b"\xc3\xa9", b"w" * 65,
 ]

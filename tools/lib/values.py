@@ -29,7 +29,14 @@ NUMBERS = {
     "+": lambda a, b: kept(a + b), "-": lambda a, b: kept(a - b), "*": lambda a, b: kept(a * b), "/": lambda a, b: kept(quotient(a, b)),
     "<": lambda a, b: a < b, "<=": lambda a, b: a <= b,
 }
-HOSTS = {"min": min, "max": max, "gap": lambda a, b: kept(abs(kept(a - b)))}
+
+
+def gap(left, right):
+    """How far apart two numbers are, where that fits."""
+    return kept(abs(left - right))
+
+
+HOSTS = {"min": min, "max": max, "gap": gap, "dice": lambda a, b: 1 + gap(a, b) % 6}
 
 
 def value_of(expression, variables):

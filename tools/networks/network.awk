@@ -279,10 +279,11 @@ function receive(p,   at, sid, from, to, what, word, q, i, part) {
   tell(word " " name_of[p] " #" sid " " from ">" to " " written(what))
 }
 
-# What a host function answers: `min`, `max`, or `gap`, the distance of two numbers.
+# What a host function answers: `min`, `max`, `gap`, the distance of two numbers, or `dice`.
 function answer(name, a, b) {
   if (name == "min") return a < b ? a : b
   if (name == "max") return a < b ? b : a
+  if (name == "dice") return 1 + (a < b ? b - a : a - b) % 6
   return a < b ? b - a : a - b
 }
 

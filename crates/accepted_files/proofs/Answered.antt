@@ -32,9 +32,8 @@ use Rattle.typed_sources.proofs.Calls.{all_of}
 use Rattle.typed_sources.proofs.Resolved.{no_items, both_empty}
 use Rattle.typed_sources.proofs.ProcedureHeads.{no_fault_at}
 use Rattle.typed_sources.proofs.Followers.{low, only, other}
-use Rattle.chor_host.specs.Functions.{Function, names_of, hosts_in}
-use Rattle.accepted_files.specs.FaultlessLaws.{AreExact}
-use Rattle.accepted_files.proofs.Found.{has_answer}
+use Rattle.chor_host.specs.Functions.{Function, names_of, hosts_in, AreAnswerable}
+use Rattle.chor_host.proofs.Answerable.{has_answer}
 
 in_table : (ns : List Node) (i : ℕ) → i < length ns → (n : Node) × (slice_get ns i ≡ Some n) × Contains ns n
 in_table [] i l = absurd (omega (arith, l))
@@ -45,7 +44,7 @@ not_not : (b : Bool) → not b ≡ false → b ≡ true
 not_not true h = refl
 not_not false h = absurd cc
 
-module _ (f : File) (functions : List Function) (distinct : AllDistinct f.names) (exact : AreExact functions) where
+module _ (f : File) (functions : List Function) (distinct : AllDistinct f.names) (answerable : AreAnswerable functions) where
   abbrev hosts : Hosts
   hosts = hosts_in f.names functions
 
@@ -61,7 +60,7 @@ module _ (f : File) (functions : List Function) (distinct : AllDistinct f.names)
   -- a function that isn't unknown has an answer
   known : (x : Written) → nat_lt x.name.0 (length f.names) ≡ true → unknown_function f words x ≡ [] → CanAnswer hosts x.name
   known x there h =
-      has_answer f.names x.name (name_in f.names x.name) distinct (slice_get-get_or f.names x.name.0 [] (ltb-true x.name.0 (length f.names) there)) functions exact
+      has_answer f.names x.name (name_in f.names x.name) distinct (slice_get-get_or f.names x.name.0 [] (ltb-true x.name.0 (length f.names) there)) functions answerable
       (not_not (list_any (bytes_eq (name_in f.names x.name)) words) (no_fault_at (not (list_any (bytes_eq (name_in f.names x.name)) words)) N1 x h))
 
   abbrev There : Form → Type 0

@@ -38,9 +38,7 @@ pub mod Exist
 pub mod Clear
 pub mod Example
 pub mod There
-mod Found
 mod Answered
-pub mod Tables
 mod AskedCodes
 mod AskedBodies
 mod AskedServices

@@ -3,8 +3,8 @@
 
 ghost use Rattle.accepted_files.specs.FaultlessLaws.{AskedFunctionsAnswer, ProjectionAsksKnown, ProjectionIsFaultless};
 
-/// Where no host function that a file asks is unknown, and each has an exact meaning, each of them
-/// has an answer to any two numbers.
+/// Where no host function that a file asks is unknown, and each has answers, each of them has an
+/// answer to any two numbers.
 pub fn asked_functions_answer()
     ensures { AskedFunctionsAnswer }
 {}

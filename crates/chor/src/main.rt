@@ -3,7 +3,7 @@
 
 use chor_base::{List, Memory, Word};
 use chor_cmd::{Words, chor};
-use chor_host::{host_gap, host_max, host_min, program_hosts};
+use chor_host::{host_dice, host_gap, host_max, host_min, program_hosts};
 use chor_io::{DiskShelf, OpenGate, OutSink};
 use std::alloc::Global;
 use std::env::{self, Args};
@@ -24,7 +24,7 @@ fn main(rt: HostRuntime) -> ExitCode {
     let Ok(words) = words_of(rt.alloc(), args) else {
         return ExitCode::from(NO_MEMORY);
     };
-    let Ok(hosts) = program_hosts(rt.alloc(), host_min, host_max, host_gap) else {
+    let Ok(hosts) = program_hosts(rt.alloc(), host_min, host_max, host_gap, host_dice) else {
         drop(words);
         return ExitCode::from(NO_MEMORY);
     };

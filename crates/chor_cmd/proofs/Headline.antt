@@ -5,7 +5,7 @@ use Rattle.chor_base.specs.declared.rule.Refusal.{Refusal}
 use Rattle.chor_tree.specs.declared.file.File.{File}
 use Rattle.chor_base.specs.declared.event.Event.{Event}
 use Rattle.chor_base.specs.Meaning.{Hosts}
-use Rattle.chor_host.specs.Functions.{Function, hosts_in, names_of}
+use Rattle.chor_host.specs.Functions.{Function, hosts_in, names_of, AreAnswerable, AreSized}
 use Rattle.replay.specs.declared.answer.Replayed.{Replayed}
 use Rattle.replay.specs.declared.answer.ReplayFault.{ReplayFault}
 use Rattle.replay.specs.declared.answer.ReplayFault.TheVariants.{Unmatched as unlike, Memory as NoMemory}
@@ -22,7 +22,7 @@ use Rattle.transcript.specs.Text.{transcript}
 use Rattle.program_runs.specs.Transcripts.{closing_text}
 use Rattle.program_runs.specs.Books.{book_of}
 use Rattle.accepted_files.specs.Closing.{ClosesWell}
-use Rattle.projected_programs.specs.Laws.{AreExact, AreProjected, ProjectedTextIsTaken, ProjectedTextRuns}
+use Rattle.projected_programs.specs.Laws.{AreProjected, ProjectedTextIsTaken, ProjectedTextRuns}
 use Rattle.projected_programs.specs.LawsBy.{ProjectedTextRunsByWorkers}
 use Rattle.chor_cmd.specs.declared.status.Status.{Status}
 use Rattle.chor_cmd.specs.declared.status.Status.TheVariants.{Done, Unmatched}
@@ -78,10 +78,10 @@ module _ (functions : List Function) (options : Options) (source : List ℕ) (f 
       (ap status_of r.0, r.1)
 
 module _ (call : Call) where
-  pub runs_projected : AreExact call.functions → ProjectedTextIsTaken → ProjectedTextRuns → ProjectedTextRunsByWorkers → HasEnded call → RunsProjected call
-  runs_projected exact taken runs runs_by ended = λ options name source f e accepted projects form told few.
+  pub runs_projected : AreAnswerable call.functions → AreSized call.functions → ProjectedTextIsTaken → ProjectedTextRuns → ProjectedTextRunsByWorkers → HasEnded call → RunsProjected call
+  runs_projected answerable sized taken runs runs_by ended = λ options name source f e accepted projects form told few.
       grows call (Goes (MayTell call.shelf.files) (name ∷ []) (row_of call.functions (Exec options))) (λ s t. (s ≡ Done) × IsRunUnder options.capacity call.functions f options t)
-      (by_way options name source f e (record { exact = exact; accepted = accepted; projects = projects }) told few) (by_table call ended (Exec options) (name ∷ []) form)
+      (by_way options name source f e (record { answerable = answerable; sized = sized; accepted = accepted; projects = projects }) told few) (by_table call ended (Exec options) (name ∷ []) form)
     where
       by_way : (options : Options) (name source : List ℕ) (f : File) (e : Endpoints) → AreProjected call.functions source f e → Tells call.shelf.files name (endpoints_text e) → length (endpoints_text e) ≤ programs_limit
           → (s : Status) (t : List ℕ) → Goes (MayTell call.shelf.files) (name ∷ []) (row_of call.functions (Exec options)) s t → (s ≡ Done) × IsRunUnder options.capacity call.functions f options t

@@ -1,3 +1,3 @@
 pub mod Named
 pub mod Meanings
-pub mod OneAnswer
+pub mod Answerable

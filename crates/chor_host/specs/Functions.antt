@@ -1,10 +1,11 @@
 -- What contracts see of host functions. X and g stand for what a function pointer calls.
-use Rattle.std.specs.Prelude.{ℕ, ℤ, Bool, List, [], ◌∷◌, ◌++◌, map, Option, Some, None, position, bytes_eq, if◌then◌else◌}
+use Rattle.std.specs.Prelude.{ℕ, ℤ, Bool, List, [], ◌∷◌, ◌++◌, map, Option, Some, None, position, bytes_eq, if◌then◌else◌, All}
 use Rattle.std.specs.List.{list_any}
 use denote.Param.Members.{Mut}
 use Rattle.chor_base.specs.declared.meaning.Meaning.{Meaning}
-use Rattle.chor_base.specs.Meaning.{Hosts}
+use Rattle.chor_base.specs.Meaning.{Hosts, IsAllowed}
 use Rattle.chor_host.specs.declared.function.HostFn.{HostFn}
+use Rattle.chor_host.specs.Answers.{IsSized}
 
 -- a host function by its name, with what it may answer
 abbrev pub Function : Type 0
@@ -34,3 +35,11 @@ numbered (Some n) m = (record { 0 = n }, m) ∷ []
 abbrev pub hosts_in : List (List ℕ) → List Function → Hosts
 hosts_in names [] = []
 hosts_in names (f ∷ fs) = numbered (position (bytes_eq f.0) names) f.1 ++ hosts_in names fs
+
+-- Each of these functions has an answer that its meaning allows, to any two numbers
+abbrev pub AreAnswerable : List Function → Type 0
+AreAnswerable functions = All (λ f. (a b : ℤ) → (v : ℤ) × IsAllowed f.1 a b v) functions
+
+-- The ends of the ranges of these functions are numbers of 64 bits with sign
+abbrev pub AreSized : List Function → Type 0
+AreSized functions = All (λ f. IsSized f.1) functions

@@ -1,5 +1,5 @@
 pub mod Functions
 pub mod Tables
-pub mod Exact
+pub mod Answers
 pub mod Props
 pub mod Program

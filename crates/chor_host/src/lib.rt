@@ -9,6 +9,6 @@ mod table;
 
 pub use fault::AddFault;
 pub use function::HostFn;
-pub use operations::{host_gap, host_max, host_min};
+pub use operations::{host_dice, host_gap, host_max, host_min};
 pub use program::program_hosts;
 pub use table::HostTable;

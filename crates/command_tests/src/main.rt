@@ -25,7 +25,7 @@
 use crate::cases::{Tables, answer_cases};
 use crate::gates::answer_gates;
 use crate::worked_texts::answer_worked;
-use chor_host::{HostTable, host_gap, host_max, host_min, program_hosts};
+use chor_host::{HostTable, host_dice, host_gap, host_max, host_min, program_hosts};
 use std::alloc::{Alloc, Global};
 use std::fs::{self, Files};
 use std::sync::Wait;
@@ -39,7 +39,7 @@ mod gates;
 mod worked_texts;
 
 fn main(rt: HostRuntime) -> anyhow::Result<()> {
-    let hosts = program_hosts(rt.alloc(), host_min, host_max, host_gap)?;
+    let hosts = program_hosts(rt.alloc(), host_min, host_max, host_gap, host_dice)?;
     let answered = answer_all(&rt, rt.alloc(), &hosts);
     drop(hosts);
     answered

@@ -1,5 +1,5 @@
 -- What a process does by itself, as its part of the network's steps.
-use Rattle.std.proofs.Common.{◌≡◌, ℕ, ℤ, true, List, [], refl, sym, ap, ◌∙◌, subst, Option, Some, None}
+use Rattle.std.proofs.Common.{◌≡◌, ℕ, ℤ, pos, true, List, [], refl, sym, ap, ◌∙◌, subst, Option, Some, None}
 use Rattle.std.specs.Prelude.{All, slice_get}
 use Rattle.std.specs.FinMap as fin
 use Rattle.std.proofs.lemmas.Option.{get_or_from_slice_get, slice_get_within}
@@ -13,11 +13,11 @@ use Rattle.endpoint_code.specs.declared.endpoints.Endpoints.{Endpoints}
 use Rattle.endpoint_code.specs.Faults.{IsFaultlessWith, asks_known, is_listed}
 use Rattle.endpoint_code.proofs.Asking.{known_in_body}
 use Rattle.endpoint_code.specs.Kept.{node_there, has_name, has_text}
-use Rattle.endpoint_code.specs.Network.{Machine, NetworkState, Sessions, Place, Makes, place_makes, node_makes, PlaceAnswers, moved}
+use Rattle.endpoint_code.specs.Network.{Machine, NetworkState, Sessions, Place, Makes, place_makes, node_makes, PlaceAnswers, MachineAnswers, moved}
 use Rattle.endpoint_machine.specs.declared.head.Head.TheVariants as head
 use Rattle.endpoint_machine.specs.Heads.{node_head, place_head, head_of, sends_on, takes_on}
-use Rattle.endpoint_machine.specs.Acts.{acts_alone, NodeAnswers, node_event, node_acted}
-use Rattle.endpoint_machine.specs.Steps.{HasActed, CanMake}
+use Rattle.endpoint_machine.specs.Acts.{acts_alone, asks_at, place_asks, asks_next, answer_in, NodeAnswers, node_event, node_acted}
+use Rattle.endpoint_machine.specs.Steps.{HasActed, HasBeenTold, CanMake}
 use Rattle.endpoint_machine.specs.Places.{StandsAt}
 
 -- ---- nodes where a process acts by itself
@@ -136,14 +136,85 @@ acted_there e hosts p m node ss v x new st is answers h k = record {
   made = λ cap n. ap (place_makes cap n p v m.vars) st.place ∙ node_made n p v m.vars ss node x new cap is h k;
 }
 
--- it can make the event that an answer gives, and no other where each answer gives the same
+-- where an event is made by an answer, it is made by the one that it tells
+pub record Tells (hosts : Hosts) (p : ℕ) (vars : Variables) (node : CodeNode) (x : Event) : Type 0 where
+  pub event : node_event p (answer_in x) vars node ≡ Some x
+  pub answers : NodeAnswers hosts vars node (answer_in x)
+
+node_tells : (hosts : Hosts) (p : ℕ) (v : ℤ) (vars : Variables) (node : CodeNode) (x : Event) → NodeAnswers hosts vars node v → node_event p v vars node ≡ Some x → Tells hosts p vars node x
+node_tells hosts p v vars (Host y f a b next) x h e =
+    let own : v ≡ answer_in x = ap answer_of e in
+    record {
+      event = ap (λ (w : ℤ). node_event p w vars (Host y f a b next)) (sym own) ∙ e;
+      answers = subst (λ (w : ℤ). NodeAnswers hosts vars (Host y f a b next) w) own h;
+    }
+  where
+    answer_of : Option Event → ℤ
+    answer_of None = pos 0
+    answer_of (Some y) = answer_in y
+node_tells hosts p v vars (Set y w next) x h e = record { event = e; answers = tt }
+node_tells hosts p v vars (Show w next) x h e = record { event = e; answers = tt }
+node_tells hosts p v vars (If w a b) x h e = record { event = e; answers = tt }
+node_tells hosts p v vars (Send j b y next) x h e = absurd cc
+node_tells hosts p v vars (Pick j b l next) x h e = absurd cc
+node_tells hosts p v vars (Throw j b g next) x h e = absurd cc
+node_tells hosts p v vars (Recv j a y next) x h e = absurd cc
+node_tells hosts p v vars (Branch j a arms) x h e = absurd cc
+node_tells hosts p v vars (Catch j a g next) x h e = absurd cc
+node_tells hosts p v vars (Join c r j next) x h e = absurd cc
+node_tells hosts p v vars (Call f q ns) x h e = absurd cc
+node_tells hosts p v vars End x h e = absurd cc
+
+-- it can make the events that an answer gives, and no other
 pub makes_there : (e : Endpoints) (hosts : Hosts) (p : ℕ) (m : Machine) (node : CodeNode) (ss : Sessions) (v : ℤ) (x : Event) → StandsAt e m node ss → acts_alone node ≡ true → NodeAnswers hosts m.vars node v → node_event p v m.vars node ≡ Some x → CanMake e hosts p m x
 makes_there e hosts p m node ss v x st is answers h = let a = acted_at v m.vars ss node is in (a.0, acted_there e hosts p m node ss v x a.0 st is answers h a.1)
 
-pub makes_only : (e : Endpoints) (hosts : Hosts) (p : ℕ) (m : Machine) (node : CodeNode) (ss : Sessions) (x y : Event) → StandsAt e m node ss → acts_alone node ≡ true → ((v : ℤ) → NodeAnswers hosts m.vars node v → node_event p v m.vars node ≡ Some x) → CanMake e hosts p m y → x ≡ y
-makes_only e hosts p m node ss x y st is all (new, a) =
+pub makes_only : (e : Endpoints) (hosts : Hosts) (p : ℕ) (m : Machine) (node : CodeNode) (ss : Sessions) (x : Event) → StandsAt e m node ss → acts_alone node ≡ true → CanMake e hosts p m x → Tells hosts p m.vars node x
+makes_only e hosts p m node ss x st is (new, a) =
     let n : NetworkState = record { machines = []; queues = []; sid = 0 } in
     let answers = (answers_alike hosts m.vars ss node a.answer).1 (subst (λ (o : Option Place). PlaceAnswers hosts m.vars o a.answer) st.place a.allowed) in
     let made = sym (ap (place_makes None n p a.answer m.vars) st.place) ∙ a.made None n in
-    let event = made_event n p a.answer m.vars ss node y (moved n p new.at new.vars new.sessions) is made in
-    let same : Some x ≡ Some y = sym (all a.answer answers) ∙ event in cc
+    node_tells hosts p a.answer m.vars node x answers (made_event n p a.answer m.vars ss node x (moved n p new.at new.vars new.sessions) is made)
+
+-- ---- a host call
+
+pub asks_alone : (node : CodeNode) → asks_at node ≡ true → acts_alone node ≡ true
+asks_alone (Host x f a b next) h = refl
+asks_alone (Join c r k next) h = absurd cc
+asks_alone (Send k b x next) h = absurd cc
+asks_alone (Pick k b l next) h = absurd cc
+asks_alone (Throw k b g next) h = absurd cc
+asks_alone (Recv k a x next) h = absurd cc
+asks_alone (Branch k a arms) h = absurd cc
+asks_alone (Catch k a g next) h = absurd cc
+asks_alone (Set x v next) h = absurd cc
+asks_alone (Show v next) h = absurd cc
+asks_alone (If v a b) h = absurd cc
+asks_alone (Call f p ns) h = absurd cc
+asks_alone End h = absurd cc
+
+pub asking_there : (e : Endpoints) (m : Machine) (node : CodeNode) (ss : Sessions) → StandsAt e m node ss → asks_next e m ≡ true → acts_alone node ≡ true
+asking_there e m node ss st h = asks_alone node (sym (ap place_asks st.place) ∙ h)
+
+event_there : (p : ℕ) (v : ℤ) (vars : Variables) (node : CodeNode) → acts_alone node ≡ true → (x : Event) × (node_event p v vars node ≡ Some x)
+event_there p v vars (Host x f a b next) h = (_, refl)
+event_there p v vars (Set x w next) h = (_, refl)
+event_there p v vars (Show w next) h = (_, refl)
+event_there p v vars (If w a b) h = (_, refl)
+event_there p v vars (Join c r k next) h = absurd cc
+event_there p v vars (Send k b x next) h = absurd cc
+event_there p v vars (Pick k b l next) h = absurd cc
+event_there p v vars (Throw k b g next) h = absurd cc
+event_there p v vars (Recv k a x next) h = absurd cc
+event_there p v vars (Branch k a arms) h = absurd cc
+event_there p v vars (Catch k a g next) h = absurd cc
+event_there p v vars (Call f q ns) h = absurd cc
+event_there p v vars End h = absurd cc
+
+-- a process that has gone past a host call with an answer has made the event that tells it
+pub told_there : (e : Endpoints) (hosts : Hosts) (p : ℕ) (m : Machine) (node : CodeNode) (ss : Sessions) (v : ℤ) (new : Machine) → StandsAt e m node ss → acts_alone node ≡ true → MachineAnswers hosts e (Some m) v → node_acted v m.vars ss node ≡ Some new → HasBeenTold e hosts p m v new
+unfolding acted_there
+told_there e hosts p m node ss v new st is allowed k =
+    let answers = (answers_alike hosts m.vars ss node v).1 (subst (λ (q : Option Place). PlaceAnswers hosts m.vars q v) st.place allowed) in
+    let x = event_there p v m.vars node is in
+    record { event = x.0; acted = acted_there e hosts p m node ss v x.0 new st is answers x.1 k; by_it = refl }

@@ -1,5 +1,5 @@
 -- What a process sends and takes, and what it does by itself.
-use Rattle.std.specs.Prelude.{ℕ, ℤ, ◌≡◌, ◌&&◌, Bool, true, false, Option, Some, None, is_some, if◌then◌else◌}
+use Rattle.std.specs.Prelude.{ℕ, ℤ, pos, ◌&&◌, Bool, true, false, Option, Some, None, is_some, if◌then◌else◌}
 use Rattle.std.specs.FinMap as fin
 use Rattle.chor_base.specs.declared.value.Value.TheVariants.{Int}
 use Rattle.chor_base.specs.declared.value.Load.{Load}
@@ -89,6 +89,19 @@ acts_alone (Host x f a b next) = true
 acts_alone (If e c d) = true
 acts_alone _ = false
 
+-- a node at which a process asks a host function
+abbrev pub asks_at : CodeNode → Bool
+asks_at (Host x f a b next) = true
+asks_at _ = false
+
+abbrev pub place_asks : Option Place → Bool
+place_asks None = false
+place_asks (Some q) = asks_at q.node
+
+-- The process asks a host function next, through at most one call
+abbrev pub asks_next : Endpoints → Machine → Bool
+asks_next e m = place_asks (place_of e m)
+
 -- v is an answer that a process may get at a node; where it asks no host function, any number is
 abbrev pub NodeAnswers : Hosts → Variables → CodeNode → ℤ → Type 0
 NodeAnswers hosts vars (Host x f a b next) v = MayAnswer (meaning_named hosts f) (number_of (value_of (term_of a) vars)) (number_of (value_of (term_of b) vars)) v
@@ -101,10 +114,6 @@ node_event p v vars (Show e next) = Some (event.Show p (value_of (term_of e) var
 node_event p v vars (Host x f a b next) = Some (event.Host p x f (number_of (value_of (term_of a) vars)) (number_of (value_of (term_of b) vars)) v)
 node_event p v vars (If e c d) = Some (event.Test p (truth_of (value_of (term_of e) vars)))
 node_event p v vars _ = None
-
--- whatever answer a process gets at a node, it makes the event that this one makes
-abbrev pub IsOnlyAnswer : Hosts → Variables → CodeNode → ℤ → Type 0
-IsOnlyAnswer hosts vars node w = (p : ℕ) (v : ℤ) → NodeAnswers hosts vars node v → node_event p v vars node ≡ node_event p w vars node
 
 -- a process that has acted by itself at a node
 abbrev pub node_acted : ℤ → Variables → Sessions → CodeNode → Option Machine
@@ -125,3 +134,8 @@ is_alone _ = false
 abbrev pub is_call_event : Event → Bool
 is_call_event (event.Host p x f a b v) = true
 is_call_event _ = false
+
+-- the answer that an event tells; where it is no host call, any number serves
+abbrev pub answer_in : Event → ℤ
+answer_in (event.Host p x f a b v) = v
+answer_in _ = pos 0

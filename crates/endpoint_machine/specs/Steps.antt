@@ -56,3 +56,9 @@ pub record HasActed (e : Endpoints) (hosts : Hosts) (p : ℕ) (old : Machine) (x
 -- it can make this event by itself
 abbrev pub CanMake : Endpoints → Hosts → ℕ → Machine → Event → Type 0
 CanMake e hosts p m x = (new : Machine) × HasActed e hosts p m x new
+
+-- it makes the event of a host call by this answer
+pub record HasBeenTold (e : Endpoints) (hosts : Hosts) (p : ℕ) (old : Machine) (v : ℤ) (new : Machine) : Type 0 where
+  pub event : Event
+  pub acted : HasActed e hosts p old event new
+  pub by_it : acted.answer ≡ v

@@ -1,6 +1,6 @@
-//! What a process is answered that asks a host function.
+//! What a process is answered that asks a host function, and what it may be answered.
 
-ghost use Rattle.std.specs.Prelude.{◌≡◌, ◌<◌, ℤ, Some, true, length, slice_get};
+ghost use Rattle.std.specs.Prelude.{◌≡◌, ◌<◌, ◌↔◌, Some, true, length, slice_get, IsTrue};
 ghost use Rattle.chor_base.specs.Meaning.{meaning_named, MayAnswer};
 ghost use Rattle.chor_base.specs.Words.{AllDistinct};
 ghost use Rattle.chor_base.specs.Writing.{name_in};
@@ -8,7 +8,7 @@ ghost use Rattle.chor_host.specs.Functions.{hosts_in, is_named, names_of};
 ghost use Rattle.chor_host.specs.Tables.{functions_of};
 ghost use Rattle.endpoint_code.specs.Faults.{asks_known, is_listed};
 ghost use Rattle.endpoint_code.specs.Kept.{has_name, has_text, node_there};
-ghost use Rattle.endpoint_machine.specs.Acts.{NodeAnswers, IsOnlyAnswer};
+ghost use Rattle.endpoint_machine.specs.Acts.{NodeAnswers};
 
 use crate::locals::number_of;
 use crate::machine::Machine;
@@ -34,7 +34,6 @@ fn answer_of(names: &Names, hosts: &HostTable, name: NameId, left: i64, right: i
     requires there { name.0 < length names.now }
     requires known { is_named (functions_of hosts.now) (name_in names.now name) ≡ true }
     ensures answers { MayAnswer (meaning_named (hosts_in names.now (functions_of hosts.now)) name) left right result }
-    ensures only { (v : ℤ) → MayAnswer (meaning_named (hosts_in names.now (functions_of hosts.now)) name) left right v → result ≡ v }
 {
     let word = word_of(names, name);
     let Some(answer) = hosts.ask(word, left, right) else {
@@ -43,13 +42,27 @@ fn answer_of(names: &Names, hosts: &HostTable, name: NameId, left: i64, right: i
     answer
 }
 
+// Whether the host function of a name may answer this value to two numbers.
+fn may_answer(
+    names: &Names,
+    hosts: &HostTable,
+    name: NameId,
+    numbers: (i64, i64),
+    value: i64,
+) -> bool
+    requires there { name.0 < length names.now }
+    ensures { IsTrue result ↔ MayAnswer (meaning_named (hosts_in names.now (functions_of hosts.now)) name) numbers.0 numbers.1 value }
+{
+    let word = word_of(names, name);
+    hosts.allows(word, numbers.0, numbers.1, value)
+}
+
 impl Machine {
     /// What the host function answers that the process asks at a node; 0 where it asks none.
     pub(crate) fn answer_at(&self, node: &CodeNode, endpoints: &Endpoints, hosts: &HostTable) -> i64
         requires there { node_there (has_name endpoints.now.names) (has_text endpoints.now.texts) node.now ≡ true }
         requires known { asks_known (is_listed (names_of (functions_of hosts.now)) endpoints.now) node.now ≡ true }
         ensures answers { NodeAnswers (hosts_in endpoints.now.names (functions_of hosts.now)) self.now.machine.vars node.now result }
-        ensures only { IsOnlyAnswer (hosts_in endpoints.now.names (functions_of hosts.now)) self.now.machine.vars node.now result }
     {
         match node {
             CodeNode::Host(_, name, left, right, _) => {
@@ -58,6 +71,28 @@ impl Machine {
                 answer_of(&endpoints.names, hosts, *name, left, right)
             }
             _ => 0,
+        }
+    }
+
+    /// Whether the host function that the process asks at a node may answer this. Where it asks none,
+    /// any number will do.
+    pub(crate) fn allows_at(
+        &self,
+        node: &CodeNode,
+        endpoints: &Endpoints,
+        hosts: &HostTable,
+        answer: i64,
+    ) -> bool
+        requires { node_there (has_name endpoints.now.names) (has_text endpoints.now.texts) node.now ≡ true }
+        ensures { IsTrue result ↔ NodeAnswers (hosts_in endpoints.now.names (functions_of hosts.now)) self.now.machine.vars node.now answer }
+    {
+        match node {
+            CodeNode::Host(_, name, left, right, _) => {
+                let left = number_of(eval(left, &self.vars));
+                let right = number_of(eval(right, &self.vars));
+                may_answer(&endpoints.names, hosts, *name, (left, right), answer)
+            }
+            _ => true,
         }
     }
 }

@@ -6,18 +6,18 @@ ghost use Rattle.std.specs.FinMap as fin;
 ghost use Rattle.chor_host.specs.Functions.{hosts_in, names_of};
 ghost use Rattle.chor_host.specs.Tables.{functions_of};
 ghost use Rattle.endpoint_code.specs.Faults.{AreApart, IsFaultless, IsFaultlessWith};
-ghost use Rattle.endpoint_code.specs.Network.{node_at, procedure_of};
+ghost use Rattle.endpoint_code.specs.Network.{MachineAnswers, node_at, procedure_of};
 ghost use Rattle.endpoint_machine.specs.Bound.{IsBound};
 ghost use Rattle.endpoint_machine.specs.Heads.{head_of, is_out, is_join};
 ghost use Rattle.endpoint_machine.specs.declared.head.Head.TheVariants as head;
-ghost use Rattle.endpoint_machine.specs.Acts.{load_of, taking_of};
-ghost use Rattle.endpoint_machine.specs.Steps.{begins, HasSent, HasTaken, Fits, HasJoined, HasActed, CanMake};
+ghost use Rattle.endpoint_machine.specs.Acts.{asks_next, load_of, taking_of};
+ghost use Rattle.endpoint_machine.specs.Steps.{begins, HasSent, HasTaken, Fits, HasJoined, HasActed, HasBeenTold, CanMake};
 ghost use Rattle.endpoint_machine.specs.Views.{IsReserved, passes};
 ghost use Rattle.endpoint_machine.specs.Places.{sessions_at, count_of, IsEven, StandsAt};
 
 use crate::acts::fits_at;
 use crate::head::Head;
-use crate::same::is_same_alone;
+use crate::same::{answer_in, is_same_alone};
 use crate::sessions::{Binding, Bindings};
 use chor_base::{Event, Load, Memory, NameId, Vars};
 use chor_host::HostTable;
@@ -355,7 +355,26 @@ impl Machine {
         event
     }
 
-    /// Whether the event is one that the process can make here by itself. It takes no memory.
+    /// Goes past a host call, at which the process stands next, with an answer that its function may
+    /// give. The function isn't called. It takes no memory.
+    pub fn told(&mut self, endpoints: &Endpoints, hosts: &HostTable, value: i64)
+        requires faultless { IsFaultless endpoints.now }
+        requires bound { IsBound endpoints.now self.old.machine }
+        requires asks { asks_next endpoints.now self.old.machine ≡ true }
+        requires allowed { MachineAnswers (hosts_in endpoints.now.names (functions_of hosts.now)) endpoints.now (Some self.old.machine) value }
+        requires room { IsReserved endpoints.now self.old }
+        ensures number { self.new.number ≡ self.old.number }
+        ensures bound { IsBound endpoints.now self.new.machine }
+        ensures told { HasBeenTold endpoints.now (hosts_in endpoints.now.names (functions_of hosts.now)) self.old.number self.old.machine value self.new.machine }
+    {
+        let place = self.place(endpoints);
+        self.enter(place.call);
+        self.act_at(place.node, value);
+        self.look_ahead(endpoints);
+    }
+
+    /// Whether the event is one that the process can make here by itself. It calls no host function, and
+    /// takes no memory.
     pub fn may(&self, endpoints: &Endpoints, hosts: &HostTable, event: &Event) -> bool
         requires faultless { IsFaultlessWith (names_of (functions_of hosts.now)) endpoints.now }
         requires bound { IsBound endpoints.now self.now.machine }
@@ -363,7 +382,8 @@ impl Machine {
         ensures { IsTrue result ↔ CanMake endpoints.now (hosts_in endpoints.now.names (functions_of hosts.now)) self.now.number self.now.machine event.now }
     {
         let place = self.place(endpoints);
-        let answer = self.answer_at(place.node, endpoints, hosts);
+        let answer = answer_in(event);
         is_same_alone(&self.event_at(place.node, answer), event)
+            && self.allows_at(place.node, endpoints, hosts, answer)
     }
 }

@@ -1,7 +1,7 @@
 //! Whether a process has made a given event by itself.
 
 ghost use Rattle.std.specs.Prelude.{◌≡◌, IsTrue, ◌↔◌, true};
-ghost use Rattle.endpoint_machine.specs.Acts.{is_alone, is_call_event};
+ghost use Rattle.endpoint_machine.specs.Acts.{answer_in, is_alone, is_call_event};
 
 use chor_base::Event;
 
@@ -70,5 +70,15 @@ pub fn is_same_alone(made: &Event, event: &Event) -> bool
         ) => pid == other_pid && value == other_value,
         (Event::Host { .. }, _) => is_same_call(made, event),
         _ => false,
+    }
+}
+
+/// The answer that an event tells: 0 where it is no host call.
+pub(crate) fn answer_in(event: &Event) -> i64
+    ensures { result ≡ answer_in event.now }
+{
+    match event {
+        Event::Host { value, .. } => *value,
+        _ => 0,
     }
 }

@@ -10,6 +10,7 @@ pub mod Capped
 pub mod Alone
 pub mod Makers
 pub mod Lone
+pub mod Told
 pub mod Castings
 pub mod Casts
 pub mod Begins

@@ -12,7 +12,6 @@ use Rattle.chor_base.specs.declared.event.Why.TheVariants.{Full}
 use Rattle.chor_base.specs.Expr.{term_of, value_of}
 use Rattle.chor_base.specs.Meaning.{Hosts}
 use Rattle.chor_base.specs.NameMap.{Variables}
-use Rattle.chor_host.specs.Exact.{HaveOneAnswer}
 use Rattle.endpoint_code.specs.declared.code.CodeNode.{CodeNode}
 use Rattle.endpoint_code.specs.declared.code.CodeNode.TheVariants.{Join, Send, Recv, Pick, Branch, Throw, Catch, Set, Show, Host, If, Call, End}
 use Rattle.endpoint_code.specs.declared.endpoints.Endpoints.{Endpoints}
@@ -21,7 +20,7 @@ use Rattle.endpoint_code.specs.Network.{Sessions, Machine, NetworkState, Place, 
 use Rattle.endpoint_machine.specs.declared.head.Head.{Head}
 use Rattle.endpoint_machine.specs.declared.head.Head.TheVariants as head
 use Rattle.endpoint_machine.specs.Heads.{node_head, place_head, head_of, sends_on, takes_on}
-use Rattle.endpoint_machine.specs.Acts.{node_load, place_load, load_of, node_takes, place_takes, taking_of}
+use Rattle.endpoint_machine.specs.Acts.{node_load, place_load, load_of, node_takes, place_takes, taking_of, is_call_event}
 use Rattle.endpoint_machine.specs.Places.{StandsAt}
 use Rattle.endpoint_machine.specs.Steps.{CanMake}
 use Rattle.endpoint_machine.proofs.Actings.{alone_there, answers_alike, made_event, makes_there}
@@ -225,11 +224,11 @@ no_step e hosts cap n p x by cannot (m, begins c ps made) = let no : None ≡ So
 pub is_step : (e : Endpoints) (hosts : Hosts) (cap : Option ℕ) (n : NetworkState) (p : ℕ) (x : Event) → MayMake e hosts cap n p x → IsStep e hosts cap n x
 is_step e hosts cap n p x may = (may.after, acts p may.answer may.allowed may.made)
 
--- what the process has made is the event
-pub followed : (hosts : Hosts) (old new : NetworkView) (p : ℕ) (x : Event) → HaveOneAnswer hosts → MayMake old.endpoints hosts old.capacity old.state p x → HasStepped hosts old p new → HasFollowed hosts old x new
-followed hosts old new p x one may s =
+-- what the process has made is the event, if that is no host call
+pub followed : (hosts : Hosts) (old new : NetworkView) (p : ℕ) (x : Event) → is_call_event x ≡ false → MayMake old.endpoints hosts old.capacity old.state p x → HasStepped hosts old p new → HasFollowed hosts old x new
+followed hosts old new p x other may s =
     let made = sym (may_chosen old.endpoints hosts old.capacity old.state p x may s.chooses.answer) ∙ s.chooses.made in
-    let same : s.event ≡ x = one_event made (same_made old.endpoints hosts old.capacity old.state p s.chooses.answer may.answer one s.chooses.allowed may.allowed ∙ may.made) in
+    let same : s.event ≡ x = one_event made (same_made old.endpoints old.capacity old.state p s.chooses.answer may.answer x may.after other may.made) in
     record {
       state = s.state;
       becomes = subst (λ (y : Event). Becomes old new y s.state) same s.becomes;

@@ -2,6 +2,7 @@
 use Rattle.std.proofs.Common.{◌≡◌, ℕ, ℤ, ◌<◌, Bool, true, false, cond, List, [], ◌∷◌, length, refl, sym, ap, ◌∙◌, Option, Some, None, is_some}
 use Rattle.std.specs.Prelude.{slice_get}
 use Rattle.std.specs.FinMap as fin
+use Rattle.std.proofs.lemmas.Bool.{true≢false}
 use Rattle.std.proofs.lemmas.Option.{slice_get_within, none-some}
 use Rattle.chor_base.specs.declared.names.NameId.{NameId}
 use Rattle.chor_base.specs.declared.value.Load.{Load}
@@ -9,56 +10,53 @@ use Rattle.chor_base.specs.declared.event.Event.{Event}
 use Rattle.chor_base.specs.declared.event.Why.{Why}
 use Rattle.chor_base.specs.declared.event.Why.TheVariants.{Wrong}
 use Rattle.chor_base.specs.Events.{Triple}
-use Rattle.chor_base.specs.Expr.{term_of, value_of, number_of}
 use Rattle.chor_base.specs.Meaning.{Hosts}
 use Rattle.chor_base.specs.NameMap.{Variables}
-use Rattle.chor_host.specs.Exact.{HaveOneAnswer}
 use Rattle.endpoint_code.specs.declared.code.CodeNode.{CodeNode}
 use Rattle.endpoint_code.specs.declared.code.CodeNode.TheVariants.{Join, Send, Recv, Pick, Branch, Throw, Catch, Set, Show, Host, If, Call, End}
 use Rattle.endpoint_code.specs.declared.endpoints.Endpoints.{Endpoints}
-use Rattle.endpoint_code.specs.Network.{Sessions, Machine, NetworkState, Place, Makes, Taking, Goes, takes, takes_from, went, puts, put_if, part_load, queue_of, has_room, node_makes, place_makes, machine_makes, makes, place_of, place_at, PlaceAnswers, MachineAnswers, takes_value, takes_label, takes_part}
+use Rattle.endpoint_code.specs.Network.{Sessions, Machine, NetworkState, Place, Makes, Taking, Goes, takes, takes_from, went, puts, put_if, part_load, queue_of, has_room, node_makes, place_makes, machine_makes, makes, place_of, place_at, takes_value, takes_label, takes_part}
 use Rattle.endpoint_code.specs.NetworkRuns.{ends_there, node_waits, place_waits, waits_for, waits_to_receive, waits_for_first}
 use Rattle.endpoint_code.specs.Scheduled.{chosen, chosen_at}
-use Rattle.endpoint_machine.specs.Acts.{NodeAnswers}
-use Rattle.endpoint_machine.proofs.Actings.{answers_alike}
+use Rattle.endpoint_machine.specs.Acts.{is_call_event}
 use Rattle.net_core.specs.Follows.{MayMake, maker_of}
 use Rattle.net_core.specs.Heads.{steps_at, steps_of, joins_at_all, is_joining}
 use Rattle.net_core.specs.Machines.{is_join}
 use Rattle.net_core.proofs.Capped.{put_waits_not}
 use Rattle.net_core.proofs.Alone.{alone_chosen}
 
--- ---- one answer makes one event
+pub event_made : {x y : Event} {k m : NetworkState} → Some (Makes x k) ≡ Some (Makes y m) → x ≡ y
+event_made h = cc
 
-node_same : (hosts : Hosts) (cap : Option ℕ) (n : NetworkState) (p : ℕ) (v w : ℤ) (vars : Variables) (m : Sessions) (node : CodeNode) → HaveOneAnswer hosts → NodeAnswers hosts vars node v → NodeAnswers hosts vars node w → node_makes cap n p v vars m node ≡ node_makes cap n p w vars m node
-node_same hosts cap n p v w vars m (Join c r k next) one h i = refl
-node_same hosts cap n p v w vars m (Send k b x next) one h i = refl
-node_same hosts cap n p v w vars m (Recv k a x next) one h i = refl
-node_same hosts cap n p v w vars m (Pick k b l next) one h i = refl
-node_same hosts cap n p v w vars m (Branch k a arms) one h i = refl
-node_same hosts cap n p v w vars m (Throw k b g next) one h i = refl
-node_same hosts cap n p v w vars m (Catch k a g next) one h i = refl
-node_same hosts cap n p v w vars m (Set x y next) one h i = refl
-node_same hosts cap n p v w vars m (Show y next) one h i = refl
-node_same hosts cap n p v w vars m (Host x f a b next) one h i = ap (λ (u : ℤ). node_makes cap n p u vars m (Host x f a b next)) (one f (number_of (value_of (term_of a) vars)) (number_of (value_of (term_of b) vars)) v w h i)
-node_same hosts cap n p v w vars m (If y c d) one h i = refl
-node_same hosts cap n p v w vars m (Call f o ns) one h i = refl
-node_same hosts cap n p v w vars m End one h i = refl
+-- ---- what is no host call is made by any answer
 
-pub same_made : (e : Endpoints) (hosts : Hosts) (cap : Option ℕ) (n : NetworkState) (p : ℕ) (v w : ℤ) → HaveOneAnswer hosts → MachineAnswers hosts e (slice_get n.machines p) v → MachineAnswers hosts e (slice_get n.machines p) w → makes e cap n p v ≡ makes e cap n p w
-same_made e hosts cap n p v w one h i = at_machine (slice_get n.machines p) h i
+node_same : (cap : Option ℕ) (n : NetworkState) (p : ℕ) (v w : ℤ) (vars : Variables) (m : Sessions) (node : CodeNode) (x : Event) (k : NetworkState) → is_call_event x ≡ false → node_makes cap n p w vars m node ≡ Some (Makes x k) → node_makes cap n p v vars m node ≡ Some (Makes x k)
+node_same cap n p v w vars m (Join c r j next) x k other h = h
+node_same cap n p v w vars m (Send j b y next) x k other h = h
+node_same cap n p v w vars m (Recv j a y next) x k other h = h
+node_same cap n p v w vars m (Pick j b l next) x k other h = h
+node_same cap n p v w vars m (Branch j a arms) x k other h = h
+node_same cap n p v w vars m (Throw j b g next) x k other h = h
+node_same cap n p v w vars m (Catch j a g next) x k other h = h
+node_same cap n p v w vars m (Set z y next) x k other h = h
+node_same cap n p v w vars m (Show y next) x k other h = h
+node_same cap n p v w vars m (Host z f a b next) x k other h = absurd (true≢false (ap is_call_event (event_made h) ∙ other))
+node_same cap n p v w vars m (If y c d) x k other h = h
+node_same cap n p v w vars m (Call f o ns) x k other h = h
+node_same cap n p v w vars m End x k other h = h
+
+pub same_made : (e : Endpoints) (cap : Option ℕ) (n : NetworkState) (p : ℕ) (v w : ℤ) (x : Event) (k : NetworkState) → is_call_event x ≡ false → makes e cap n p w ≡ Some (Makes x k) → makes e cap n p v ≡ Some (Makes x k)
+same_made e cap n p v w x k other h = at_machine (slice_get n.machines p) h
   where
-    at_place : (vars : Variables) (o : Option Place) → PlaceAnswers hosts vars o v → PlaceAnswers hosts vars o w → place_makes cap n p v vars o ≡ place_makes cap n p w vars o
-    at_place vars None h i = refl
-    at_place vars (Some q) h i = node_same hosts cap n p v w vars q.sessions q.node one ((answers_alike hosts vars q.sessions q.node v).1 h) ((answers_alike hosts vars q.sessions q.node w).1 i)
+    at_place : (vars : Variables) (o : Option Place) → place_makes cap n p w vars o ≡ Some (Makes x k) → place_makes cap n p v vars o ≡ Some (Makes x k)
+    at_place vars None i = i
+    at_place vars (Some q) i = node_same cap n p v w vars q.sessions q.node x k other i
 
-    at_machine : (o : Option Machine) → MachineAnswers hosts e o v → MachineAnswers hosts e o w → machine_makes e cap n p v o ≡ machine_makes e cap n p w o
-    at_machine None h i = refl
-    at_machine (Some m) h i = at_place m.vars (place_of e m) h i
+    at_machine : (o : Option Machine) → machine_makes e cap n p w o ≡ Some (Makes x k) → machine_makes e cap n p v o ≡ Some (Makes x k)
+    at_machine None i = i
+    at_machine (Some m) i = at_place m.vars (place_of e m) i
 
 -- ---- who makes an event
-
-event_made : {x y : Event} {k m : NetworkState} → Some (Makes x k) ≡ Some (Makes y m) → x ≡ y
-event_made h = cc
 
 put_maker : (b : Bool) (n : NetworkState) (p : ℕ) (t : Triple) (l : Load) (x : Event) (k : NetworkState) → put_if b n p t l ≡ Some (Makes x k) → maker_of x ≡ Some p
 put_maker true n p t l x k h = ap maker_of (sym (event_made h))
@@ -154,7 +152,7 @@ pub made_maker : (e : Endpoints) (cap : Option ℕ) (n : NetworkState) (p : ℕ)
 made_maker e cap n p x v k h = let r = running e [] cap n p x v k h in node_maker cap n p v r.machine.vars r.place.sessions r.place.node x k r.made
 
 module _ (e : Endpoints) (hosts : Hosts) (cap : Option ℕ) (n : NetworkState) (p : ℕ) (x : Event) (may : MayMake e hosts cap n p x) where
-  runs : Running e hosts cap n p x may.answer may.after
+  pub runs : Running e hosts cap n p x may.answer may.after
   runs = running e hosts cap n p x may.answer may.after may.made
 
   moves : Moves e cap n runs.machine.vars runs.place.sessions runs.place.node

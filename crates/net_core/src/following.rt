@@ -1,11 +1,12 @@
 //! Following events that were made elsewhere.
 
-ghost use Rattle.std.specs.Prelude.{◌≡◌, ◌<◌, ◌↔◌, IsTrue, Some, length};
+ghost use Rattle.std.specs.Prelude.{◌≡◌, ◌<◌, ◌↔◌, IsTrue, Some, false, length};
 ghost use Rattle.chor_base.specs.Meaning.{Hosts};
 ghost use Rattle.chor_base.specs.declared.event.Event.TheVariants as made;
 ghost use Rattle.chor_host.specs.Functions.{hosts_in, names_of};
 ghost use Rattle.chor_host.specs.Tables.{functions_of};
 ghost use Rattle.endpoint_code.specs.Faults.{AsksKnown, is_listed};
+ghost use Rattle.endpoint_machine.specs.Acts.{is_call_event};
 ghost use Rattle.endpoint_machine.specs.declared.head.Head.TheVariants as head;
 ghost use Rattle.net_core.specs.Follows.{Follows, MayMake, maker_of};
 ghost use Rattle.net_core.specs.Heads.{Shows};
@@ -95,18 +96,19 @@ impl Network<'_> {
     }
 
     // Whether there is such a process, and it can make an event by itself.
-    fn can_make(&self, pid: u32, hosts: &HostTable, event: &Event) -> bool
+    pub(crate) fn can_make(&self, pid: u32, hosts: &HostTable, event: &Event) -> bool
         requires { AsksKnown (is_listed (names_of (functions_of hosts.now)) self.now.endpoints) self.now.endpoints }
         ensures { IsTrue result ↔ MayMake self.now.endpoints (hosts_in self.now.endpoints.names (functions_of hosts.now)) self.now.capacity self.now.state pid event.now }
     {
         pid < self.count() && self.may_make(pid, hosts, event)
     }
 
-    // Follows an event that this process makes by itself.
+    // Follows an event that this process makes by itself, and that is no host call.
     fn follow_alone(&mut self, pid: u32, hosts: &HostTable, event: &Event) -> Followed
         requires hosts { AsksKnown (is_listed (names_of (functions_of hosts.now)) self.old.endpoints) self.old.endpoints }
         requires fits { FitsMore self.old 1 }
         requires maker { maker_of event.now ≡ Some pid }
+        requires other { is_call_event event.now ≡ false }
         ensures { Follows (hosts_in self.old.endpoints.names (functions_of hosts.now)) self.old event.now result self.new }
     {
         if !self.can_make(pid, hosts, event) {
@@ -119,7 +121,7 @@ impl Network<'_> {
     }
 
     /// Makes an event that was made elsewhere, if it is a step from here, with whichever partners
-    /// it tells where it starts a session.
+    /// it tells where it starts a session, and whichever answer where it asks a host function.
     pub fn follow(&mut self, hosts: &HostTable, event: &Event) -> Followed
         requires hosts { AsksKnown (is_listed (names_of (functions_of hosts.now)) self.old.endpoints) self.old.endpoints }
         requires fits { FitsMore self.old 1 }
@@ -135,8 +137,8 @@ impl Network<'_> {
             | Event::Recv { pid, .. }
             | Event::Test { pid, .. }
             | Event::Set { pid, .. }
-            | Event::Show { pid, .. }
-            | Event::Host { pid, .. } => self.follow_alone(*pid, hosts, event),
+            | Event::Show { pid, .. } => self.follow_alone(*pid, hosts, event),
+            Event::Host { pid, value, .. } => self.follow_call(*pid, *value, hosts, event),
         }
     }
 }

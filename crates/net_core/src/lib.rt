@@ -14,6 +14,7 @@ mod process_numbers;
 mod schedule;
 mod scheduler;
 mod standing;
+mod telling;
 
 pub use answer::{Followed, Picked, Step};
 pub use network::Network;

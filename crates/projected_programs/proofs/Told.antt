@@ -2,22 +2,18 @@
 use Rattle.std.proofs.Common.{◌≡◌, ◌≤◌, ◌<◌, ◌+◌, ◌*◌, ◌^◌, ℕ, ℤ, pos, List, [], ◌∷◌, length, max, mul-le-mul_left, sym, subst, arith}
 use Rattle.std.specs.Prelude.{All}
 use Rattle.std.specs.List.{AllByRecursion}
-use Rattle.std.proofs.lemmas.List.Elements.{All-nil, All-cons, recursion_from_All}
+use Rattle.std.proofs.lemmas.List.Elements.{All-nil, All-cons}
 use Rattle.chor_base.specs.declared.event.Event.{Event}
 use Rattle.chor_base.specs.declared.value.Value.TheVariants.{Int, Bool as Truth, Text, Part}
 use Rattle.chor_base.specs.Expr.{Term, Constant, Variable, Unary, Binary}
-use Rattle.chor_host.specs.Functions.{Function, hosts_in}
-use Rattle.chor_host.specs.Exact.{IsExact}
 use Rattle.endpoint_code.specs.declared.endpoints.Channel.{Channel}
 use Rattle.endpoint_code.specs.declared.endpoints.Endpoints.{Endpoints}
 use Rattle.endpoint_code.specs.Trees.{Action, Joins, Sends, Receives, Selects, Gives, Gains, Sets, Shows, Asks, CodeTree, Does, Offers, Tests, Calls, Ends, Arms, NoArms, Arm, code_at}
-use Rattle.accepted_files.specs.FaultlessLaws.{AreExact}
 use Rattle.event_reader.specs.Known.{IsInt}
 use Rattle.endpoint_laws.specs.Spelled.{IsWritable, IsActionSpelled, IsCodeSpelled, AreArmsSpelled, IsProcedureSpelled, IsServiceSpelled, IsProcessSpelled}
 use Rattle.endpoint_laws.specs.Limits.{IsChannelWithin}
 use Rattle.endpoint_laws.specs.PrintedLaws.{AreWritable}
-use Rattle.projected_programs.specs.Sizes.{IsTermSized, IsActionSized, IsCodeSized, AreArmsSized, AreLiteralsSized, AreMeaningsSized}
-use Rattle.projected_programs.proofs.Hosts.{functions_sized}
+use Rattle.projected_programs.specs.Sizes.{IsTermSized, IsActionSized, IsCodeSized, AreArmsSized, AreLiteralsSized}
 use Rattle.projected_programs.specs.Told.{most_served, IsShort}
 
 -- ---- literals
@@ -65,9 +61,6 @@ literals_sized e w = record {
   services = each (IsServiceSpelled e) (λ s. IsCodeSized (code_at e.code.nodes s.body)) (λ s h. code_sized e (code_at e.code.nodes s.body) h.2) e.services w.spelled.services;
   processes = each (IsProcessSpelled e) (λ p. IsCodeSized (code_at e.code.nodes p.body)) (λ p h. code_sized e (code_at e.code.nodes p.body) h.1) e.processes w.spelled.processes;
 }
-
-pub meanings_sized : (names : List (List ℕ)) (functions : List Function) → AreExact functions → AreMeaningsSized (hosts_in names functions)
-meanings_sized names functions h = functions_sized names functions (recursion_from_All (λ g. IsExact g.1) functions h)
 
 -- ---- few events
 

@@ -6,7 +6,7 @@ ghost use Rattle.chor_host.specs.Tables.{functions_of};
 ghost use Rattle.endpoint_code.specs.Faults.{IsFaultlessWith};
 
 use chor_base::{Entry, List, Memory};
-use chor_host::{HostTable, host_gap, host_max, host_min, program_hosts};
+use chor_host::{HostTable, host_dice, host_gap, host_max, host_min, program_hosts};
 use endpoint_check::read_programs;
 use endpoint_code::Endpoints;
 use std::alloc::Global;
@@ -19,7 +19,7 @@ const LONGEST: usize = 16_777_216;
 
 /// The host functions of the program.
 pub fn functions(alloc: Global) -> Result<HostTable, Memory> {
-    program_hosts(alloc, host_min, host_max, host_gap)
+    program_hosts(alloc, host_min, host_max, host_gap, host_dice)
 }
 
 /// The programs that a text is of.

@@ -1,9 +1,9 @@
 -- That each run of endpoint programs without faults can be continued until it is closed (this project's own).
-use Rattle.std.specs.Prelude.{ℕ, ℤ, ◌≤◌, ◌++◌, List, length, Option, All}
+use Rattle.std.specs.Prelude.{ℕ, ◌≤◌, ◌++◌, List, length, Option}
 use Rattle.chor_base.specs.declared.event.Event.{Event}
-use Rattle.chor_base.specs.Meaning.{Hosts, IsAllowed}
+use Rattle.chor_base.specs.Meaning.{Hosts}
 use Rattle.chor_base.specs.Words.{AllDistinct}
-use Rattle.chor_host.specs.Functions.{Function, names_of, hosts_in}
+use Rattle.chor_host.specs.Functions.{Function, names_of, hosts_in, AreAnswerable}
 use Rattle.endpoint_code.specs.declared.endpoints.Endpoints.{Endpoints}
 use Rattle.endpoint_code.specs.Faults.{IsFaultlessWith}
 use Rattle.endpoint_code.specs.Network.{NetworkState, first_state}
@@ -11,15 +11,11 @@ use Rattle.endpoint_code.specs.NetworkRuns.{IsNetworkRun}
 use Rattle.endpoint_code.specs.Scheduled.{Close, Closes, IsScheduled}
 use Rattle.net_core.specs.Picks.{GoesOn}
 
--- each host function has an answer to any two numbers
-abbrev pub GiveAnswers : List Function → Type 0
-GiveAnswers functions = All (λ f. (a b : ℤ) → (v : ℤ) × IsAllowed f.1 a b v) functions
-
 -- Programs without faults that may ask these host functions: no name stands twice in their table, and each function answers
 pub record AreRunnable (functions : List Function) (e : Endpoints) : Type 0 where
   pub faultless : IsFaultlessWith (names_of functions) e
   pub distinct : AllDistinct e.names
-  pub answers : GiveAnswers functions
+  pub answers : AreAnswerable functions
 
 -- From a state after so many events, further events follow by the pick rule until the run is closed
 pub record HasContinuation (e : Endpoints) (hosts : Hosts) (cap : Option ℕ) (seed steps : ℕ) (n : NetworkState) (events : ℕ) : Type 0 where

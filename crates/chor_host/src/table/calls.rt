@@ -91,12 +91,22 @@ impl HostTable {
     /// What the function of this name answers, if there is one. It takes no memory.
     pub fn ask(&self, name: &[u8], a: i64, b: i64) -> Option<i64>
         ensures allowed { IfSome result (λ v. MayAnswer (meaning_of (functions_of self.now) name.now) a b v) }
-        ensures only { (v : ℤ) → MayAnswer (meaning_of (functions_of self.now) name.now) a b v → result ≡ Some v }
         ensures absent { IfNone result (is_named (functions_of self.now) name.now ≡ false) }
     {
         match self.find(name) {
             Some(index) => Some(self.at(index).ask(a, b)),
             None => None,
+        }
+    }
+
+    /// Whether the function of this name may answer this value to two numbers: false where there is
+    /// none. It takes no memory, and calls no function.
+    pub fn allows(&self, name: &[u8], a: i64, b: i64, value: i64) -> bool
+        ensures { IsTrue result ↔ MayAnswer (meaning_of (functions_of self.now) name.now) a b value }
+    {
+        match self.find(name) {
+            Some(index) => self.at(index).allows(a, b, value),
+            None => false,
         }
     }
 }

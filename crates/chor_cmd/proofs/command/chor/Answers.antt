@@ -1,6 +1,6 @@
 use Rattle.std.proofs.Common.{◌≡◌, sym, ◌∙◌, arith}
 use Rattle.std.proofs.lemmas.Bool.Decides.{nat_tests}
-use Rattle.projected_programs.proofs.Hosts.{table_exact}
+use Rattle.chor_host.proofs.Answerable.{table_answerable, table_fits}
 use Rattle.chor_cmd.proofs.Settles.{is_settled}
 use Rattle.chor_cmd.proofs.Headline.{runs_source, runs_projected, accepts_runs, links_programs, orders_run, judges_log, resumes_log, refuses_broken}
 use Rattle.chor_cmd.proofs.Exits.{answer_ended}
@@ -23,7 +23,7 @@ returns-clause-ran g c = runs_source _ (is_settled _ (answer_ended _ c.in-Some.c
 
 pub returns-clause-projected : goal.returns-clause-projected
 returns-clause-projected g c =
-    runs_projected _ (table_exact c.args.hosts.now) c.projected_laws.ensures.taken c.projected_laws.ensures.runs c.projected_laws.ensures.runs_by
+    runs_projected _ (table_answerable c.args.hosts.now) (table_fits c.args.hosts.now) c.projected_laws.ensures.taken c.projected_laws.ensures.runs c.projected_laws.ensures.runs_by
     (answer_ended _ c.in-Some.command c.in-Some.files.now c.in-Some.ensures c.answer_by-answer.result c.answer_by-answer.ensures.answers c.finish.ensures)
 
 pub returns-clause-replayed : goal.returns-clause-replayed

@@ -1,4 +1,4 @@
-use Rattle.std.proofs.Common.{◌≡◌, ℤ, Option, Some, refl, sym, subst, w64, to_z, of_z, ◌∙◌, rules}
+use Rattle.std.proofs.Common.{◌≡◌, ℤ, Option, sym, subst, w64, to_z, of_z, rules}
 use Rattle.chor_base.specs.declared.meaning.Meaning.{Meaning}
 use Rattle.chor_base.specs.Meaning.{MayAnswer}
 use Rattle.chor_host.specs.Tables.{functions_of}
@@ -9,19 +9,10 @@ moved : {m k : Option Meaning} {a b v a' b' v' : ℤ} → m ≡ k → a ≡ a' �
 moved {k} {a} {b} {v} {a'} {b'} m l r z h =
     subst (λ (x : ℤ). MayAnswer k a' b' x) z (subst (λ (x : ℤ). MayAnswer k a' x v) r (subst (λ (x : ℤ). MayAnswer k x b v) l (subst (λ (x : Option Meaning). MayAnswer x a b v) m h)))
 
-pub returns-clause-answers : goal.returns-clause-answers
-returns-clause-answers g c =
+pub returns : goal.returns
+returns g c =
     let same = by_number c.args.names.now (functions_of c.args.hosts.now) c.args.name c.word_of-word.result.now c.word_of-word.ensures.distinct c.word_of-word.ensures.word in
     let left : to_z w64 (of_z w64 c.args.left) ≡ c.args.left = search rules in
     let right : to_z w64 (of_z w64 c.args.right) ≡ c.args.right = search rules in
     let answer : to_z w64 (of_z w64 c.in-Some.answer) ≡ c.in-Some.answer = search rules in
-    moved (sym same) left right (sym answer) c.in-Some.ensures.allowed
-
-pub returns-clause-only : goal.returns-clause-only
-returns-clause-only g c = λ v h.
-    let same = by_number c.args.names.now (functions_of c.args.hosts.now) c.args.name c.word_of-word.result.now c.word_of-word.ensures.distinct c.word_of-word.ensures.word in
-    let left : to_z w64 (of_z w64 c.args.left) ≡ c.args.left = search rules in
-    let right : to_z w64 (of_z w64 c.args.right) ≡ c.args.right = search rules in
-    let answer : to_z w64 (of_z w64 c.in-Some.answer) ≡ c.in-Some.answer = search rules in
-    let found : Some c.in-Some.answer ≡ Some v = c.in-Some.ensures.only v (moved same (sym left) (sym right) refl h) in
-    let last : c.in-Some.answer ≡ v = cc in answer ∙ last
+    record { answers = moved (sym same) left right (sym answer) c.in-Some.ensures.allowed }

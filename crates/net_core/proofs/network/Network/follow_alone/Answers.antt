@@ -1,7 +1,6 @@
 use Rattle.std.proofs.Common.{◌≡◌, ◌∙◌, sym, refl, true, false}
 use Rattle.chor_host.specs.Functions.{hosts_in}
 use Rattle.chor_host.specs.Tables.{functions_of}
-use Rattle.chor_host.proofs.OneAnswer.{one_answer}
 use Rattle.net_core.proofs.Makers.{may_step, may_within}
 use Rattle.net_core.proofs.Lone.{no_step, is_step, followed}
 use Rattle.std.proofs.lemmas.Bool.{true≢false}
@@ -27,7 +26,7 @@ pub returns-in-Ok : goal.returns-in-Ok
 returns-in-Ok g c =
     let v = c.args.self.now in
     let hosts = hosts_in v.endpoints.names (functions_of c.args.hosts.now) in
-    (followed hosts v c.go.new.self c.args.pid c.args.event.now (one_answer c.args.hosts.now v.endpoints.names) (c.can_make.ensures.0 c.if-not-can_make.false) c.in-Ok.ensures.ok, c.in-Ok.ensures.grown)
+    (followed hosts v c.go.new.self c.args.pid c.args.event.now c.requires.other (c.can_make.ensures.0 c.if-not-can_make.false) c.in-Ok.ensures.ok, c.in-Ok.ensures.grown)
 
 pub returns-in-Err : goal.returns-in-Err
 returns-in-Err g c =
