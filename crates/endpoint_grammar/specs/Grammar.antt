@@ -4,8 +4,8 @@ use Rattle.std.specs.Prelude.{◌-◌, ℕ, List, [], ◌∷◌, Some, None, cod
 use Rattle.chor_base.specs.declared.rule.Rule.TheVariants.{E4}
 use Rattle.chor_lexer.specs.declared.mark.Mark.{Mark}
 use Rattle.chor_lexer.specs.declared.mark.Mark.TheVariants.{OpenBrace, CloseBrace, OpenParen, CloseParen, OpenBracket, CloseBracket, Comma, Semicolon, Bar, Plus, Minus, Star, Slash, Equal, NotEqual, Less, LessEqual, And, Or, Not}
-use Rattle.endpoint_grammar.specs.Classes.{a_mark, a_word, a_kept_word, a_name, a_number, a_text, the_end, exactly}
-use Rattle.endpoint_grammar.specs.Grammars.{Grammar, one, seq, alt, many, within, short, after, row, choice, optional, listed}
+use Rattle.grammar.specs.Classes.{a_mark, a_word, a_kept_word, a_name, a_number, a_text, the_end, exactly}
+use Rattle.grammar.specs.Grammars.{Grammar, one, seq, alt, many, within, short, after, row, choice, optional, listed}
 
 -- What may come after some token: the units of a file of which so many may be processes; what is left of a body whose path has room
 -- for so many nodes; what is left of both lists of a channel's roles, or of the second one, where so many may come; the operand of

@@ -7,7 +7,7 @@ use Rattle.chor_base.specs.declared.expr.BinOp.{BinOp}
 use Rattle.chor_base.specs.declared.expr.BinOp.TheVariants as binop
 use Rattle.chor_lexer.specs.Lexeme.{Lexeme, word as a_word}
 use Rattle.chor_lexer.specs.declared.mark.Mark.TheVariants.{Plus, Minus, Star, Slash}
-use Rattle.endpoint_grammar.specs.Grammars.{Value, Rules}
+use Rattle.grammar.specs.Grammars.{Value, Rules}
 use Rattle.endpoint_grammar.specs.Written.{Phrase, Leaf, Unary, Binary, Deed, Joins, Sends, Receives, Selects, Gives, Gains, Sets, Shows, Asks, Body, Does, Offers, Tests, Calls, Ends, Arms, NoArms, Arm, Roles, Units, no_units}
 use Rattle.endpoint_grammar.specs.Grammar.{Nonterminal, units, lines, roles, served, operand, parens, Part, endpoints, rule_of, operators, comparisons, un, product, sum, comparison, conjunction, disjunction, names, sessions, node, tail, lines_of, roles_of, served_of, units_of}
 

@@ -4,8 +4,8 @@ ghost use Rattle.std.specs.Prelude.{◌≡◌, ◌⊎◌, [], List, true};
 ghost use Rattle.chor_base.specs.declared.rule.Place.{Place};
 ghost use Rattle.chor_base.specs.declared.rule.Rule.{Rule};
 ghost use Rattle.chor_lexer.specs.Lexeme.{Lexeme};
-ghost use Rattle.endpoint_grammar.specs.Grammars.{nowhere, Derives};
-ghost use Rattle.endpoint_grammar.specs.Faults.{IsFirstFault, IsDerived, HasFault, is_closed};
+ghost use Rattle.grammar.specs.Grammars.{nowhere, Derives};
+ghost use Rattle.grammar.specs.Faults.{IsFirstFault, IsDerived, HasFault, is_closed};
 ghost use Rattle.endpoint_grammar.specs.Grammar.{endpoints};
 ghost use Rattle.endpoint_grammar.specs.Values.{rules, Derived};
 

@@ -1,5 +1,4 @@
-//! Grammars of tokens as data, and what holds of all of them; the grammar of endpoint files, and what
-//! holds of all tokens.
+//! The grammar of endpoint files, and what holds of all tokens.
 #![tactic(auto)]
 
 mod laws;

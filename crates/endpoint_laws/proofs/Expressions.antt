@@ -19,9 +19,9 @@ use Rattle.chor_lexer.specs.Keywords.{HasMark}
 use Rattle.chor_lexer.specs.Lexeme.{Symbol, Lexeme, word, number, text, mark}
 use Rattle.chor_lexer.specs.Tokens.{Spells, AreSpelled}
 use Rattle.chor_lexer.proofs.Spelling.{name_of}
-use Rattle.endpoint_grammar.specs.Classes.{a_mark, a_word, is_of}
-use Rattle.endpoint_grammar.specs.Classes as class
-use Rattle.endpoint_grammar.specs.Grammars.{one, seq, many, nowhere, Derives, is_one, in_turn, the_first, the_second, is_empty, none_of_many, one_of_many, by_rule}
+use Rattle.grammar.specs.Classes.{a_mark, a_word, is_of}
+use Rattle.grammar.specs.Classes as class
+use Rattle.grammar.specs.Grammars.{one, seq, many, nowhere, Derives, is_one, in_turn, the_first, the_second, is_empty, none_of_many, one_of_many, by_rule}
 use Rattle.endpoint_grammar.specs.Grammar.{Part, operators, comparisons, un, product, sum, comparison, conjunction, disjunction}
 use Rattle.endpoint_grammar.specs.Values.{Derived, rules, leaf_of, grouped, product_op, sum_op, comparison_op, product_phrase, sum_phrase, comparison_phrase, conjunction_phrase, phrase}
 use Rattle.endpoint_grammar.specs.Written.{Phrase, Leaf, Unary, Binary}

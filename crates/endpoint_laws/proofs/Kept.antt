@@ -2,8 +2,8 @@
 use Rattle.std.proofs.Common.{◌≡◌, true, List, ◌∷◌, inl, inr, sym, subst}
 use Rattle.std.specs.List.{AllByRecursion}
 use Rattle.chor_lexer.specs.Lexeme.{Lexeme}
-use Rattle.endpoint_grammar.specs.Classes.{Class, is_of, Says, says}
-use Rattle.endpoint_grammar.specs.Grammars.{Grammar, empty, one, seq, alt, many, more, within, short, after, Value, Rules, nowhere, Derives, is_empty, is_one, in_turn, the_first, the_second, none_of_many, one_of_many, no_more, one_more, with_room, in_short, by_rule}
+use Rattle.grammar.specs.Classes.{Class, is_of, Says, says}
+use Rattle.grammar.specs.Grammars.{Grammar, empty, one, seq, alt, many, more, within, short, after, Value, Rules, nowhere, Derives, is_empty, is_one, in_turn, the_first, the_second, none_of_many, one_of_many, no_more, one_more, with_room, in_short, by_rule}
 
 module _ {N : Type 0} (r : Rules N) (Said : (c : Class) → Says c → Type 0) (Made : (n : N) → r.V n → Type 0) where
   -- what is kept of each token is said so, and what is made by the rules is made so

@@ -7,8 +7,8 @@ use Rattle.chor_base.specs.declared.expr.BinOp.{BinOp}
 use Rattle.chor_base.specs.declared.expr.BinOp.TheVariants.{And, Or}
 use Rattle.chor_lexer.specs.declared.mark.Mark.TheVariants.{Star, Slash, Plus, Minus, And as And', Or as Or'}
 use Rattle.chor_lexer.specs.Lexeme.{Symbol, word, number, text, mark, last, Lexeme}
-use Rattle.endpoint_grammar.specs.Classes.{Class, a_mark, a_word, a_kept_word, a_name, a_number, exactly, a_text, the_end, is_keyword, is_of, Says, says}
-use Rattle.endpoint_grammar.specs.Grammars.{nowhere, Derives}
+use Rattle.grammar.specs.Classes.{Class, a_mark, a_word, a_kept_word, a_name, a_number, exactly, a_number_in, a_number_out, a_text, the_end, is_keyword, is_of, Says, says}
+use Rattle.grammar.specs.Grammars.{nowhere, Derives}
 use Rattle.endpoint_grammar.specs.Written.{Phrase, Leaf, Unary, Binary, Deed, Joins, Sends, Receives, Selects, Gives, Gains, Sets, Shows, Asks, Body, Does, Offers, Tests, Calls, Ends, Arms, NoArms, Arm, Roles, Channel, Procedure, Service, Process, Units}
 use Rattle.endpoint_grammar.specs.Grammar.{Nonterminal, units, lines, roles, served, operand, parens, Part, operators, un, product, sum, comparison, conjunction, disjunction, node, tail, sessions, lines_of, roles_of, served_of, units_of, endpoints, rule_of}
 use Rattle.endpoint_grammar.specs.Values.{Meaning, Derived, leaf_of, grouped, product_op, sum_op, product_phrase, sum_phrase, comparison_phrase, conjunction_phrase, phrase, deed, session_list, arms_of, last_node, body_of, role_list, role_lists, units_from, make, rules, written_units}
@@ -105,6 +105,8 @@ module _ (table texts : List (List ℕ)) where
   IsSaid (a_kept_word w) l = l.symbol ≡ word w
   IsSaid (a_mark m) v = Unit {0}
   IsSaid (exactly n) v = Unit {0}
+  IsSaid (a_number_in k n) l = Unit {0}
+  IsSaid (a_number_out k n) l = Unit {0}
   IsSaid the_end v = Unit {0}
 
   abbrev Named : (g : Part) → Derived g → Type 0
@@ -157,6 +159,8 @@ module _ (table texts : List (List ℕ)) where
   said (a_kept_word w) l i h = the_word_is w l.symbol i
   said (a_mark m) l i h = tt
   said (exactly n) l i h = tt
+  said (a_number_in k n) l i h = tt
+  said (a_number_out k n) l i h = tt
   said the_end l i h = tt
 
   -- ---- expressions

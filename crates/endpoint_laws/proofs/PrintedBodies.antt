@@ -12,8 +12,8 @@ use Rattle.chor_lexer.specs.Spelling.{expr_symbols, SpellAll}
 use Rattle.chor_lexer.specs.Tokens.{AreSpelled}
 use Rattle.chor_lexer.proofs.ReadBack.{HaveKinds, expr_kinds, numbered}
 use Rattle.chor_lexer.proofs.Spelling.{symbols_read_back}
-use Rattle.endpoint_grammar.specs.Classes.{a_mark, a_word, a_kept_word, is_of}
-use Rattle.endpoint_grammar.specs.Grammars.{one, seq, many, nowhere, AreFew, no_token, a_token, Derives, is_one, in_turn, the_first, the_second, none_of_many, one_of_many, with_room, in_short}
+use Rattle.grammar.specs.Classes.{a_mark, a_word, a_kept_word, is_of}
+use Rattle.grammar.specs.Grammars.{one, seq, many, nowhere, AreFew, no_token, a_token, Derives, is_one, in_turn, the_first, the_second, none_of_many, one_of_many, with_room, in_short}
 use Rattle.endpoint_grammar.specs.Grammar.{lines, disjunction, expr, three_names, body, node, arm, lines_of}
 use Rattle.endpoint_grammar.specs.Values.{rules, phrase, deed, arms_of, body_of}
 use Rattle.canonical_laws.proofs.WrittenFiles.{spelled_symbols}

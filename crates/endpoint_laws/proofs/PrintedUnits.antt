@@ -8,10 +8,10 @@ use Rattle.chor_base.specs.declared.rule.Refusal.{Refusal}
 use Rattle.chor_base.specs.declared.rule.Denied.TheVariants.{Refused}
 use Rattle.chor_lexer.specs.Lexeme.{Symbol, Lexeme, mark, last}
 use Rattle.chor_lexer.specs.Tokens.{IsTokens}
-use Rattle.endpoint_grammar.specs.Classes.{the_end, exactly, is_of}
-use Rattle.endpoint_grammar.specs.Grammars.{nowhere, Derives, is_one, in_turn, the_first, the_second, with_room}
-use Rattle.endpoint_grammar.proofs.Completed.{never_both}
-use Rattle.endpoint_grammar.proofs.Unique.{unique}
+use Rattle.grammar.specs.Classes.{the_end, exactly, is_of}
+use Rattle.grammar.specs.Grammars.{nowhere, Derives, is_one, in_turn, the_first, the_second, with_room}
+use Rattle.grammar.proofs.Completed.{never_both}
+use Rattle.grammar.proofs.Unique.{unique}
 use Rattle.endpoint_grammar.specs.Grammar.{units, lines, roles, served, endpoints, last_body, roles_of, served_of, units_of}
 use Rattle.endpoint_grammar.specs.Values.{Derived, rules, written_units, role_list, role_lists, units_from}
 use Rattle.endpoint_grammar.specs.Written.{Units, Roles}

@@ -7,8 +7,8 @@ use Rattle.chor_lexer.specs.declared.mark.Mark.{Mark}
 use Rattle.chor_lexer.specs.declared.mark.Mark.TheVariants.{Comma}
 use Rattle.chor_lexer.specs.Lexeme.{Symbol, Lexeme, word, mark}
 use Rattle.chor_lexer.proofs.Spelling.{name_of}
-use Rattle.endpoint_grammar.specs.Classes.{Class, a_mark, a_word, a_name, is_of}
-use Rattle.endpoint_grammar.specs.Grammars.{more, after, nowhere, HasRoom, Derives, is_one, in_turn, the_first, the_second, is_empty, no_more, one_more, with_room, by_rule}
+use Rattle.grammar.specs.Classes.{Class, a_mark, a_word, a_name, is_of}
+use Rattle.grammar.specs.Grammars.{more, after, nowhere, HasRoom, Derives, is_one, in_turn, the_first, the_second, is_empty, no_more, one_more, with_room, by_rule}
 use Rattle.endpoint_grammar.specs.Grammar.{Part, Nonterminal, mark as the_mark, word as the_word, NAME, sessions, rule_of}
 use Rattle.endpoint_grammar.specs.Values.{Meaning, Derived, rules, make, session_list}
 use Rattle.canonical_laws.specs.Symbols.{after_commas, listed}

@@ -12,16 +12,16 @@ use Rattle.chor_lexer.specs.Lexeme.{Lexeme}
 use Rattle.chor_lexer.specs.Tokens.{with_name, with_text}
 use Rattle.chor_lexer.proofs.Cuts.{one_reading, not_both}
 use Rattle.chor_lexer.proofs.Faults.{one_refusal as one_refusal_of_tokens}
-use Rattle.endpoint_grammar.specs.Grammars.{nowhere as within_limits, Derives}
-use Rattle.endpoint_grammar.specs.Faults.{IsFirstFault}
-use Rattle.endpoint_grammar.proofs.Completed.{never_both}
-use Rattle.endpoint_grammar.proofs.OneFault.{one_fault}
-use Rattle.endpoint_grammar.proofs.Unique.{unique}
+use Rattle.grammar.specs.Grammars.{nowhere as within_limits, Derives}
+use Rattle.grammar.specs.Faults.{IsFirstFault}
+use Rattle.grammar.proofs.Completed.{never_both}
+use Rattle.grammar.proofs.OneFault.{one_place}
+use Rattle.grammar.proofs.Singles.{one_fault_rule}
+use Rattle.grammar.proofs.Unique.{unique}
 use Rattle.endpoint_grammar.specs.Written.{Units}
 use Rattle.endpoint_grammar.specs.Grammar.{endpoints}
 use Rattle.endpoint_grammar.specs.Values.{rules, Derived, written_units}
-use Rattle.endpoint_grammar.proofs.Clear.{rules_clear, endpoints_clear}
-use Rattle.endpoint_grammar.proofs.Limits.{one_fault_rule}
+use Rattle.endpoint_grammar.proofs.Clear.{rules_clear, rules_single, endpoints_clear, endpoints_single}
 use Rattle.endpoint_reader.specs.declared.input.Input.{Input}
 use Rattle.endpoint_reader.specs.declared.written.Written.{Written}
 use Rattle.endpoint_reader.specs.Files.{units_written}
@@ -107,8 +107,8 @@ module _ (hosts : List (List ℕ)) (bytes : List ℕ) (i j : Input) (a : IsInput
   one_break : BreaksOff hosts i r → BreaksOff hosts j q → r ≡ q
   one_break (grammar h) (grammar k) =
       let g : IsFirstFault rules endpoints (lexemes_of i) q.rule q.place = subst (λ (ts : List Lexeme). IsFirstFault rules endpoints ts q.rule q.place) (sym (same_lexemes bytes i j a b)) k.0 in
-      let place = (one_fault h.0 g).0 in
-      let rule = one_fault_rule (lexemes_of i) r.rule q.rule r.place q.place h.0 g in
+      let place = one_place h.0 g in
+      let rule = one_fault_rule _ rules_single rules_clear endpoints (lexemes_of i) r.rule q.rule r.place q.place endpoints_clear endpoints_single h.0 g in
       let who = h.1 ∙ sym k.1 in λ t. record { rule = rule t; place = place t; who = who t }
   one_break (grammar h) (names v y k) =
       absurd (never_both _ y.is (subst (λ (ts : List Lexeme). IsFirstFault rules endpoints ts r.rule r.place) (same_lexemes bytes i j a b) h.0))

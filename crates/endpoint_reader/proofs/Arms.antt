@@ -8,14 +8,14 @@ use Rattle.chor_base.specs.declared.rule.Denied.{Denied}
 use Rattle.chor_base.specs.declared.rule.Rule.TheVariants.{E4}
 use Rattle.chor_lexer.specs.Lexeme.{Lexeme}
 use Rattle.chor_lexer.specs.declared.mark.Mark.TheVariants.{CloseBrace}
-use Rattle.endpoint_grammar.specs.Classes.{a_name}
-use Rattle.endpoint_grammar.specs.Grammars.{seq, many, HasRoom, nowhere, Derives, in_turn, one_of_many}
-use Rattle.endpoint_grammar.specs.Readers.{Reads, Halts, Leads, Stands, Lacks, Begins, Tells}
-use Rattle.endpoint_grammar.proofs.Reading.{past, reads_past, leads_on, after_reads, many_end, begun_by, comes_then, token_comes, misses_then, token_misses}
-use Rattle.endpoint_grammar.proofs.Sequences.{then_reads, then_halts, now_halts}
-use Rattle.endpoint_grammar.proofs.Progress.{read_shorter, read_no_longer}
-use Rattle.endpoint_grammar.proofs.Lists.{last_of}
-use Rattle.endpoint_grammar.proofs.Ways.{item_comes}
+use Rattle.grammar.specs.Classes.{a_name}
+use Rattle.grammar.specs.Grammars.{seq, many, HasRoom, nowhere, Derives, in_turn, one_of_many}
+use Rattle.grammar.specs.Readers.{Reads, Halts, Leads, Stands, Lacks, Begins, Tells}
+use Rattle.grammar.proofs.Reading.{past, reads_past, leads_on, after_reads, many_end, begun_by, comes_then, token_comes, misses_then, token_misses}
+use Rattle.grammar.proofs.Sequences.{then_reads, then_halts, now_halts}
+use Rattle.grammar.proofs.Progress.{read_shorter, read_no_longer}
+use Rattle.grammar.proofs.Lists.{last_of}
+use Rattle.grammar.proofs.Ways.{item_comes}
 use Rattle.endpoint_grammar.specs.Written.{Phrase, Body, Offers, Tests, Calls, Arm as WrittenArm}
 use Rattle.endpoint_grammar.specs.Grammar.{Part, NAME, mark, word, expr, arm, body, branch, conditional, signature}
 use Rattle.endpoint_grammar.specs.Values.{rules, Derived, phrase, arms_of}

@@ -4,12 +4,12 @@ use Rattle.chor_base.specs.declared.rule.Rule.TheVariants.{E1, E4}
 use Rattle.chor_base.specs.declared.rule.Denied.{Denied}
 use Rattle.chor_lexer.specs.Lexeme.{Lexeme}
 use Rattle.chor_lexer.specs.declared.mark.Mark.TheVariants.{Semicolon, OpenBrace, CloseBrace}
-use Rattle.endpoint_grammar.specs.Classes.{a_mark}
-use Rattle.endpoint_grammar.specs.Grammars.{within, seq, after}
-use Rattle.endpoint_grammar.specs.Readers.{Reads, Halts, Leads, Begins, Misses, Missed, Tells}
-use Rattle.endpoint_grammar.proofs.Reading.{past, reads_past, reads_same, leads_on, after_reads, first_halts, first_of_two, second_of_two, comes_then, comes_within, misses_then, misses_within, begins, into_rule, missed, rule_misses}
-use Rattle.endpoint_grammar.proofs.Sequences.{then_reads, then_halts, now_halts}
-use Rattle.endpoint_grammar.proofs.Ways.{one_is}
+use Rattle.grammar.specs.Classes.{a_mark}
+use Rattle.grammar.specs.Grammars.{within, seq, after}
+use Rattle.grammar.specs.Readers.{Reads, Halts, Leads, Begins, Misses, Missed, Tells}
+use Rattle.grammar.proofs.Reading.{past, reads_past, reads_same, leads_on, after_reads, first_halts, first_of_two, second_of_two, comes_then, comes_within, misses_then, misses_within, begins, into_rule, missed, rule_misses}
+use Rattle.grammar.proofs.Sequences.{then_reads, then_halts, now_halts}
+use Rattle.grammar.proofs.Ways.{one_is}
 use Rattle.endpoint_grammar.specs.Written.{Body, Does, Deed}
 use Rattle.endpoint_grammar.specs.Grammar.{mark, node, tail, lines, lines_of, body}
 use Rattle.endpoint_grammar.specs.Values.{rules, deed, body_of, last_node}

@@ -7,9 +7,9 @@ use Rattle.chor_lexer.specs.declared.token.Kind.TheVariants as kind
 use Rattle.chor_lexer.specs.declared.token.Token.{Token}
 use Rattle.chor_lexer.specs.Lexeme.{Lexeme}
 use Rattle.chor_lexer.specs.Tokens.{is_last, is_ended}
-use Rattle.endpoint_grammar.specs.Classes.{the_end, is_of}
-use Rattle.endpoint_grammar.specs.Readers.{Lacks, Stands, Found, Refuses}
-use Rattle.endpoint_grammar.proofs.Reading.{this_token}
+use Rattle.grammar.specs.Classes.{the_end, is_of}
+use Rattle.grammar.specs.Readers.{Lacks, Stands, Found, Refuses}
+use Rattle.grammar.proofs.Reading.{this_token}
 use Rattle.chor_base.specs.declared.rule.Rule.{Rule}
 use Rattle.chor_base.specs.declared.rule.Refusal.{Refusal}
 use Rattle.chor_base.specs.declared.rule.Denied.TheVariants.{Refused}

@@ -10,7 +10,7 @@ use Rattle.chor_base.specs.Expr.{Unary, Binary, term_of}
 use Rattle.chor_base.specs.Writing.{name_in}
 use Rattle.chor_lexer.specs.declared.token.Kind.TheVariants.{Word}
 use Rattle.chor_lexer.specs.Keywords.{IsName}
-use Rattle.endpoint_grammar.specs.Classes.{a_name, is_keyword, is_of}
+use Rattle.grammar.specs.Classes.{a_name, is_keyword, is_of}
 use Rattle.endpoint_reader.specs.Tokens.{symbol_of}
 use Rattle.endpoint_reader.specs.declared.operand.Opening.{Opening}
 use Rattle.endpoint_reader.specs.declared.operand.Opening.TheVariants.{Leaf}

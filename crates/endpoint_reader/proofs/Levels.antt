@@ -7,12 +7,12 @@ use Rattle.chor_base.specs.declared.expr.BinOp.{BinOp}
 use Rattle.chor_base.specs.Expr.{Term, Binary as Joined, term_of}
 use Rattle.chor_lexer.specs.declared.mark.Mark.{Mark}
 use Rattle.chor_lexer.specs.Lexeme.{Lexeme}
-use Rattle.endpoint_grammar.specs.Classes.{a_mark}
-use Rattle.endpoint_grammar.specs.Grammars.{seq, many, short, Room, is_nullable}
-use Rattle.endpoint_grammar.specs.Readers.{HasOne, Lacks, Misses, Refuses, Halts, HaltsIn, LeadsIn, Tells}
-use Rattle.endpoint_grammar.proofs.Reading.{begins, begun_by, token_comes, comes_first, comes_second, comes_then, token_misses, misses_then, memory_halts}
-use Rattle.endpoint_grammar.proofs.Progress.{read_shorter}
-use Rattle.endpoint_grammar.proofs.Windows.{on_in, reads_on_in, halts_on_in, token_in, first_in, second_in, nothing_in, item_in, no_item_in, full_in, first_halts_in, after_in, read_whole, halt_whole}
+use Rattle.grammar.specs.Classes.{a_mark}
+use Rattle.grammar.specs.Grammars.{seq, many, short, Room, is_nullable}
+use Rattle.grammar.specs.Readers.{HasOne, Lacks, Misses, Refuses, Halts, HaltsIn, LeadsIn, Tells}
+use Rattle.grammar.proofs.Reading.{begins, begun_by, token_comes, comes_first, comes_second, comes_then, token_misses, misses_then, memory_halts}
+use Rattle.grammar.proofs.Progress.{read_shorter}
+use Rattle.grammar.proofs.Windows.{on_in, reads_on_in, halts_on_in, token_in, first_in, second_in, nothing_in, item_in, no_item_in, full_in, first_halts_in, after_in, read_whole, halt_whole}
 use Rattle.endpoint_grammar.specs.Written.{Phrase, Binary}
 use Rattle.endpoint_grammar.specs.Grammar.{Part, operators, level, sum, comparison, comparisons, disjunction, expr}
 use Rattle.endpoint_grammar.specs.Values.{rules, Derived, grouped, sum_phrase, comparison_op, comparison_phrase, phrase}

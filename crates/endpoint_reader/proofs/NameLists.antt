@@ -3,13 +3,13 @@ use Rattle.std.proofs.Common.{◌≡◌, ◌-◌, ℕ, inl, inr, true, false, So
 use Rattle.chor_lexer.specs.Lexeme.{Lexeme}
 use Rattle.chor_base.specs.declared.rule.Rule.TheVariants.{E4}
 use Rattle.chor_base.specs.declared.rule.Denied.{Denied}
-use Rattle.endpoint_grammar.specs.Classes.{a_name, is_of}
-use Rattle.endpoint_grammar.specs.Grammars.{Room, less, within, nowhere, Derives, is_one, in_turn, with_room}
-use Rattle.endpoint_grammar.specs.Readers.{Reads, Halts, Stands, Lacks, Tells, split_of}
-use Rattle.endpoint_grammar.proofs.Reading.{past, reads_past, first_of_two, nothing_comes, comes_within, comes_then, token_comes, token_misses, misses_within, misses_then}
+use Rattle.grammar.specs.Classes.{a_name, is_of}
+use Rattle.grammar.specs.Grammars.{Room, less, within, nowhere, Derives, is_one, in_turn, with_room}
+use Rattle.grammar.specs.Readers.{Reads, Halts, Stands, Lacks, Tells, split_of}
+use Rattle.grammar.proofs.Reading.{past, reads_past, first_of_two, nothing_comes, comes_within, comes_then, token_comes, token_misses, misses_within, misses_then}
 use Rattle.endpoint_grammar.specs.Grammar.{NAME, names, sessions, two_names, mark, signature}
 use Rattle.endpoint_reader.specs.Signatures.{signed}
-use Rattle.endpoint_grammar.proofs.Sequences.{then_reads}
+use Rattle.grammar.proofs.Sequences.{then_reads}
 use Rattle.chor_lexer.specs.declared.mark.Mark.TheVariants.{OpenParen, CloseParen}
 use Rattle.endpoint_grammar.specs.Values.{rules, session_list}
 

@@ -4,11 +4,11 @@ use Rattle.chor_base.specs.declared.rule.Rule.TheVariants.{E4}
 use Rattle.chor_base.specs.declared.rule.Denied.{Denied}
 use Rattle.chor_lexer.specs.Lexeme.{Symbol, Lexeme}
 use Rattle.chor_lexer.specs.declared.mark.Mark.TheVariants.{OpenParen, Comma, CloseParen}
-use Rattle.endpoint_grammar.specs.Classes.{a_word, is_of}
-use Rattle.endpoint_grammar.specs.Grammars.{within, is_full}
-use Rattle.endpoint_grammar.specs.Readers.{Reads, Halts, HasOne, Lacks, Stands, Begins, Misses, Tells, Refuses}
-use Rattle.endpoint_grammar.proofs.Reading.{begun_by, begins, token_comes, token_misses, token_reads, comes_then, comes_first, comes_second, misses_then, misses_both, first_of_two, second_of_two, after_reads, past, reads_past, has_room, full_halts, other_stands}
-use Rattle.endpoint_grammar.proofs.Sequences.{then_reads}
+use Rattle.grammar.specs.Classes.{a_word, is_of}
+use Rattle.grammar.specs.Grammars.{within, is_full}
+use Rattle.grammar.specs.Readers.{Reads, Halts, HasOne, Lacks, Stands, Begins, Misses, Tells, Refuses}
+use Rattle.grammar.proofs.Reading.{begun_by, begins, token_comes, token_misses, token_reads, comes_then, comes_first, comes_second, misses_then, misses_both, first_of_two, second_of_two, after_reads, past, reads_past, has_room, full_halts, other_stands}
+use Rattle.grammar.proofs.Sequences.{then_reads}
 use Rattle.endpoint_grammar.specs.Written.{Phrase, Deed, Sends, Sets, Asks}
 use Rattle.endpoint_grammar.specs.Grammar.{NAME, node, mark, two_names, three_names, send, set, host, expr}
 use Rattle.endpoint_grammar.specs.Values.{rules, deed, phrase}

@@ -6,11 +6,11 @@ use Rattle.chor_base.specs.declared.expr.UnOp.{UnOp}
 use Rattle.chor_base.specs.declared.expr.UnOp.TheVariants.{Neg, Not}
 use Rattle.chor_lexer.specs.declared.mark.Mark.TheVariants as sign
 use Rattle.chor_lexer.specs.Lexeme.{word as a_word_of, Lexeme}
-use Rattle.endpoint_grammar.specs.Classes.{Class, a_mark, a_word, a_name, a_number, a_text, is_of, is_among}
-use Rattle.endpoint_grammar.specs.Grammars.{seq}
-use Rattle.endpoint_grammar.specs.Readers.{Stands, Lacks, Begins, Misses, ReadsIn, HaltsIn, LeadsIn}
-use Rattle.endpoint_grammar.proofs.Reading.{begun_by, rule_comes, token_comes, comes_first, comes_second, rule_misses, token_misses, misses_both, other_stands, this_token}
-use Rattle.endpoint_grammar.proofs.Windows.{on_in, reads_on_in, halts_on_in, token_in, rule_in, first_in, second_in, first_halts_in, after_in}
+use Rattle.grammar.specs.Classes.{Class, a_mark, a_word, a_name, a_number, a_text, is_of, is_among}
+use Rattle.grammar.specs.Grammars.{seq}
+use Rattle.grammar.specs.Readers.{Stands, Lacks, Begins, Misses, ReadsIn, HaltsIn, LeadsIn}
+use Rattle.grammar.proofs.Reading.{begun_by, rule_comes, token_comes, comes_first, comes_second, rule_misses, token_misses, misses_both, other_stands, this_token}
+use Rattle.grammar.proofs.Windows.{on_in, reads_on_in, halts_on_in, token_in, rule_in, first_in, second_in, first_halts_in, after_in}
 use Rattle.endpoint_grammar.specs.Written.{Phrase, Leaf, Unary}
 use Rattle.endpoint_grammar.specs.Grammar.{operand, parens, un, disjunction, mark}
 use Rattle.endpoint_grammar.specs.Values.{rules, leaf_of, phrase}

@@ -5,11 +5,11 @@ use Rattle.chor_base.specs.declared.rule.Rule.TheVariants.{E4}
 use Rattle.chor_base.specs.declared.rule.Denied.{Denied}
 use Rattle.chor_lexer.specs.Lexeme.{Lexeme}
 use Rattle.chor_lexer.specs.declared.mark.Mark.TheVariants.{Comma, Bar, CloseParen}
-use Rattle.endpoint_grammar.specs.Classes.{a_mark}
-use Rattle.endpoint_grammar.specs.Grammars.{within}
-use Rattle.endpoint_grammar.specs.Readers.{Reads, Halts, Leads, HasOne, Lacks, Tells}
-use Rattle.endpoint_grammar.proofs.Reading.{past, reads_past, leads_on, after_reads, first_halts, first_of_two, second_of_two, rule_comes, rule_misses, into_rule}
-use Rattle.endpoint_grammar.proofs.Lists.{last_of}
+use Rattle.grammar.specs.Classes.{a_mark}
+use Rattle.grammar.specs.Grammars.{within}
+use Rattle.grammar.specs.Readers.{Reads, Halts, Leads, HasOne, Lacks, Tells}
+use Rattle.grammar.proofs.Reading.{past, reads_past, leads_on, after_reads, first_halts, first_of_two, second_of_two, rule_comes, rule_misses, into_rule}
+use Rattle.grammar.proofs.Lists.{last_of}
 use Rattle.endpoint_grammar.specs.Written.{Roles as WrittenRoles}
 use Rattle.endpoint_grammar.specs.Grammar.{NAME, mark, roles, served, roles_of, served_of}
 use Rattle.endpoint_grammar.specs.Values.{rules, Derived, role_list, role_lists}

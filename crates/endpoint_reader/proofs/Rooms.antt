@@ -1,7 +1,7 @@
 -- Room for one more.
 use Rattle.std.proofs.Common.{◌≡◌, ◌<◌, ◌≤◌, ℕ, true, false, Some, arith}
 use Rattle.std.proofs.lemmas.Bool.Decides.{nat_tests}
-use Rattle.endpoint_grammar.specs.Grammars.{is_full}
+use Rattle.grammar.specs.Grammars.{is_full}
 
 pub open_room : (n : ℕ) → 0 < n → is_full (Some n) ≡ false
 open_room n h = grind (arith, nat_tests)

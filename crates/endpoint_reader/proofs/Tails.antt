@@ -7,10 +7,10 @@ use Rattle.chor_base.specs.declared.rule.Rule.TheVariants.{E4}
 use Rattle.chor_base.specs.declared.rule.Denied.{Denied}
 use Rattle.chor_base.specs.declared.rule.Denied.TheVariants.{Memory}
 use Rattle.chor_lexer.specs.Lexeme.{Symbol, word, number, text, mark, last, Lexeme}
-use Rattle.endpoint_grammar.specs.Classes.{a_word, a_kept_word, is_of}
-use Rattle.endpoint_grammar.specs.Grammars.{within, is_full}
-use Rattle.endpoint_grammar.specs.Readers.{Reads, Halts, Leads, HasOne, Stands, Begins, Misses, Refuses, Tells}
-use Rattle.endpoint_grammar.proofs.Reading.{past, reads_past, leads_on, after_reads, token_comes, token_misses, token_reads, comes_then, comes_first, comes_second, misses_then, misses_both, misses_within, first_of_two, second_of_two, begun_by, begins, has_room, full_halts, missed, memory_halts, other_stands}
+use Rattle.grammar.specs.Classes.{a_word, a_kept_word, is_of}
+use Rattle.grammar.specs.Grammars.{within, is_full}
+use Rattle.grammar.specs.Readers.{Reads, Halts, Leads, HasOne, Stands, Begins, Misses, Refuses, Tells}
+use Rattle.grammar.proofs.Reading.{past, reads_past, leads_on, after_reads, token_comes, token_misses, token_reads, comes_then, comes_first, comes_second, misses_then, misses_both, misses_within, first_of_two, second_of_two, begun_by, begins, has_room, full_halts, missed, memory_halts, other_stands}
 use Rattle.endpoint_grammar.specs.Written.{Body, Ends}
 use Rattle.endpoint_grammar.specs.Grammar.{tail, branch, conditional, signature}
 use Rattle.endpoint_grammar.specs.Values.{rules, last_node}

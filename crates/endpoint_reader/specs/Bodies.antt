@@ -4,8 +4,8 @@ use Rattle.chor_base.specs.declared.rule.Place.{Place}
 use Rattle.chor_base.specs.declared.rule.Rule.TheVariants.{E4}
 use Rattle.chor_lexer.specs.Lexeme.{Lexeme}
 use Rattle.chor_lexer.specs.declared.mark.Mark.TheVariants.{OpenBrace, CloseBrace}
-use Rattle.endpoint_grammar.specs.Grammars.{row, many, within}
-use Rattle.endpoint_grammar.specs.Readers.{Reads, Misses, Tells}
+use Rattle.grammar.specs.Grammars.{row, many, within}
+use Rattle.grammar.specs.Readers.{Reads, Misses, Tells}
 use Rattle.endpoint_grammar.specs.Written.{Body, Offers, Tests, Calls, Ends}
 use Rattle.endpoint_grammar.specs.Grammar.{Part, mark, node, two_names, arm, body, tail, branch, conditional, signature}
 use Rattle.endpoint_grammar.specs.Values.{rules, Derived, phrase, arms_of, session_list, last_node}

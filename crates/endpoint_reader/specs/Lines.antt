@@ -3,7 +3,7 @@ use Rattle.std.specs.Prelude.{◌≡◌, ◌<◌, ℕ, List, [], ◌∷◌, map,
 use Rattle.node_table.specs.Tables.{trees_of}
 use Rattle.chor_base.specs.Expr.{term_of}
 use Rattle.chor_lexer.specs.Lexeme.{word, Lexeme}
-use Rattle.endpoint_grammar.specs.Readers.{Leads}
+use Rattle.grammar.specs.Readers.{Leads}
 use Rattle.endpoint_grammar.specs.Written.{Deed, Body, Does, Offers, Tests, Calls, Ends, Arms, NoArms, Arm}
 use Rattle.endpoint_grammar.specs.Grammar.{lines_of}
 use Rattle.endpoint_grammar.specs.Values.{rules, Derived, body_of}

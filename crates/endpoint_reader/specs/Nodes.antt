@@ -3,8 +3,8 @@ use Rattle.std.specs.Prelude.{ℕ, List, Some, codes}
 use Rattle.chor_base.specs.Expr.{term_of}
 use Rattle.chor_base.specs.declared.rule.Rule.TheVariants.{E4}
 use Rattle.chor_lexer.specs.Lexeme.{Lexeme}
-use Rattle.endpoint_grammar.specs.Grammars.{within}
-use Rattle.endpoint_grammar.specs.Readers.{Tells}
+use Rattle.grammar.specs.Grammars.{within}
+use Rattle.grammar.specs.Readers.{Tells}
 use Rattle.endpoint_grammar.specs.Written.{Deed, Joins, Sends, Receives, Selects, Gives, Gains, Sets, Shows, Asks}
 use Rattle.endpoint_grammar.specs.Grammar.{Part, node, join, send, three_names, set, expr, host}
 use Rattle.endpoint_grammar.specs.Values.{rules, Derived, phrase, deed}

@@ -8,8 +8,8 @@ use Rattle.chor_base.specs.Expr.{term_of}
 use Rattle.chor_lexer.specs.declared.mark.Mark.{Mark}
 use Rattle.chor_lexer.specs.declared.mark.Mark.TheVariants as sign
 use Rattle.chor_lexer.specs.Lexeme.{Symbol, word as a_word_of, Lexeme}
-use Rattle.endpoint_grammar.specs.Classes.{Class, a_mark, a_word, a_name, a_number, a_text, is_of}
-use Rattle.endpoint_grammar.specs.Readers.{ReadsIn, Begins}
+use Rattle.grammar.specs.Classes.{Class, a_mark, a_word, a_name, a_number, a_text, is_of}
+use Rattle.grammar.specs.Readers.{ReadsIn, Begins}
 use Rattle.endpoint_grammar.specs.Written.{Phrase, Leaf}
 use Rattle.endpoint_grammar.specs.Grammar.{Part, operators, level, un, product, comparison, conjunction}
 use Rattle.endpoint_grammar.specs.Values.{rules, Derived, leaf_of, grouped, product_op, sum_op, product_phrase, comparison_phrase, conjunction_phrase}

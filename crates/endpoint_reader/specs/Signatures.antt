@@ -3,8 +3,8 @@ use Rattle.std.specs.Prelude.{ℕ, List, []}
 use Rattle.std.proofs.Common.{inl, inr}
 use Rattle.chor_lexer.specs.Lexeme.{Lexeme}
 use Rattle.chor_lexer.specs.declared.mark.Mark.TheVariants.{Bar, CloseParen}
-use Rattle.endpoint_grammar.specs.Classes.{a_mark}
-use Rattle.endpoint_grammar.specs.Grammars.{alt, after}
+use Rattle.grammar.specs.Classes.{a_mark}
+use Rattle.grammar.specs.Grammars.{alt, after}
 use Rattle.endpoint_grammar.specs.Written.{Roles as WrittenRoles}
 use Rattle.endpoint_grammar.specs.Grammar.{Part, role_of_channel, served, mark, signature}
 use Rattle.endpoint_grammar.specs.Values.{Derived, session_list}

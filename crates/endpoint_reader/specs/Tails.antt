@@ -2,8 +2,8 @@
 use Rattle.std.specs.Prelude.{◌≡◌, ℕ, List, codes, true, false}
 use Rattle.chor_base.specs.declared.rule.Place.{Place}
 use Rattle.chor_lexer.specs.Lexeme.{Symbol, word, Lexeme}
-use Rattle.endpoint_grammar.specs.Classes.{a_word, a_kept_word, is_of}
-use Rattle.endpoint_grammar.specs.Readers.{Stands, HasOne}
+use Rattle.grammar.specs.Classes.{a_word, a_kept_word, is_of}
+use Rattle.grammar.specs.Readers.{Stands, HasOne}
 use Rattle.endpoint_reader.specs.declared.tail.TailWord.{TailWord}
 use Rattle.endpoint_reader.specs.declared.tail.TailWord.TheVariants as begun
 

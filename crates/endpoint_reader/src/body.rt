@@ -3,8 +3,8 @@
 ghost use Rattle.std.specs.Prelude.{◌≡◌, ◌-◌, ◌<◌, ◌≤◌, ◌++◌, ◌∷◌, [], All, Some, false, length, IfOk, IfErr, OnOk};
 ghost use Rattle.chor_base.specs.declared.rule.Rule.TheVariants.{E4};
 ghost use Rattle.chor_lexer.specs.declared.mark.Mark.TheVariants.{CloseBrace};
-ghost use Rattle.endpoint_grammar.specs.Grammars.{within, is_full};
-ghost use Rattle.endpoint_grammar.specs.Readers.{Halts, Misses};
+ghost use Rattle.grammar.specs.Grammars.{within, is_full};
+ghost use Rattle.grammar.specs.Readers.{Halts, Misses};
 ghost use Rattle.endpoint_grammar.specs.Grammar.{mark, node, lines_of, body as a_body, tail, branch, conditional, signature};
 ghost use Rattle.endpoint_grammar.specs.Values.{rules};
 ghost use Rattle.endpoint_reader.specs.declared.input.Input.{Input as AnyInput};

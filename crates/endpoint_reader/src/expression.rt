@@ -3,7 +3,7 @@
 ghost use Rattle.std.specs.Prelude.{◌≡◌, ◌<◌, length, IfOk, IfErr, IfSome, IfNone, Some, true, false};
 ghost use Rattle.chor_base.specs.Expr.{term_of, Unary, Binary};
 ghost use Rattle.chor_base.specs.declared.rule.Rule.TheVariants.{E4};
-ghost use Rattle.endpoint_grammar.specs.Readers.{Halts, Misses, Tells, HaltsIn};
+ghost use Rattle.grammar.specs.Readers.{Halts, Misses, Tells, HaltsIn};
 ghost use Rattle.endpoint_grammar.specs.Grammar.{un, comparison, comparisons, operators, expr as an_expr};
 ghost use Rattle.endpoint_grammar.specs.Values.{rules, leaf_of, phrase, comparison_op, comparison_phrase};
 ghost use Rattle.endpoint_reader.specs.Tokens.{from, written};

@@ -1,7 +1,7 @@
 //! Lists of names.
 
 ghost use Rattle.std.specs.Prelude.{IfOk, IfErr, ◌∷◌, []};
-ghost use Rattle.endpoint_grammar.specs.Readers.{Reads, Halts, Tells, split_of};
+ghost use Rattle.grammar.specs.Readers.{Reads, Halts, Tells, split_of};
 ghost use Rattle.endpoint_grammar.specs.Grammar.{two_names, three_names, role_of_channel, names, sessions, signature};
 ghost use Rattle.endpoint_grammar.specs.Values.{rules, session_list};
 ghost use Rattle.endpoint_reader.specs.Tokens.{from, all_named};

@@ -2,9 +2,9 @@
 
 ghost use Rattle.std.specs.Prelude.{◌≡◌, IfOk, IfErr, IfSome, IfNone, OnErr, Some, true, false};
 ghost use Rattle.chor_base.specs.declared.rule.Rule.TheVariants.{E4};
-ghost use Rattle.endpoint_grammar.specs.Classes.{a_word, is_of};
-ghost use Rattle.endpoint_grammar.specs.Grammars.{within};
-ghost use Rattle.endpoint_grammar.specs.Readers.{Halts, Tells, Begins, Misses, HasOne};
+ghost use Rattle.grammar.specs.Classes.{a_word, is_of};
+ghost use Rattle.grammar.specs.Grammars.{within};
+ghost use Rattle.grammar.specs.Readers.{Halts, Tells, Begins, Misses, HasOne};
 ghost use Rattle.endpoint_grammar.specs.Grammar.{node, join as join_part, send, three_names, set, host, expr as an_expr};
 ghost use Rattle.endpoint_grammar.specs.Values.{rules, deed};
 ghost use Rattle.endpoint_reader.specs.declared.input.Input.{Input as AnyInput};

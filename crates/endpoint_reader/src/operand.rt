@@ -2,8 +2,8 @@
 
 ghost use Rattle.std.specs.Prelude.{◌≡◌, ◌<◌, length, IfSome, IfNone, true, false};
 ghost use Rattle.chor_base.specs.Expr.{term_of};
-ghost use Rattle.endpoint_grammar.specs.Classes.{a_mark, is_of, is_among};
-ghost use Rattle.endpoint_grammar.specs.Readers.{Misses};
+ghost use Rattle.grammar.specs.Classes.{a_mark, is_of, is_among};
+ghost use Rattle.grammar.specs.Readers.{Misses};
 ghost use Rattle.endpoint_grammar.specs.Grammar.{un};
 ghost use Rattle.endpoint_grammar.specs.Values.{rules};
 ghost use Rattle.endpoint_reader.specs.Tokens.{from, symbol_of, written};

@@ -1,7 +1,7 @@
 //! Roles of channels.
 
 ghost use Rattle.std.specs.Prelude.{IfOk, IfErr};
-ghost use Rattle.endpoint_grammar.specs.Readers.{Halts, Tells};
+ghost use Rattle.grammar.specs.Readers.{Halts, Tells};
 ghost use Rattle.endpoint_grammar.specs.Grammar.{roles_of, served_of};
 ghost use Rattle.endpoint_grammar.specs.Values.{rules, role_list, role_lists};
 ghost use Rattle.endpoint_reader.specs.Tokens.{from, all_named};

@@ -1,7 +1,7 @@
 //! How tails of bodies begin.
 
 ghost use Rattle.std.specs.Prelude.{ℕ, IfSome, IfNone};
-ghost use Rattle.endpoint_grammar.specs.Readers.{Misses};
+ghost use Rattle.grammar.specs.Readers.{Misses};
 ghost use Rattle.endpoint_grammar.specs.Grammar.{tail};
 ghost use Rattle.endpoint_grammar.specs.Values.{rules};
 ghost use Rattle.endpoint_reader.specs.Tokens.{from, symbol_of, lexeme_of};

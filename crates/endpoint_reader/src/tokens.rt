@@ -4,9 +4,9 @@ ghost use Rattle.std.specs.Prelude.{◌≡◌, ◌-◌, ◌+◌, ◌<◌, [], le
 ghost use Rattle.chor_base.specs.declared.rule.Rule.TheVariants.{E1, E4};
 ghost use Rattle.chor_base.specs.Writing.{name_in};
 ghost use Rattle.chor_lexer.specs.Tokens.{is_last as last_kind};
-ghost use Rattle.endpoint_grammar.specs.Classes.{a_mark, a_word, a_name, exactly, the_end, is_of};
-ghost use Rattle.endpoint_grammar.specs.Grammars.{one, within, is_full};
-ghost use Rattle.endpoint_grammar.specs.Readers.{Reads, Halts, Refuses, Stands, Lacks, HasOne, Missed, ReadsIn, HaltsIn};
+ghost use Rattle.grammar.specs.Classes.{a_mark, a_word, a_name, exactly, the_end, is_of};
+ghost use Rattle.grammar.specs.Grammars.{one, within, is_full};
+ghost use Rattle.grammar.specs.Readers.{Reads, Halts, Refuses, Stands, Lacks, HasOne, Missed, ReadsIn, HaltsIn};
 ghost use Rattle.endpoint_grammar.specs.Grammar.{NAME, word as word_of, mark as mark_of};
 ghost use Rattle.endpoint_grammar.specs.Values.{rules};
 ghost use Rattle.endpoint_reader.specs.Tokens.{from, symbol_of, named, IsFirst, IsAt, EndsThere, IsTold};

@@ -3,12 +3,12 @@ use Rattle.std.proofs.Common.{◌≡◌, Bool, true, false, None, Some, List, []
 use Rattle.chor_base.specs.declared.rule.Place.{Place}
 use Rattle.chor_base.specs.declared.rule.Denied.{Denied}
 use Rattle.chor_lexer.specs.Lexeme.{Lexeme}
-use Rattle.endpoint_grammar.specs.Classes.{Class, is_of, Says}
-use Rattle.endpoint_grammar.specs.Grammars.{Grammar, empty, one, seq, after, Value, Rules, nowhere, Derives, in_turn, by_rule}
-use Rattle.endpoint_grammar.specs.Machine.{Next, goes, skips, refuses, taken, followed, next, stopped, stop}
-use Rattle.endpoint_grammar.specs.Readers.{Reads, Halts, Leads}
-use Rattle.endpoint_grammar.proofs.Reading.{again, same_later}
-use Rattle.endpoint_grammar.proofs.Ways.{one_is}
+use Rattle.grammar.specs.Classes.{Class, is_of, Says}
+use Rattle.grammar.specs.Grammars.{Grammar, empty, one, seq, after, Value, Rules, nowhere, Derives, in_turn, by_rule}
+use Rattle.grammar.specs.Machine.{Next, goes, skips, refuses, taken, followed, next, stopped, stop}
+use Rattle.grammar.specs.Readers.{Reads, Halts, Leads}
+use Rattle.grammar.proofs.Reading.{again, same_later}
+use Rattle.grammar.proofs.Ways.{one_is}
 
 module _ {N : Type 0} (r : Rules N) where
   past_empty : (h : Grammar N) (ts : List Lexeme) → stop r (seq empty h) ts ≡ stop r h ts

@@ -5,12 +5,12 @@ use Rattle.chor_base.specs.declared.rule.Denied.{Denied}
 use Rattle.chor_base.specs.declared.rule.Rule.TheVariants.{E4}
 use Rattle.chor_lexer.specs.Lexeme.{Lexeme}
 use Rattle.chor_lexer.specs.declared.mark.Mark.TheVariants.{OpenParen, Semicolon}
-use Rattle.endpoint_grammar.specs.Classes.{a_word, the_end}
-use Rattle.endpoint_grammar.specs.Grammars.{one, within}
-use Rattle.endpoint_grammar.specs.Readers.{Reads, Halts, HasOne, Tells}
-use Rattle.endpoint_grammar.proofs.Reading.{past, reads_past, leads_on, after_reads, into_rule}
-use Rattle.endpoint_grammar.proofs.Lists.{last_of}
-use Rattle.endpoint_grammar.proofs.Ways.{one_is}
+use Rattle.grammar.specs.Classes.{a_word, the_end}
+use Rattle.grammar.specs.Grammars.{one, within}
+use Rattle.grammar.specs.Readers.{Reads, Halts, HasOne, Tells}
+use Rattle.grammar.proofs.Reading.{past, reads_past, leads_on, after_reads, into_rule}
+use Rattle.grammar.proofs.Lists.{last_of}
+use Rattle.grammar.proofs.Ways.{one_is}
 use Rattle.endpoint_grammar.specs.Written.{Body, Units, Roles as WrittenRoles, Channel as ChannelUnit, Procedure as ProcedureUnit, Service as ServiceUnit, Process as ProcessUnit, no_units}
 use Rattle.endpoint_grammar.specs.Grammar.{NAME, mark, body, roles, roles_of, units, units_of, signature, role_of_channel, channel, procedure, service, process}
 use Rattle.endpoint_grammar.specs.Values.{rules, role_lists, units_from}

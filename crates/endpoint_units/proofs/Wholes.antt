@@ -4,13 +4,13 @@ use Rattle.chor_base.specs.declared.rule.Denied.{Denied}
 use Rattle.chor_base.specs.declared.rule.Denied.TheVariants.{Refused, Memory}
 use Rattle.chor_lexer.specs.Lexeme.{Lexeme}
 use Rattle.chor_lexer.specs.declared.mark.Mark.TheVariants.{Semicolon}
-use Rattle.endpoint_grammar.specs.Classes.{exactly}
-use Rattle.endpoint_grammar.specs.Grammars.{one, empty}
-use Rattle.endpoint_grammar.specs.Readers.{Reads, Halts, Tells}
-use Rattle.endpoint_grammar.proofs.Reading.{past, reads_past, reads_same, into_rule}
-use Rattle.endpoint_grammar.proofs.Sequences.{then_reads, then_halts}
-use Rattle.endpoint_grammar.proofs.Ways.{one_is}
-use Rattle.endpoint_grammar.proofs.Completed.{first_fault}
+use Rattle.grammar.specs.Classes.{exactly}
+use Rattle.grammar.specs.Grammars.{one, empty}
+use Rattle.grammar.specs.Readers.{Reads, Halts, Tells}
+use Rattle.grammar.proofs.Reading.{past, reads_past, reads_same, into_rule}
+use Rattle.grammar.proofs.Sequences.{then_reads, then_halts}
+use Rattle.grammar.proofs.Ways.{one_is}
+use Rattle.grammar.proofs.Completed.{first_fault}
 use Rattle.endpoint_grammar.specs.Written.{Units}
 use Rattle.endpoint_grammar.specs.Grammar.{word, mark, units, units_of, endpoints}
 use Rattle.endpoint_grammar.specs.Values.{rules, units_from}

@@ -1,10 +1,10 @@
 -- Units by their first words.
 use Rattle.std.proofs.Common.{ℕ, inr, List, refl}
 use Rattle.chor_lexer.specs.Lexeme.{Lexeme}
-use Rattle.endpoint_grammar.specs.Classes.{a_word, the_end}
-use Rattle.endpoint_grammar.specs.Grammars.{one}
-use Rattle.endpoint_grammar.specs.Readers.{HasOne, Leads}
-use Rattle.endpoint_grammar.proofs.Reading.{leads_on, after_reads, token_comes, token_misses, token_reads, comes_then, misses_then, first_of_two, second_of_two, other_stands}
+use Rattle.grammar.specs.Classes.{a_word, the_end}
+use Rattle.grammar.specs.Grammars.{one}
+use Rattle.grammar.specs.Readers.{HasOne, Leads}
+use Rattle.grammar.proofs.Reading.{leads_on, after_reads, token_comes, token_misses, token_reads, comes_then, misses_then, first_of_two, second_of_two, other_stands}
 use Rattle.endpoint_grammar.specs.Grammar.{units_of}
 use Rattle.endpoint_grammar.specs.Values.{rules}
 use Rattle.endpoint_units.specs.declared.word.UnitWord.{UnitWord}

@@ -1,7 +1,7 @@
 -- What was read of a file, as it is written.
 use Rattle.std.specs.Prelude.{◌≡◌, ◌-◌, ℕ, List, ◌++◌, length, map}
 use Rattle.chor_lexer.specs.Lexeme.{Lexeme}
-use Rattle.endpoint_grammar.specs.Readers.{Leads}
+use Rattle.grammar.specs.Readers.{Leads}
 use Rattle.endpoint_grammar.specs.Written.{Units}
 use Rattle.endpoint_grammar.specs.Grammar.{Part, units_of}
 use Rattle.endpoint_grammar.specs.Values.{rules, Derived, units_from}

@@ -3,8 +3,8 @@ use Rattle.std.specs.Prelude.{◌≡◌, List, [], None}
 use Rattle.chor_base.specs.declared.rule.Denied.{Denied}
 use Rattle.chor_base.specs.declared.rule.Denied.TheVariants.{Refused, Memory}
 use Rattle.chor_lexer.specs.Lexeme.{Lexeme}
-use Rattle.endpoint_grammar.specs.Grammars.{nowhere, Derives}
-use Rattle.endpoint_grammar.specs.Faults.{IsFirstFault}
+use Rattle.grammar.specs.Grammars.{nowhere, Derives}
+use Rattle.grammar.specs.Faults.{IsFirstFault}
 use Rattle.endpoint_grammar.specs.Written.{Units}
 use Rattle.endpoint_grammar.specs.Grammar.{endpoints}
 use Rattle.endpoint_grammar.specs.Values.{rules, Derived, written_units}

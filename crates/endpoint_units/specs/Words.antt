@@ -2,8 +2,8 @@
 use Rattle.std.specs.Prelude.{ℕ, List, codes}
 use Rattle.std.proofs.Common.{inl, inr}
 use Rattle.chor_lexer.specs.Lexeme.{Lexeme}
-use Rattle.endpoint_grammar.specs.Classes.{a_word}
-use Rattle.endpoint_grammar.specs.Readers.{Lacks}
+use Rattle.grammar.specs.Classes.{a_word}
+use Rattle.grammar.specs.Readers.{Lacks}
 use Rattle.endpoint_grammar.specs.Written.{Units}
 use Rattle.endpoint_grammar.specs.Grammar.{Part, channel, procedure, service, process, units_of}
 use Rattle.endpoint_grammar.specs.Values.{Derived, units_from}

@@ -1,7 +1,7 @@
 //! Whole endpoint files.
 
 ghost use Rattle.std.specs.Prelude.{◌≡◌, [], IfOk, IfErr, map};
-ghost use Rattle.endpoint_grammar.specs.Readers.{Reads, Halts, Tells};
+ghost use Rattle.grammar.specs.Readers.{Reads, Halts, Tells};
 ghost use Rattle.endpoint_grammar.specs.Grammar.{units_of, endpoints};
 ghost use Rattle.endpoint_grammar.specs.Values.{rules, units_from};
 ghost use Rattle.endpoint_reader.specs.Tokens.{lexeme_of, from};

@@ -1,7 +1,7 @@
 //! Units.
 
 ghost use Rattle.std.specs.Prelude.{◌≤◌, length, IfOk, IfErr, OnOk};
-ghost use Rattle.endpoint_grammar.specs.Readers.{Halts};
+ghost use Rattle.grammar.specs.Readers.{Halts};
 ghost use Rattle.endpoint_grammar.specs.Values.{rules};
 ghost use Rattle.endpoint_reader.specs.Tokens.{from};
 ghost use Rattle.endpoint_units.specs.Words.{rest_of};

@@ -1,8 +1,8 @@
 //! How units begin.
 
 ghost use Rattle.std.specs.Prelude.{IfSome, IfNone};
-ghost use Rattle.endpoint_grammar.specs.Classes.{a_word};
-ghost use Rattle.endpoint_grammar.specs.Readers.{HasOne};
+ghost use Rattle.grammar.specs.Classes.{a_word};
+ghost use Rattle.grammar.specs.Readers.{HasOne};
 ghost use Rattle.endpoint_reader.specs.Tokens.{from};
 ghost use Rattle.endpoint_units.specs.Words.{first_word, LacksUnit};
 

@@ -8,8 +8,8 @@ use Rattle.chor_lexer.specs.Lexeme.{Lexeme, last}
 use Rattle.chor_lexer.specs.Cut.{IsCut, here, blank, token}
 use Rattle.chor_lexer.specs.Tokens.{IsTokens, AreSpelled, AreTokensOf, is_last, is_ended}
 use Rattle.chor_lexer.proofs.Fronts.{lexeme_long}
-use Rattle.endpoint_grammar.specs.Classes.{the_end, is_of}
-use Rattle.endpoint_grammar.specs.Faults.{is_closed}
+use Rattle.grammar.specs.Classes.{the_end, is_of}
+use Rattle.grammar.specs.Faults.{is_closed}
 use Rattle.endpoint_reader.specs.declared.input.Input.{Input}
 use Rattle.endpoint_reader.specs.Tokens.{symbol_of, lexeme_of}
 use Rattle.endpoint_reader.proofs.Spelled.{spelled_there}

@@ -10,7 +10,7 @@ use Rattle.chor_base.specs.declared.expr.Expr.{Expr}
 use Rattle.chor_base.specs.declared.expr.Expr.TheVariants.{Lit, Var, Un', Bin'}
 use Rattle.chor_base.specs.declared.value.Value.TheVariants.{Int, Bool as Truth, Text}
 use Rattle.chor_base.specs.Expr.{Term, Constant, Variable, Unary, Binary, term_of}
-use Rattle.endpoint_grammar.specs.Classes.{is_keyword}
+use Rattle.grammar.specs.Classes.{is_keyword}
 use Rattle.chor_lexer.specs.Lexeme.{Symbol, word, number, text, mark, last, Lexeme}
 use Rattle.endpoint_grammar.specs.Written.{Phrase, Leaf, Unary as OfOne, Binary as OfTwo}
 use Rattle.endpoint_reader.specs.declared.input.Input.{Input}

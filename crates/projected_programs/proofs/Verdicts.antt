@@ -12,8 +12,8 @@ use Rattle.chor_lexer.specs.Lexeme.{Lexeme}
 use Rattle.chor_lexer.specs.Refusal.{Refuses}
 use Rattle.chor_lexer.specs.Tokens.{IsTokens}
 use Rattle.chor_lexer.proofs.Total.{one_or_the_other as tokens_or_refused}
-use Rattle.endpoint_grammar.specs.Faults.{IsDerived, HasFault}
-use Rattle.endpoint_grammar.proofs.Whole.{one_or_the_other}
+use Rattle.grammar.specs.Faults.{IsDerived, HasFault}
+use Rattle.grammar.proofs.Whole.{one_or_the_other}
 use Rattle.endpoint_grammar.specs.Written.{Units}
 use Rattle.endpoint_grammar.specs.Grammar.{endpoints}
 use Rattle.endpoint_grammar.specs.Values.{rules, written_units}

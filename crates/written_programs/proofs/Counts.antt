@@ -2,7 +2,7 @@
 use Rattle.std.proofs.Common.{◌≡◌, ◌<◌, ◌≤◌, ◌+◌, ℕ, zero, suc, List, [], ◌∷◌, length, Some, None, inl, inr, refl, sym, ap, subst, arith}
 use Rattle.chor_base.specs.declared.rule.Rule.{Rule}
 use Rattle.chor_lexer.specs.Lexeme.{Lexeme}
-use Rattle.endpoint_grammar.specs.Grammars.{Grammar, empty, one, seq, alt, many, more, within, short, after, Room, less, Value, Rules, nowhere, HasRoom, AreFew, no_token, a_token, Derives, is_empty, is_one, in_turn, the_first, the_second, none_of_many, one_of_many, no_more, one_more, with_room, in_short, by_rule}
+use Rattle.grammar.specs.Grammars.{Grammar, empty, one, seq, alt, many, more, within, short, after, Room, less, Value, Rules, nowhere, HasRoom, AreFew, no_token, a_token, Derives, is_empty, is_one, in_turn, the_first, the_second, none_of_many, one_of_many, no_more, one_more, with_room, in_short, by_rule}
 
 -- no more than there is room for
 abbrev pub IsAtMost : Room → ℕ → Type 0

@@ -2,7 +2,7 @@
 use Rattle.std.proofs.Common.{◌<◌, ◌≤◌, ◌+◌, ◌-◌, ℕ, List, [], ◌∷◌, length, Some, inl, inr, arith}
 use Rattle.std.specs.List.{AllByRecursion}
 use Rattle.chor_lexer.specs.Lexeme.{Lexeme}
-use Rattle.endpoint_grammar.specs.Grammars.{nowhere, Derives}
+use Rattle.grammar.specs.Grammars.{nowhere, Derives}
 use Rattle.endpoint_grammar.specs.Written.{Phrase, Deed, Sends, Sets, Shows, Asks, Body, Does, Offers, Tests, Calls, Ends, Arms, NoArms, Arm, Roles, Channel, Procedure, Units}
 use Rattle.endpoint_grammar.specs.Grammar.{Nonterminal, units, lines, roles, served, operand, parens, Part, node, tail, arm, expr, sessions, lines_of, roles_of, served_of, units_of, endpoints, rule_of}
 use Rattle.endpoint_grammar.specs.Values.{Meaning, Derived, phrase, deed, session_list, arms_of, last_node, body_of, role_list, role_lists, units_from, make, rules, written_units}

@@ -1,4 +1,4 @@
-use Rattle.endpoint_grammar.proofs.Completed.{never_both}
+use Rattle.grammar.proofs.Completed.{never_both}
 use Rattle.endpoint_grammar.proofs.laws.never_refused.Goals as goal
 
 pub returns : goal.returns

@@ -1,4 +1,4 @@
-use Rattle.endpoint_grammar.proofs.Whole.{one_or_the_other}
+use Rattle.grammar.proofs.Whole.{one_or_the_other}
 use Rattle.endpoint_grammar.specs.Grammar.{endpoints}
 use Rattle.endpoint_grammar.proofs.Clear.{rules_clear, rules_ending, endpoints_ending, endpoints_clear}
 use Rattle.endpoint_grammar.proofs.laws.one_or_the_other.Goals as goal

@@ -1,4 +1,4 @@
-use Rattle.endpoint_grammar.proofs.Unique.{unique}
+use Rattle.grammar.proofs.Unique.{unique}
 use Rattle.endpoint_grammar.proofs.Clear.{rules_clear, endpoints_clear}
 use Rattle.endpoint_grammar.proofs.laws.one_program.Goals as goal
 

@@ -1,7 +1,7 @@
 use Rattle.std.proofs.Common.{refl, arith}
-use Rattle.endpoint_grammar.proofs.Passing.{passes, ok_map, err_map}
-use Rattle.endpoint_grammar.proofs.Progress.{read_shorter, read_no_longer}
-use Rattle.endpoint_grammar.proofs.Sequences.{then_halts, now_halts}
+use Rattle.grammar.proofs.Passing.{passes, ok_map, err_map}
+use Rattle.grammar.proofs.Progress.{read_shorter, read_no_longer}
+use Rattle.grammar.proofs.Sequences.{then_halts, now_halts}
 use Rattle.endpoint_reader.proofs.Bodies.{tail_halts, body_open, body_told, ok_then}
 use Rattle.endpoint_reader.proofs.Tables.{made_by, made_as, grows_by, grows_on, last_there, no_fewer}
 use Rattle.endpoint_reader.proofs.Tails.{stands_as, stands_shorter, branch_told, conditional_told, call_told, branch_halts, conditional_halts, call_halts, memory_tail, end_line}

@@ -1,4 +1,4 @@
-use Rattle.endpoint_grammar.proofs.Passing.{passes}
+use Rattle.grammar.proofs.Passing.{passes}
 use Rattle.endpoint_reader.proofs.Tails.{tail_full, tail_missed}
 use Rattle.endpoint_reader.proofs.body.begin_tail.Goals as goal
 

@@ -1,4 +1,4 @@
-use Rattle.endpoint_grammar.proofs.Passing.{passes}
+use Rattle.grammar.proofs.Passing.{passes}
 use Rattle.endpoint_reader.proofs.body.close_body.Goals as goal
 
 pub returns-in_err-at-clause-halts : goal.returns-in_err-at-clause-halts

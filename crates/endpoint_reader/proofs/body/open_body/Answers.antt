@@ -1,6 +1,6 @@
 use Rattle.std.proofs.Common.{refl, arith}
-use Rattle.endpoint_grammar.proofs.Passing.{passes}
-use Rattle.endpoint_grammar.proofs.Progress.{read_shorter}
+use Rattle.grammar.proofs.Passing.{passes}
+use Rattle.grammar.proofs.Progress.{read_shorter}
 use Rattle.endpoint_reader.proofs.Bodies.{body_closed, lines_halt}
 use Rattle.endpoint_reader.proofs.body.open_body.Goals as goal
 

@@ -1,5 +1,5 @@
-use Rattle.endpoint_grammar.proofs.Passing.{passes}
-use Rattle.endpoint_grammar.proofs.Sequences.{then_halts, now_halts}
+use Rattle.grammar.proofs.Passing.{passes}
+use Rattle.grammar.proofs.Sequences.{then_halts, now_halts}
 use Rattle.endpoint_reader.proofs.body.open_branch.Goals as goal
 
 pub returns-in_err-names-clause-halts : goal.returns-in_err-names-clause-halts

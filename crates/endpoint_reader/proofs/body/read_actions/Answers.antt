@@ -1,6 +1,6 @@
 use Rattle.std.proofs.Common.{refl, arith}
-use Rattle.endpoint_grammar.proofs.Passing.{passes}
-use Rattle.endpoint_grammar.proofs.Progress.{read_shorter}
+use Rattle.grammar.proofs.Passing.{passes}
+use Rattle.grammar.proofs.Progress.{read_shorter}
 use Rattle.endpoint_reader.specs.Tokens.{from}
 use Rattle.endpoint_reader.proofs.Bodies.{going_begins, going_goes, going_halts, going_open, node_there, begins_there, none_there}
 use Rattle.endpoint_reader.proofs.Known.{no_actions, one_more_action, action_there}

@@ -1,4 +1,4 @@
-use Rattle.endpoint_grammar.proofs.Passing.{passes}
+use Rattle.grammar.proofs.Passing.{passes}
 use Rattle.endpoint_reader.proofs.Arms.{call_is}
 use Rattle.endpoint_reader.proofs.Tables.{grows_by, last_there, body_pushed}
 use Rattle.endpoint_reader.proofs.Known.{one_more_line}

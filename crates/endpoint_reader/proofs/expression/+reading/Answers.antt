@@ -1,7 +1,7 @@
 use Rattle.std.proofs.Common.{ℕ, refl, ap, arith, length}
-use Rattle.endpoint_grammar.proofs.Passing.{passes}
-use Rattle.endpoint_grammar.proofs.Reading.{begins}
-use Rattle.endpoint_grammar.proofs.Windows.{first_halts_in, missed_in, full_in}
+use Rattle.grammar.proofs.Passing.{passes}
+use Rattle.grammar.proofs.Reading.{begins}
+use Rattle.grammar.proofs.Windows.{first_halts_in, missed_in, full_in}
 use Rattle.endpoint_reader.specs.Tokens.{from}
 use Rattle.endpoint_reader.proofs.Rooms.{has_some, has_none}
 use Rattle.endpoint_reader.proofs.Ranks.{ranks}

@@ -1,4 +1,4 @@
-use Rattle.endpoint_grammar.proofs.Passing.{passes}
+use Rattle.grammar.proofs.Passing.{passes}
 use Rattle.endpoint_reader.proofs.Levels.{whole_told, whole_halts}
 use Rattle.endpoint_reader.proofs.expression.read_expression.Goals as goal
 

@@ -1,8 +1,8 @@
 use Rattle.std.proofs.Common.{refl, arith}
-use Rattle.endpoint_grammar.proofs.Progress.{token_shorter, read_shorter}
-use Rattle.endpoint_grammar.proofs.Lists.{list_begins, list_goes, list_halts, list_ends}
-use Rattle.endpoint_grammar.proofs.Sequences.{now_halts}
-use Rattle.endpoint_grammar.proofs.Passing.{passes}
+use Rattle.grammar.proofs.Progress.{token_shorter, read_shorter}
+use Rattle.grammar.proofs.Lists.{list_begins, list_goes, list_halts, list_ends}
+use Rattle.grammar.proofs.Sequences.{now_halts}
+use Rattle.grammar.proofs.Passing.{passes}
 use Rattle.endpoint_reader.proofs.NameLists.{splits, first_less, one_less, room_reads, room_halts}
 use Rattle.endpoint_reader.proofs.Known.{none_there, pushed_there}
 use Rattle.endpoint_reader.proofs.lists.read_names.Goals as goal

@@ -1,13 +1,13 @@
 use Rattle.std.proofs.Common.{◌-◌, length, Some}
 use Rattle.chor_base.specs.declared.rule.Rule.TheVariants.{E4}
 use Rattle.chor_lexer.specs.declared.mark.Mark.TheVariants.{Comma}
-use Rattle.endpoint_grammar.specs.Classes.{a_mark}
-use Rattle.endpoint_grammar.specs.Readers.{split_of}
+use Rattle.grammar.specs.Classes.{a_mark}
+use Rattle.grammar.specs.Readers.{split_of}
 use Rattle.endpoint_reader.specs.Known.{AreThere}
 use Rattle.endpoint_reader.specs.Tokens.{from, named}
 use Rattle.endpoint_grammar.specs.Grammar.{NAME}
 use Rattle.endpoint_grammar.specs.Values.{rules}
-use Rattle.endpoint_grammar.proofs.Lists.{Listing}
+use Rattle.grammar.proofs.Lists.{Listing}
 use Rattle.endpoint_reader.proofs.lists.read_names.Given as goal
 
 abbrev pub invariant-loop-after : goal.invariant-loop-after

@@ -1,5 +1,5 @@
-use Rattle.endpoint_grammar.proofs.Sequences.{then_reads, then_halts, now_halts}
-use Rattle.endpoint_grammar.proofs.Passing.{passes}
+use Rattle.grammar.proofs.Sequences.{then_reads, then_halts, now_halts}
+use Rattle.grammar.proofs.Passing.{passes}
 use Rattle.endpoint_reader.proofs.lists.read_role_of_channel.Goals as goal
 
 pub returns-in_err-first-clause-halts : goal.returns-in_err-first-clause-halts

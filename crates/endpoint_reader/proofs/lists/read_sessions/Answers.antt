@@ -1,4 +1,4 @@
-use Rattle.endpoint_grammar.proofs.Passing.{passes}
+use Rattle.grammar.proofs.Passing.{passes}
 use Rattle.endpoint_reader.proofs.NameLists.{some_sessions, sessions_halt, no_sessions}
 use Rattle.endpoint_reader.proofs.Known.{none_there}
 use Rattle.endpoint_reader.proofs.lists.read_sessions.Goals as goal

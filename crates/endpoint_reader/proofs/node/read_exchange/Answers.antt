@@ -1,4 +1,4 @@
-use Rattle.endpoint_grammar.proofs.Passing.{passes}
+use Rattle.grammar.proofs.Passing.{passes}
 use Rattle.endpoint_reader.proofs.Nodes.{exchange_told}
 use Rattle.endpoint_reader.proofs.node.read_exchange.Goals as goal
 

@@ -1,5 +1,5 @@
-use Rattle.endpoint_grammar.proofs.Sequences.{then_reads, then_halts, now_halts}
-use Rattle.endpoint_grammar.proofs.Passing.{passes}
+use Rattle.grammar.proofs.Sequences.{then_reads, then_halts, now_halts}
+use Rattle.grammar.proofs.Passing.{passes}
 use Rattle.std.proofs.Common.{refl}
 use Rattle.endpoint_reader.proofs.node.read_join.Goals as goal
 

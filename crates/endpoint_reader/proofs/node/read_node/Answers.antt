@@ -1,4 +1,4 @@
-use Rattle.endpoint_grammar.proofs.Passing.{passes}
+use Rattle.grammar.proofs.Passing.{passes}
 use Rattle.endpoint_reader.proofs.Nodes.{node_begins, node_told, node_halts, node_full, on_err_always}
 use Rattle.endpoint_reader.proofs.node.read_node.Goals as goal
 

@@ -1,5 +1,5 @@
-use Rattle.endpoint_grammar.proofs.Sequences.{then_halts, now_halts}
-use Rattle.endpoint_grammar.proofs.Passing.{passes}
+use Rattle.grammar.proofs.Sequences.{then_halts, now_halts}
+use Rattle.grammar.proofs.Passing.{passes}
 use Rattle.endpoint_reader.proofs.Nodes.{sets_told}
 use Rattle.endpoint_reader.proofs.node.read_set.Goals as goal
 

@@ -1,4 +1,4 @@
-use Rattle.endpoint_grammar.proofs.Passing.{passes}
+use Rattle.grammar.proofs.Passing.{passes}
 use Rattle.std.proofs.Common.{ap}
 use Rattle.endpoint_grammar.specs.Written.{Shows}
 use Rattle.endpoint_reader.proofs.node.read_show.Goals as goal

@@ -1,6 +1,6 @@
 use Rattle.std.proofs.Common.{refl, arith}
-use Rattle.endpoint_grammar.proofs.Passing.{passes}
-use Rattle.endpoint_grammar.proofs.Progress.{token_shorter, read_shorter}
+use Rattle.grammar.proofs.Passing.{passes}
+use Rattle.grammar.proofs.Progress.{token_shorter, read_shorter}
 use Rattle.endpoint_reader.proofs.RoleLists.{served_begins, served_goes, served_ends, served_close, served_halts}
 use Rattle.endpoint_reader.proofs.Known.{none_there, pushed_there}
 use Rattle.endpoint_reader.proofs.roles.read_served.Goals as goal

@@ -1,4 +1,4 @@
-use Rattle.endpoint_grammar.proofs.Passing.{passes}
+use Rattle.grammar.proofs.Passing.{passes}
 use Rattle.endpoint_reader.proofs.RoleLists.{some_served, some_served_halts, none_served, none_served_halts}
 use Rattle.endpoint_reader.proofs.Known.{none_there}
 use Rattle.endpoint_reader.proofs.roles.read_serving.Goals as goal

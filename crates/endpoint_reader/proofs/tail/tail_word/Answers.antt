@@ -1,5 +1,5 @@
 use Rattle.std.proofs.Common.{ℕ, refl}
-use Rattle.endpoint_grammar.specs.Readers.{Misses}
+use Rattle.grammar.specs.Readers.{Misses}
 use Rattle.endpoint_grammar.specs.Grammar.{tail}
 use Rattle.endpoint_grammar.specs.Values.{rules}
 use Rattle.endpoint_reader.specs.Tokens.{from}

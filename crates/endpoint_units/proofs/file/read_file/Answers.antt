@@ -1,6 +1,6 @@
-use Rattle.endpoint_grammar.proofs.Passing.{passes, ok_map, err_map}
-use Rattle.endpoint_grammar.proofs.Sequences.{then_halts, now_halts}
-use Rattle.endpoint_grammar.proofs.Ways.{not_entered}
+use Rattle.grammar.proofs.Passing.{passes, ok_map, err_map}
+use Rattle.grammar.proofs.Sequences.{then_halts, now_halts}
+use Rattle.grammar.proofs.Ways.{not_entered}
 use Rattle.endpoint_grammar.specs.Grammar.{units}
 use Rattle.endpoint_units.proofs.Wholes.{file_told, file_halts}
 use Rattle.endpoint_units.proofs.file.read_file.Goals as goal

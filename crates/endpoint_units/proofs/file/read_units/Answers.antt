@@ -1,6 +1,6 @@
 use Rattle.std.proofs.Common.{arith}
-use Rattle.endpoint_grammar.proofs.Passing.{passes}
-use Rattle.endpoint_grammar.proofs.Progress.{token_shorter}
+use Rattle.grammar.proofs.Passing.{passes}
+use Rattle.grammar.proofs.Progress.{token_shorter}
 use Rattle.endpoint_units.proofs.Units.{units_begin, units_go, unit_halts, units_end, end_halts}
 use Rattle.endpoint_units.proofs.Insides.{none_inside}
 use Rattle.endpoint_units.proofs.Known.{parts_there}

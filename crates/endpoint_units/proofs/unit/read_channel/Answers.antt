@@ -1,9 +1,9 @@
 use Rattle.std.proofs.Common.{arith}
-use Rattle.endpoint_grammar.proofs.Passing.{passes}
-use Rattle.endpoint_grammar.proofs.Progress.{read_no_longer}
-use Rattle.endpoint_grammar.proofs.Reading.{past, reads_past, into_rule}
-use Rattle.endpoint_grammar.proofs.Sequences.{then_halts, now_halts}
-use Rattle.endpoint_grammar.proofs.Ways.{one_is, not_entered}
+use Rattle.grammar.proofs.Passing.{passes}
+use Rattle.grammar.proofs.Progress.{read_no_longer}
+use Rattle.grammar.proofs.Reading.{past, reads_past, into_rule}
+use Rattle.grammar.proofs.Sequences.{then_halts, now_halts}
+use Rattle.grammar.proofs.Ways.{one_is, not_entered}
 use Rattle.endpoint_grammar.specs.Grammar.{roles, units}
 use Rattle.endpoint_units.proofs.Units.{channel_goes}
 use Rattle.endpoint_units.proofs.Known.{channel_there}

@@ -1,7 +1,7 @@
 use Rattle.std.proofs.Common.{arith}
-use Rattle.endpoint_grammar.proofs.Passing.{passes}
-use Rattle.endpoint_grammar.proofs.Progress.{read_no_longer}
-use Rattle.endpoint_grammar.proofs.Sequences.{then_halts, now_halts}
+use Rattle.grammar.proofs.Passing.{passes}
+use Rattle.grammar.proofs.Progress.{read_no_longer}
+use Rattle.grammar.proofs.Sequences.{then_halts, now_halts}
 use Rattle.endpoint_grammar.specs.Grammar.{units}
 use Rattle.endpoint_units.proofs.Entering.{through_halts}
 use Rattle.endpoint_units.proofs.Units.{service_goes}

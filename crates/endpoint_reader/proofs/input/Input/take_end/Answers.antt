@@ -1,4 +1,4 @@
-use Rattle.endpoint_grammar.proofs.Reading.{token_reads, token_halts}
+use Rattle.grammar.proofs.Reading.{token_reads, token_halts}
 use Rattle.endpoint_reader.proofs.Ends.{end_stands, not_the_end}
 use Rattle.endpoint_reader.proofs.input.Input.take_end.Goals as goal
 

@@ -1,4 +1,4 @@
-use Rattle.endpoint_grammar.proofs.Reading.{token_reads, token_comes, token_misses, reads_past, has_room, full_halts, missed, misses_within}
+use Rattle.grammar.proofs.Reading.{token_reads, token_comes, token_misses, reads_past, has_room, full_halts, missed, misses_within}
 use Rattle.endpoint_reader.proofs.Rooms.{open_room, full_room}
 use Rattle.endpoint_reader.proofs.input.Input.take_item.Goals as goal
 

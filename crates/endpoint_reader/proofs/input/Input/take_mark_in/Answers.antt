@@ -1,5 +1,5 @@
-use Rattle.endpoint_grammar.proofs.Reading.{token_comes, token_misses}
-use Rattle.endpoint_grammar.proofs.Windows.{token_in, full_in, missed_in}
+use Rattle.grammar.proofs.Reading.{token_comes, token_misses}
+use Rattle.grammar.proofs.Windows.{token_in, full_in, missed_in}
 use Rattle.endpoint_reader.proofs.Rooms.{no_room}
 use Rattle.endpoint_reader.proofs.input.Input.take_mark_in.Goals as goal
 

@@ -1,4 +1,4 @@
-use Rattle.endpoint_grammar.proofs.Reading.{token_reads, token_halts}
+use Rattle.grammar.proofs.Reading.{token_reads, token_halts}
 use Rattle.endpoint_reader.proofs.input.Input.take_word.Goals as goal
 
 pub returns-in-Some-clause-reads : goal.returns-in-Some-clause-reads

@@ -1,0 +1,17 @@
+pub mod Apart
+pub mod Nexts
+pub mod Steps
+pub mod Completed
+pub mod Unique
+pub mod Reading
+pub mod Lists
+pub mod Sequences
+pub mod Passing
+pub mod Progress
+pub mod Ways
+pub mod Whole
+pub mod OneFault
+pub mod Windows
+pub mod Rules
+pub mod Singles
+pub mod Makes
