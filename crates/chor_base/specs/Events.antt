@@ -9,6 +9,7 @@ use Rattle.chor_base.specs.declared.event.Event.TheVariants.{Start, Send, Recv, 
 abbrev pub Triple : Type 0
 Triple = ℕ × NameId × NameId
 
+-- two triples are the same
 abbrev pub triple_eq : Triple → Triple → Bool
 triple_eq s t = (s.0 == t.0) && ((s.1.0 == t.1.0) && (s.2.0 == t.2.0))
 
@@ -22,13 +23,16 @@ actors_of (Set p x v) = p ∷ []
 actors_of (Show p v) = p ∷ []
 actors_of (Host p x f a b v) = p ∷ []
 
+-- the load, where the triples are the same
 abbrev pub load_on : Triple → Triple → Load → List Load
 load_on t u l = if triple_eq t u then l ∷ [] else []
 
+-- the load that an event sends on a triple, if it does
 abbrev pub sent_by : Triple → Event → List Load
 sent_by t (Send p s a b l) = load_on t (s, a, b) l
 sent_by t _ = []
 
+-- the load that an event receives on a triple, if it does
 abbrev pub received_by : Triple → Event → List Load
 received_by t (Recv p s a b l) = load_on t (s, a, b) l
 received_by t _ = []

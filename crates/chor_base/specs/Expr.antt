@@ -20,6 +20,7 @@ pub data Term : Type 0 where
   Unary : (op : UnOp) (operand : Term) → Term
   Binary : (op : BinOp) (left right : Term) → Term
 
+-- the expression that the program's value stands for
 abbrev pub term_of : Expr → Term
 term_of (Lit v) = Constant v
 term_of (Var x) = Variable x
@@ -44,12 +45,14 @@ truth_of (Truth b) = b
 truth_of (Text t) = false
 truth_of (Part s r) = false
 
+-- two whole numbers are equal
 abbrev pub int_same : ℤ → ℤ → Bool
 int_same (pos a) (pos b) = a == b
 int_same (negsuc a) (negsuc b) = a == b
 int_same (pos a) (negsuc b) = false
 int_same (negsuc a) (pos b) = false
 
+-- two truth values are equal
 abbrev pub bool_same : Bool → Bool → Bool
 bool_same true b = b
 bool_same false b = not b
@@ -66,10 +69,12 @@ is_same _ _ = false
 abbrev pub divided : ℤ → ℤ → ℤ
 divided y z = if int_same z (pos 0) then pos 0 else held (int_div y z)
 
+-- the value of an operator with one operand
 abbrev pub unary : UnOp → Value → Value
 unary Neg v = Int (held (pos 0 -ℤ number_of v))
 unary Not v = Truth (not (truth_of v))
 
+-- the value of an operator with two operands
 abbrev pub binary : BinOp → Value → Value → Value
 binary Add v w = Int (held (number_of v +ℤ number_of w))
 binary Sub v w = Int (held (number_of v -ℤ number_of w))

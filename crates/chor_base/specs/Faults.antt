@@ -7,6 +7,7 @@ use Rattle.chor_base.specs.declared.rule.Denied.TheVariants.{Refused, Memory}
 use Rattle.chor_base.specs.declared.fault.Fault.{Fault}
 use Rattle.chor_base.specs.Writing.{rule_name}
 
+-- the fault of this rule at this place
 abbrev pub fault : Rule → Place → Fault
 fault r p = record { rule = r; place = p }
 

@@ -12,6 +12,7 @@ name_in names x = slice_index_or names x.0 []
 abbrev pub escaped_byte : ℕ → List ℕ
 escaped_byte b = if b == 34 then 92 ∷ 34 ∷ [] else (if b == 92 then 92 ∷ 92 ∷ [] else (if b == 10 then 92 ∷ 110 ∷ [] else b ∷ []))
 
+-- a text with its escapes
 abbrev pub escaped : List ℕ → List ℕ
 escaped [] = []
 escaped (b ∷ bs) = escaped_byte b ++ escaped bs
@@ -25,10 +26,12 @@ literal (Some bytes) = (34 ∷ escaped bytes) ++ 34 ∷ []
 abbrev pub literal_in : List (List ℕ) → ℕ → List ℕ
 literal_in texts t = literal (slice_get texts t)
 
+-- `true` or `false`
 abbrev pub truth_text : Bool → List ℕ
 truth_text true = codes "true"
 truth_text false = codes "false"
 
+-- a rule as a refusal names it
 abbrev pub rule_name : Rule → List ℕ
 rule_name L1 = codes "L1"
 rule_name L2 = codes "L2"

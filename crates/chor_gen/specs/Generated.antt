@@ -18,9 +18,11 @@ use Rattle.chor_tree.specs.Protocols.{Protocol}
 use Rattle.chor_tree.specs.Source.{Statement, Starts, Sends, Selects, Block, Then, Either, Calls, Ends, Procedure, Source}
 use Rattle.chor_gen.specs.Words.{beginning, procedure_word}
 
+-- a whole number
 abbrev pub literal : ℕ → Term
 literal n = Constant (Int (pos n))
 
+-- the number is odd
 abbrev pub is_odd : ℕ → Bool
 is_odd i = i % 2 == 1
 
@@ -32,9 +34,11 @@ module _ (at : List ℕ → Named) where
   abbrev pub passes : (state from to next : List ℕ) → State
   passes s a b next = record { name = at s; step = Value (at a) (at b) (Plain Number) (at next) }
 
+  -- a state after which nothing follows
   abbrev pub stops : List ℕ → State
   stops s = record { name = at s; step = End }
 
+  -- the protocol of odd rounds
   abbrev pub round : Protocol
   round = record {
     name = at (codes "Round");
@@ -46,6 +50,7 @@ module _ (at : List ℕ → Named) where
         ∷ stops (codes "v") ∷ [];
   }
 
+  -- the protocol of even rounds
   abbrev pub fork : Protocol
   fork = record {
     name = at (codes "Fork");
@@ -60,6 +65,7 @@ module _ (at : List ℕ → Named) where
         ∷ stops (codes "t") ∷ [];
   }
 
+  -- the channel of odd rounds
   abbrev pub round_service : Service
   round_service = record {
     name = at (codes "a");
@@ -68,6 +74,7 @@ module _ (at : List ℕ → Named) where
     serve = at (codes "C") ∷ [];
   }
 
+  -- the channel of even rounds
   abbrev pub fork_service : Service
   fork_service = record {
     name = at (codes "b");
@@ -82,9 +89,11 @@ module _ (at : List ℕ → Named) where
   abbrev pub part : List ℕ → List ℕ → Part
   part p r = record { process = at p; role = at r }
 
+  -- the processes p and q
   abbrev pub p_and_q : List Named
   p_and_q = at (codes "p") ∷ at (codes "q") ∷ []
 
+  -- a variable of this name
   abbrev pub variable : List ℕ → Term
   variable x = Variable (at x).name
 
@@ -92,9 +101,11 @@ module _ (at : List ℕ → Named) where
   abbrev pub starts : List ℕ → List Part → Statement
   starts channel serve = Starts (at channel) (at (codes "k")) (part (codes "p") (codes "A") ∷ part (codes "q") (codes "B") ∷ []) serve
 
+  -- the start of an odd round's session, with a new process r
   abbrev pub start_round : Statement
   start_round = starts (codes "a") (part (codes "r") (codes "C") ∷ [])
 
+  -- the start of an even round's session
   abbrev pub start_fork : Statement
   start_fork = starts (codes "b") []
 
@@ -106,6 +117,7 @@ module _ (at : List ℕ → Named) where
   abbrev pub p_sends : ℕ → Statement
   p_sends i = sends (part (codes "p") (codes "A")) (literal i) (part (codes "q") (codes "B")) (codes "x")
 
+  -- x + 1
   abbrev pub one_more : Term
   one_more = Binary Add (variable (codes "x")) (literal 1)
 
@@ -152,6 +164,7 @@ module _ (at : List ℕ → Named) where
       Then beginning start_fork
       (Either beginning (at (codes "p")) (is_less i) (told (codes "more") count i) (told (codes "less") count i))
 
+  -- the body of round i
   abbrev pub body_of_round : (count i : ℕ) → Block
   body_of_round count i = if is_odd i then odd_round count i else even_round count i
 

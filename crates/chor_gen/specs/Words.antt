@@ -13,6 +13,7 @@ declared_words =
     codes "Round" ∷ codes "A" ∷ codes "B" ∷ codes "C" ∷ codes "s" ∷ codes "t" ∷ codes "u" ∷ codes "v"
     ∷ codes "Fork" ∷ codes "more" ∷ codes "less" ∷ codes "a" ∷ codes "b" ∷ []
 
+-- the names of processes, sessions and variables in a generated file
 abbrev pub used_words : List (List ℕ)
 used_words = codes "p" ∷ codes "q" ∷ codes "k" ∷ codes "r" ∷ codes "x" ∷ codes "y" ∷ codes "z" ∷ []
 
@@ -44,5 +45,6 @@ number_in names w = record { 0 = unwrap_or (found_at names w) 0 }
 abbrev pub beginning : Place
 beginning = record { line = 1; col = 1 }
 
+-- a name by its number in a table, at the beginning of a text
 abbrev pub named_in : List (List ℕ) → List ℕ → Named
 named_in names w = record { name = number_in names w; place = beginning }

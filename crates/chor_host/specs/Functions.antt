@@ -11,6 +11,7 @@ use Rattle.chor_host.specs.Answers.{IsSized}
 abbrev pub Function : Type 0
 Function = List ℕ × Meaning
 
+-- the names of host functions
 abbrev pub names_of : List Function → List (List ℕ)
 names_of fs = map (λ f. f.0) fs
 
@@ -23,6 +24,7 @@ abbrev pub meaning_of : List Function → List ℕ → Option Meaning
 meaning_of [] w = None
 meaning_of (f ∷ fs) w = if bytes_eq w f.0 then Some f.1 else meaning_of fs w
 
+-- the name of a host function, and what it may answer
 abbrev pub function_of : {X : Type 0} {g : Mut X (ℤ × (ℤ × Unit {0})) ℤ} → HostFn X g → Function
 function_of f = (f.name, f.meaning)
 

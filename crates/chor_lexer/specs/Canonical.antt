@@ -16,10 +16,12 @@ use Rattle.chor_lexer.specs.Mark.{spelling}
 
 -- ---- operators
 
+-- the mark of an operator with one operand
 abbrev pub unary_mark : UnOp → Mark
 unary_mark unop.Neg = mark.Minus
 unary_mark unop.Not = mark.Not
 
+-- the mark of an operator with two operands
 abbrev pub binary_mark : BinOp → Mark
 binary_mark binop.Add = mark.Plus
 binary_mark binop.Sub = mark.Minus
@@ -63,6 +65,7 @@ right_needs op = suc (strength op)
 
 -- ---- text
 
+-- a text in parentheses where they are needed
 abbrev pub enclosed : Bool → List ℕ → List ℕ
 enclosed true text = (codes "(" ++ text) ++ codes ")"
 enclosed false text = text

@@ -31,6 +31,7 @@ mutual
     a_conjunction : {ts mid rest : List Token} {a x : Term}
         → CmpIs names ts a mid → AndGoes names a mid x rest → AndIs names ts x rest
 
+  -- what follows the first operand of `&&`: nothing more, or the operator, an operand and what follows
   pub data AndGoes (names : List (List ℕ)) : Term → List Token → Term → List Token → Type 0 where
     and_done : {ts : List Token} {a : Term} → AndGoes names a ts a ts
     and_more : {t : Token} {ts mid rest : List Token} {a b x : Term} {op : BinOp}
@@ -42,6 +43,7 @@ mutual
     a_comparison : {ts mid rest : List Token} {a x : Term}
         → SumIs names ts a mid → CmpGoes names a mid x rest → CmpIs names ts x rest
 
+  -- what follows the first operand of a comparison: nothing more, or one operator and one operand
   pub data CmpGoes (names : List (List ℕ)) : Term → List Token → Term → List Token → Type 0 where
     cmp_done : {ts : List Token} {a : Term} → CmpGoes names a ts a ts
     cmp_once : {t : Token} {ts rest : List Token} {a b : Term} {op : BinOp}
@@ -53,6 +55,7 @@ mutual
     a_sum : {ts mid rest : List Token} {a x : Term}
         → ProdIs names ts a mid → SumGoes names a mid x rest → SumIs names ts x rest
 
+  -- what follows the first operand of a sum
   pub data SumGoes (names : List (List ℕ)) : Term → List Token → Term → List Token → Type 0 where
     sum_done : {ts : List Token} {a : Term} → SumGoes names a ts a ts
     sum_more : {t : Token} {ts mid rest : List Token} {a b x : Term} {op : BinOp}
@@ -64,6 +67,7 @@ mutual
     a_product : {ts mid rest : List Token} {a x : Term}
         → UnIs names ts a mid → ProdGoes names a mid x rest → ProdIs names ts x rest
 
+  -- what follows the first operand of a product
   pub data ProdGoes (names : List (List ℕ)) : Term → List Token → Term → List Token → Type 0 where
     prod_done : {ts : List Token} {a : Term} → ProdGoes names a ts a ts
     prod_more : {t : Token} {ts mid rest : List Token} {a b x : Term} {op : BinOp}

@@ -39,6 +39,7 @@ lines_of_form f bs (If p e first second) =
 lines_of_form f bs (Call g ps ks) = call_text f g ps ks ∷ []
 lines_of_form f bs End = codes "end" ∷ []
 
+-- the lines of the block that begins at a node, where these are those of the nodes before it
 abbrev pub node_lines : File → List (List (List ℕ)) → Node → List (List ℕ)
 node_lines f bs n = lines_of_form f bs n.form
 

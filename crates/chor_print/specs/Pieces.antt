@@ -12,6 +12,7 @@ use Rattle.chor_tree.specs.declared.protocol.Payload.TheVariants as payload
 use Rattle.chor_tree.specs.declared.protocol.ProtoArm.{ProtoArm}
 use Rattle.chor_tree.specs.declared.tree.Part.{Part}
 
+-- the bytes of a name
 abbrev pub named_text : List (List ℕ) → Named → List ℕ
 named_text names n = name_in names n.name
 
@@ -28,6 +29,7 @@ listed_after word text (x ∷ xs) = word ++ listed text (x ∷ xs)
 abbrev pub part_text : List (List ℕ) → Part → List ℕ
 part_text names p = named_text names p.process ++ codes "[" ++ named_text names p.role ++ codes "]"
 
+-- the word of a sort
 abbrev pub sort_text : Sort → List ℕ
 sort_text sort.Int = codes "int"
 sort_text sort.Bool = codes "bool"

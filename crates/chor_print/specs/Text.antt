@@ -24,6 +24,7 @@ abbrev pub version_lines : (is_second : Bool) → Option ℕ → List (List ℕ)
 version_lines true c = codes "chor 2;" ∷ capacity_lines c
 version_lines false c = []
 
+-- the lines of a header: none for version 1
 abbrev pub header_lines : Header → List (List ℕ)
 header_lines h = version_lines (h.version == 2) h.capacity
 
@@ -35,6 +36,7 @@ step_text names (step.Value from to payload next) =
 step_text names (step.Choice from to arms) =
     named_text names from ++ codes " -> " ++ named_text names to ++ codes " {" ++ listed (arm_text names) arms ++ codes "}"
 
+-- the line of a state
 abbrev pub state_line : List (List ℕ) → State → List ℕ
 state_line names s = named_text names s.name ++ codes " = " ++ step_text names s.step ++ codes ";"
 

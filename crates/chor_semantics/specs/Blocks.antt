@@ -4,6 +4,7 @@ use Rattle.chor_tree.specs.Source.{Statement, Starts as StartsAt, Sends, Selects
 use Rattle.chor_semantics.specs.Choreography.{OfValue, OfLabel, OfPart, Sets, Shows, Asks, Node, Starts, Communicates, Alone, Choreography, Then, Either, Calls, Ends}
 use Rattle.chor_semantics.specs.Sources.{name_ref, parts_of, served_of}
 
+-- the node that a statement of a source is
 abbrev pub node_of : Statement → Node
 node_of (StartsAt c k active serve) = Starts c.name 0 k.name.0 (parts_of active) (served_of serve)
 node_of (Sends from e to x k) = Communicates (name_ref k) (name_ref from.process) from.role.name (name_ref to.process) to.role.name (OfValue e x)
@@ -13,6 +14,7 @@ node_of (SetsTo p x e) = Alone (name_ref p) (Sets x e)
 node_of (AsksFor p x f a b) = Alone (name_ref p) (Asks x f.name a b)
 node_of (ShowsAt p e) = Alone (name_ref p) (Shows e)
 
+-- the choreography that a block of a source is
 abbrev pub choreography_of : Block → Choreography
 choreography_of (After place s next) = Then (node_of s) (choreography_of next)
 choreography_of (Tests place p e first second) = Either (name_ref p) e (choreography_of first) (choreography_of second)

@@ -52,6 +52,7 @@ ref_eq (Named x d) (Named y c) = (x == y) && (d == c)
 ref_eq (Live m) (Named y c) = false
 ref_eq (Named x d) (Live n) = false
 
+-- the process or session is among these
 abbrev pub among : Ref → List Ref → Bool
 among r [] = false
 among r (s ∷ ss) = ref_eq r s || among r ss
@@ -71,14 +72,17 @@ named_in (Alone p o) = p ∷ []
 
 -- ---- numbers in place of names
 
+-- parts with other processes
 abbrev pub put_part : (Ref → Ref) → List (Ref × NameId) → List (Ref × NameId)
 put_part f ps = map (λ p. (f p.0, p.1)) ps
 
+-- a message with another session in place of the one that it hands over
 abbrev pub put_content : (Ref → Ref) → Content → Content
 put_content g (OfValue e x) = OfValue e x
 put_content g (OfLabel l) = OfLabel l
 put_content g (OfPart s r) = OfPart (g s) r
 
+-- a node with other processes and sessions in place of its names
 abbrev pub put_node : (Ref → Ref) → (Ref → Ref) → Node → Node
 put_node f g (Starts c d k active serve) = Starts c d k (put_part f active) serve
 put_node f g (Communicates s p a q b w) = Communicates (g s) (f p) a (f q) b (put_content g w)
@@ -104,13 +108,16 @@ numbers_for d (s ∷ ss) n r = numbers_for d ss (suc n) (number_for s.0 d n r)
 
 -- ---- a source's body at a depth, with arguments for its free names
 
+-- a name is bound to this
 abbrev pub bound : ℕ → Ref → (ℕ → Ref) → ℕ → Ref
 bound x r f y = if x == y then r else f y
 
+-- the new processes of a start are bound at this depth
 abbrev pub bound_served : ℕ → List (ℕ × NameId) → (ℕ → Ref) → ℕ → Ref
 bound_served d [] f = f
 bound_served d (s ∷ ss) f = bound_served d ss (bound s.0 (Named s.0 d) f)
 
+-- a name stands for what it is bound to; a live process or session for itself
 abbrev pub named_by : (ℕ → Ref) → Ref → Ref
 named_by f (Live n) = Live n
 named_by f (Named x d) = f x

@@ -23,6 +23,7 @@ pub data IsTerminated (procs : List Procedure) : Choreography → Type 0 where
   quiet : {c : Choreography} → IsQuiet c → IsTerminated procs c
   called : {f : _} {d : ℕ} {ps ss : _} {c : Choreography} → body_of (procedure_named procs f) d ps ss ≡ Some c → IsQuiet c → IsTerminated procs (Calls f d ps ss)
 
+-- no queue ever holds more than the capacity, if there is one
 abbrev pub WithinCapacity : Option ℕ → List Event → Type 0
 WithinCapacity None h = Unit {0}
 WithinCapacity (Some c) h = IsWithin c h

@@ -15,12 +15,15 @@ use Rattle.chor_tree.specs.declared.tree.Form.{Form}
 use Rattle.chor_tree.specs.declared.tree.Form.TheVariants.{Start, Value, Label, Give, Set, Host, Show, If, Call, End}
 use Rattle.chor_semantics.specs.Choreography.{Ref, Live, Named, OfValue, OfLabel, OfPart, Sets, Shows, Asks, Starts, Communicates, Alone, Choreography, Then, Either, Calls, Ends, instance_of}
 
+-- a name of the source, at the depth of main
 abbrev pub name_ref : Written → Ref
 name_ref x = Named x.name.0 0
 
+-- the processes of a start with their roles
 abbrev pub parts_of : List Part → List (Ref × NameId)
 parts_of ps = map (λ p. (name_ref p.process, p.role.name)) ps
 
+-- the names of a start's new processes with their roles
 abbrev pub served_of : List Part → List (ℕ × NameId)
 served_of ps = map (λ p. (p.process.name.0, p.role.name)) ps
 
@@ -44,6 +47,7 @@ form_tree ts (If p e first second) = Either (name_ref p) (term_of e) (tree_in ts
 form_tree ts (Call f ps ss) = Calls f.name 0 (map name_ref ps) (map name_ref ss)
 form_tree ts End = Ends
 
+-- the choreography at a node, where these are those of the nodes before it
 abbrev pub node_tree : List Choreography → TreeNode → Choreography
 node_tree ts n = form_tree ts n.form
 
@@ -60,6 +64,7 @@ pub record Procedure : Type 0 where
   pub sessions : List NameId
   pub body : Choreography
 
+-- a procedure with its body as a choreography
 abbrev pub procedure_from : List TreeNode → Proc → Procedure
 procedure_from nodes p = record {
   name = p.name.name;
@@ -68,6 +73,7 @@ procedure_from nodes p = record {
   body = tree_in (trees_of nodes) p.body;
 }
 
+-- the procedures of a file with their bodies as choreographies
 abbrev pub procedures_of : File → List Procedure
 procedures_of f = map (procedure_from f.tree.nodes) f.procs
 

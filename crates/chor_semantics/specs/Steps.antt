@@ -55,6 +55,7 @@ receipt q (ValueSent v x) = Assigns q x v
 receipt q (LabelSent l) = Keeps
 receipt q (PartSent s r) = Keeps
 
+-- the step by which a message comes in transit, if it has a value
 abbrev pub sent : ℕ → ℕ → NameId → Ref → NameId → Choreography → Option Message → Option Made
 sent s p a q b rest None = None
 sent s p a q b rest (Some m) = Some (Makes (Send p s a b (load_of m)) Keeps (Then (InTransit s a b m q) rest))
@@ -153,6 +154,7 @@ pub data Moves (procs : List Procedure) (hosts : Hosts) (vars : List Variables) 
       → Moves procs hosts vars sid c e f d
       → Moves procs hosts vars sid (Calls h k ps ss) e f d
 
+-- the variables after one was set, if one was
 abbrev pub assigned : List Variables → Effect → List Variables
 assigned vars Keeps = vars
 assigned vars (Assigns p x v) = slice_set vars p (fin.insert (vars_of vars p) x.0 v)
@@ -162,10 +164,12 @@ abbrev pub fresh_vars : List (NameId × ℕ) → ℕ → List Variables
 fresh_vars [] n = []
 fresh_vars (p ∷ ps) n = if p.1 == n then fin.empty ∷ fresh_vars ps (suc n) else fresh_vars ps n
 
+-- the variables of all processes after a step; those of new processes are empty
 abbrev pub vars_after : List Variables → Event → Effect → List Variables
 vars_after vars (Start c s parts) f = vars ++ fresh_vars parts (length vars)
 vars_after vars _ f = assigned vars f
 
+-- the next session's number after an event
 abbrev pub sid_after : ℕ → Event → ℕ
 sid_after s (Start c t parts) = suc s
 sid_after s _ = s

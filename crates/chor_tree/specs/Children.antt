@@ -5,6 +5,7 @@ use Rattle.chor_tree.specs.declared.tree.Node.{Node}
 use Rattle.chor_tree.specs.declared.tree.Form.{Form}
 use Rattle.chor_tree.specs.declared.tree.Form.TheVariants.{Start, Value, Label, Give, Set, Host, Show, If, Call, End}
 
+-- the nodes that follow a node
 abbrev pub children_of : Form → List NodeId
 children_of (Start c k active serve next) = next ∷ []
 children_of (Value from e to x k next) = next ∷ []

@@ -30,9 +30,11 @@ fault_at b rule x = fault_if b rule x.place
 
 -- ---- names
 
+-- names without their places
 abbrev pub names_in : List Named → List NameId
 names_in xs = map (λ x. x.name) xs
 
+-- the name is among these
 abbrev pub is_among : List NameId → NameId → Bool
 is_among xs x = list_any (λ y. y.0 == x.0) xs
 
@@ -63,24 +65,31 @@ abbrev pub first_named : {A : Type 0} → (A → Named) → List A → NameId �
 first_named name [] x = None
 first_named name (a ∷ as') x = if (name a).name.0 == x.0 then Some a else first_named name as' x
 
+-- the names of all protocols
 abbrev pub protocols_of : File → List NameId
 protocols_of f = map (λ p. p.name.name) f.protocols
 
+-- the names of all channels
 abbrev pub channels_of : File → List NameId
 channels_of f = map (λ s. s.name.name) f.services
 
+-- the names of all procedures
 abbrev pub procedures_of : File → List NameId
 procedures_of f = map (λ p. p.name.name) f.procs
 
+-- the first of these protocols that has this name
 abbrev pub protocol_named : List Protocol → NameId → Option Protocol
 protocol_named ps x = first_named (λ p. p.name) ps x
 
+-- the first protocol of a name
 abbrev pub protocol_of : File → NameId → Option Protocol
 protocol_of f x = protocol_named f.protocols x
 
+-- the first channel of a name
 abbrev pub channel_of : File → NameId → Option Service
 channel_of f x = first_named (λ s. s.name) f.services x
 
+-- the first procedure of a name
 abbrev pub procedure_of : File → NameId → Option Proc
 procedure_of f x = first_named (λ p. p.name) f.procs x
 
@@ -91,15 +100,18 @@ unknown_role (Some p) r = unknown (names_in p.roles) r
 
 -- ---- protocols and channels
 
+-- those in a payload: the protocol and the role of an endpoint
 abbrev pub payload_faults : File → Payload → List Fault
 payload_faults f (Plain s) = []
 payload_faults f (Endpoint p s r) = unknown (protocols_of f) p ++ unknown_role (protocol_of f p.name) r
 
+-- those in a step: of its roles, of its payload or its labels
 abbrev pub step_faults : File → Protocol → ProtoStep → List Fault
 step_faults f p Last = []
 step_faults f p (Exchange a b c next) = unknown (names_in p.roles) a ++ unknown (names_in p.roles) b ++ payload_faults f c
 step_faults f p (Choice a b arms) = unknown (names_in p.roles) a ++ unknown (names_in p.roles) b ++ repeated [] (map (λ arm. arm.label) arms)
 
+-- the faults of names in a protocol: in its roles, its states and its steps
 abbrev pub protocol_faults : File → Protocol → List Fault
 protocol_faults f p = repeated [] p.roles ++ repeated [] (map (λ s. s.name) p.states) ++ flat_map (λ s. step_faults f p s.step) p.states
 
@@ -109,6 +121,7 @@ abbrev pub wrong_roles : Option Protocol → Service → List Fault
 wrong_roles None s = []
 wrong_roles (Some p) s = fault_at (not (has_each_once (names_in p.roles) (names_in (s.active ++ s.serve)))) N3 s.name
 
+-- those of a channel: its protocol and its roles
 abbrev pub channel_faults : File → Service → List Fault
 channel_faults f s = unknown (protocols_of f) s.protocol ++ wrong_roles (protocol_of f s.protocol.name) s
 
@@ -125,6 +138,7 @@ session_faults f params k =
     ++ flat_map (λ h. unknown_role (protocol_of f k.protocol.name) h.0 ++ unknown params h.1) k.holders
     ++ repeated [] (map (λ h. h.0) k.holders)
 
+-- those in the head of a procedure: in its parameters, their variables and its session parameters
 abbrev pub procedure_faults : File → Proc → List Fault
 procedure_faults f p =
     repeated [] (map (λ q. q.name) p.params ++ map (λ k. k.name) p.sessions)
@@ -150,6 +164,7 @@ pub record Scope : Type 0 where
 abbrev pub scope_of_main : File → Scope
 scope_of_main f = record { processes = names_in f.processes; sessions = [] }
 
+-- at the beginning of a procedure its parameters are in scope
 abbrev pub scope_of_procedure : Proc → Scope
 scope_of_procedure p = record { processes = map (λ q. q.name.name) p.params; sessions = map (λ k. k.name.name) p.sessions }
 
@@ -159,9 +174,11 @@ scope_after s (Start c k active serve next) =
     record { processes = s.processes ++ map (λ q. q.process.name) serve; sessions = s.sessions ++ k.name ∷ [] }
 scope_after s _ = s
 
+-- N1, at a process that isn't in scope
 abbrev pub unknown_process : Scope → Named → List Fault
 unknown_process s x = unknown s.processes x
 
+-- N1, at a session that isn't in scope
 abbrev pub unknown_session : Scope → Named → List Fault
 unknown_session s x = unknown s.sessions x
 
@@ -180,6 +197,7 @@ wrong_numbers (Some p) g ps ks = fault_at (not ((length ps == length p.params) &
 abbrev pub unknown_function : File → List (List ℕ) → Named → List Fault
 unknown_function f hosts x = fault_at (not (list_any (bytes_eq (name_in f.names x.name)) hosts)) N1 x
 
+-- the faults of names in a message: its two processes and its session
 abbrev pub message_faults : Scope → Part → Part → Named → List Fault
 message_faults s a b k = unknown_process s a.process ++ unknown_process s b.process ++ unknown_session s k
 

@@ -93,6 +93,7 @@ block_of bs p (form.If q e first second) = Either p q (term_of e) (block_in bs f
 block_of bs p (form.Call f ps ss) = Calls p f ps ss
 block_of bs p form.End = Ends p
 
+-- the block that begins at a node, where these are the blocks of the nodes before it
 abbrev pub node_block : List Block → Node → Block
 node_block bs n = block_of bs n.place n.form
 
@@ -100,6 +101,7 @@ node_block bs n = block_of bs n.place n.form
 abbrev pub blocks_of : List Node → List Block
 blocks_of nodes = trees_of node_block nodes
 
+-- the procedure with its body as a block
 abbrev pub procedure_of : List Node → Proc → Procedure
 procedure_of nodes p = record {
   name = p.name;

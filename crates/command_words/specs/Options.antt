@@ -22,6 +22,7 @@ pub record MaySet (command : CommandName) (s : Setting) : Type 0 where
   pub taken : takes command s.name ≡ true
   pub within : IsBetween (least_of s.name) (most_of s.name) s.number
 
+-- two options are the same
 abbrev pub is_same : OptionName → OptionName → Bool
 is_same Seed Seed = true
 is_same Steps Steps = true

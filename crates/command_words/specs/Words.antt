@@ -93,6 +93,7 @@ pub record AreForm (words : List (List ℕ)) (command : Command) (names : List (
   pub files : All IsFileWord names
   pub after : AreAfter command rest
 
+-- the words are those of this command with these file words
 abbrev pub IsForm : Words → Command → List (List ℕ) → Type 0
 IsForm words command names = AreForm words.items command names
 

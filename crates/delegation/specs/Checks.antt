@@ -10,6 +10,7 @@ use Rattle.delegation.specs.declared.fault.OwnFault.TheVariants as fault
 abbrev pub Check : Type 0
 Check = Option Rule
 
+-- a check that fails by this rule where something isn't so
 abbrev pub ask : Bool → Rule → Check
 ask true r = None
 ask false r = Some r

@@ -8,9 +8,11 @@ use Rattle.chor_tree.specs.declared.tree.Part.{Part}
 use Rattle.delegation.specs.declared.held.Held.{Held}
 use Rattle.delegation.specs.Checks.{Check, ask, first_failed, all_differ}
 
+-- this is that role of that session
 abbrev pub is_role : NameId → NameId → Held → Bool
 is_role k r h = (h.session.0 == k.0) && (h.role.0 == r.0)
 
+-- this process holds this role of this session
 abbrev pub held : NameId → NameId → NameId → Held
 held k r p = record { session = k; role = r; process = p }
 
@@ -19,6 +21,7 @@ abbrev pub holder_of : List Held → NameId → NameId → Option NameId
 holder_of [] k r = None
 holder_of (h ∷ hs) k r = if is_role k r h then Some h.process else holder_of hs k r
 
+-- the holder is this process
 abbrev pub is_process : NameId → Option NameId → Bool
 is_process p None = false
 is_process p (Some q) = p.0 == q.0
@@ -47,6 +50,7 @@ start_check parts = ask (all_differ (map (λ q. q.process.name) parts)) T9
 abbrev pub listed : NameId → List (Named × Named) → List Held
 listed k holders = map (λ h. held k h.0.name h.1.name) holders
 
+-- the role with its new holder, or another role as it was
 abbrev pub passed_one : NameId → NameId → NameId → Held → Held
 passed_one k r p h = if is_role k r h then record h { process = p } else h
 

@@ -17,6 +17,7 @@ use Rattle.endpoint_code.specs.Trees.{code_at}
 
 -- ---- names
 
+-- the name is among these
 abbrev pub is_among : NameId → List NameId → Bool
 is_among x [] = false
 is_among x (y ∷ ys) = (x.0 == y.0) || is_among x ys
@@ -26,6 +27,7 @@ pub data AreDistinct : List NameId → Type 0 where
   no_name : AreDistinct []
   one_more : {x : NameId} {xs : List NameId} → is_among x xs ≡ false → AreDistinct xs → AreDistinct (x ∷ xs)
 
+-- these names but for one
 abbrev pub without : NameId → List NameId → List NameId
 without x [] = []
 without x (y ∷ ys) = if x.0 == y.0 then without x ys else y ∷ without x ys

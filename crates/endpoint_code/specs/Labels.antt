@@ -4,6 +4,7 @@ use Rattle.chor_base.specs.declared.names.NameId.{NameId}
 use Rattle.chor_base.specs.Expr.{Term}
 use Rattle.endpoint_code.specs.Trees.{Action, CodeTree, Does, Offers, Tests, Calls, Ends, Arms, NoArms, Arm}
 
+-- some arm has this label
 abbrev pub has_label : NameId → Arms → Bool
 has_label l NoArms = false
 has_label l (Arm k c rest) = (l.0 == k.0) || has_label l rest
@@ -17,6 +18,7 @@ abbrev mutual
   HasDistinctLabels (Calls f p ss) = Unit {0}
   HasDistinctLabels Ends = Unit {0}
 
+  -- no two arms have one label, and no branch of their codes has one twice
   pub AreDistinctArms : Arms → Type 0
   AreDistinctArms NoArms = Unit {0}
   AreDistinctArms (Arm l c rest) = (has_label l rest ≡ false) × HasDistinctLabels c × AreDistinctArms rest

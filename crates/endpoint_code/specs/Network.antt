@@ -40,10 +40,12 @@ pub record NetworkState : Type 0 where
   pub queues : List (Triple × List Load)
   pub sid : ℕ
 
+-- the loads of the first queue of a triple, or none
 abbrev pub loads_for : List (Triple × List Load) → Triple → List Load
 loads_for [] t = []
 loads_for (q ∷ qs) t = if triple_eq q.0 t then q.1 else loads_for qs t
 
+-- queues in which that of a triple has these loads
 abbrev pub with_loads : List (Triple × List Load) → Triple → List Load → List (Triple × List Load)
 with_loads [] t ls = (t, ls) ∷ []
 with_loads (q ∷ qs) t ls = if triple_eq q.0 t then (t, ls) ∷ qs else q ∷ with_loads qs t ls
@@ -52,9 +54,11 @@ with_loads (q ∷ qs) t ls = if triple_eq q.0 t then (t, ls) ∷ qs else q ∷ w
 abbrev pub queue_of : NetworkState → Triple → List Load
 queue_of n t = loads_for n.queues t
 
+-- a process at this node, without variables and sessions
 abbrev pub standing : CodeId → Machine
 standing at = record { at = at; vars = fin.empty; sessions = fin.empty }
 
+-- each process at its body
 abbrev pub standing_all : List Process → List Machine
 standing_all [] = []
 standing_all (p ∷ ps) = standing p.body ∷ standing_all ps
@@ -70,10 +74,12 @@ pub record Place : Type 0 where
   pub node : CodeNode
   pub sessions : Sessions
 
+-- the first procedure of this name for this parameter
 abbrev pub procedure_of : List Procedure → NameId → NameId → Option Procedure
 procedure_of [] f p = None
 procedure_of (q ∷ qs) f p = if (q.name.0 == f.0) && (q.param.0 == p.0) then Some q else procedure_of qs f p
 
+-- one passed session under the name that the procedure has for it
 abbrev pub passed_one : Option (ℕ × NameId) → NameId → Sessions → Sessions
 passed_one None k rest = rest
 passed_one (Some b) k rest = fin.insert rest k.0 b
@@ -84,13 +90,16 @@ passed [] ss m = fin.empty
 passed (k ∷ ks) [] m = fin.empty
 passed (k ∷ ks) (s ∷ ss) m = passed_one (fin.get m s.0) k (passed ks ss m)
 
+-- the node of a number
 abbrev pub node_at : Endpoints → CodeId → Option CodeNode
 node_at e id = slice_get e.code.nodes id.0
 
+-- the place at this node, if there is one
 abbrev pub at_node : Option CodeNode → Sessions → Option Place
 at_node None m = None
 at_node (Some n) m = Some (record { node = n; sessions = m })
 
+-- the beginning of a procedure's body, with the sessions that are passed
 abbrev pub body_place : Endpoints → Option Procedure → List NameId → Sessions → Option Place
 body_place e None ss m = None
 body_place e (Some q) ss m = at_node (node_at e q.body) (passed q.sessions ss m)
@@ -101,6 +110,7 @@ place_in e (Some (Call f p ss)) m = body_place e (procedure_of e.procedures f p)
 place_in e (Some n) m = Some (record { node = n; sessions = m })
 place_in e None m = None
 
+-- where a process is, through a call at most
 abbrev pub place_of : Endpoints → Machine → Option Place
 place_of e m = place_in e (node_at e m.at) m.sessions
 
@@ -110,9 +120,11 @@ place_of e m = place_in e (node_at e m.at) m.sessions
 pub data Made : Type 0 where
   Makes : (e : Event) (n : NetworkState) → Made
 
+-- the state in which a process has gone on
 abbrev pub moved : NetworkState → ℕ → CodeId → Variables → Sessions → NetworkState
 moved n p at vars sessions = record n { machines = slice_set n.machines p (record { at = at; vars = vars; sessions = sessions }) }
 
+-- the state with these loads in the queue of a triple
 abbrev pub with_queue : NetworkState → Triple → List Load → NetworkState
 with_queue n t ls = record n { queues = with_loads n.queues t ls }
 
@@ -121,6 +133,7 @@ abbrev pub has_room : Option ℕ → List Load → Bool
 has_room None q = true
 has_room (Some c) q = nat_lt (length q) c
 
+-- the load is put into the queue, where there is room for it
 abbrev pub put_if : Bool → NetworkState → ℕ → Triple → Load → Option Made
 put_if false n p t l = None
 put_if true n p t l = Some (Makes (event.Send p t.0 t.1 t.2 l) (with_queue n t (queue_of n t ++ l ∷ [])))
@@ -153,6 +166,7 @@ takes_value next vars m x (Carries (Text t)) = Some (Goes next (fin.insert vars 
 takes_value next vars m x (Carries (Endpoint s r)) = None
 takes_value next vars m x (Picks l) = None
 
+-- the process goes on in this arm, if there is one
 abbrev pub in_arm : Option CodeId → Variables → Sessions → Option Taking
 in_arm None vars m = None
 in_arm (Some next) vars m = Some (Goes next vars m)
@@ -167,6 +181,7 @@ abbrev pub takes_part : CodeId → Variables → Sessions → NameId → Load �
 takes_part next vars m h (Carries (Endpoint s r)) = Some (Goes next vars (fin.insert m h.0 (s, r)))
 takes_part next vars m h _ = None
 
+-- the state after the first load was taken, where the process takes such a load
 abbrev pub went : NetworkState → ℕ → Triple → Load → List Load → Option Taking → Option Made
 went n p t l rest None = None
 went n p t l rest (Some (Goes next vars m)) = Some (Makes (event.Recv p t.0 t.1 t.2 l) (with_queue (moved n p next vars m) t rest))
@@ -176,6 +191,7 @@ abbrev pub takes_from : NetworkState → ℕ → Triple → (Load → Option Tak
 takes_from n p t f [] = None
 takes_from n p t f (l ∷ rest) = went n p t l rest (f l)
 
+-- takes the first load of the queue of a session, if the process has that session
 abbrev pub takes : NetworkState → ℕ → NameId → Option (ℕ × NameId) → (Load → Option Taking) → Option Made
 takes n p a None f = None
 takes n p a (Some (s, b)) f = takes_from n p (s, a, b) f (queue_of n (s, a, b))
@@ -199,10 +215,12 @@ node_makes cap n p v vars m (Join c r k next) = None
 node_makes cap n p v vars m (Call f q ss) = None
 node_makes cap n p v vars m End = None
 
+-- what a process that is at this place makes by itself
 abbrev pub place_makes : Option ℕ → NetworkState → ℕ → ℤ → Variables → Option Place → Option Made
 place_makes cap n p v vars None = None
 place_makes cap n p v vars (Some q) = node_makes cap n p v vars q.sessions q.node
 
+-- what a process makes by itself, if there is one
 abbrev pub machine_makes : Endpoints → Option ℕ → NetworkState → ℕ → ℤ → Option Machine → Option Made
 machine_makes e cap n p v None = None
 machine_makes e cap n p v (Some m) = place_makes cap n p v m.vars (place_of e m)
@@ -224,14 +242,17 @@ node_joins (Join d q k next) vars m c r s =
     if (d.0 == c.0) && (q.0 == r.0) then Some (record { at = next; vars = vars; sessions = fin.insert m k.0 (s, r) }) else None
 node_joins _ vars m c r s = None
 
+-- the machine of a process that is at this place after it has joined, if it does join there
 abbrev pub place_joins : Option Place → Variables → NameId → NameId → ℕ → Option Machine
 place_joins None vars c r s = None
 place_joins (Some q) vars c r s = node_joins q.node vars q.sessions c r s
 
+-- the machine of a process after it has joined, if it does join there
 abbrev pub joins : Endpoints → Option Machine → NameId → NameId → ℕ → Option Machine
 joins e None c r s = None
 joins e (Some m) c r s = place_joins (place_of e m) m.vars c r s
 
+-- one joiner before the others, if there are all
 abbrev pub one_joiner : ℕ → Option Machine → Option (List (ℕ × Machine)) → Option (List (ℕ × Machine))
 one_joiner p (Some m) (Some ms) = Some ((p, m) ∷ ms)
 one_joiner p (Some m) None = None
@@ -242,6 +263,7 @@ abbrev pub joiners : Endpoints → NetworkState → NameId → ℕ → List (Nam
 joiners e n c s [] = Some []
 joiners e n c s (q ∷ qs) = one_joiner q.1 (joins e (slice_get n.machines q.1) c q.0 s) (joiners e n c s qs)
 
+-- these machines in their places
 abbrev pub with_machines : List Machine → List (ℕ × Machine) → List Machine
 with_machines all [] = all
 with_machines all (q ∷ qs) = with_machines (slice_set all q.0 q.1) qs
@@ -262,16 +284,19 @@ abbrev pub served_parts : List NameId → ℕ → List (NameId × ℕ)
 served_parts [] p = []
 served_parts (r ∷ rs) p = (r, p) ∷ served_parts rs (suc p)
 
+-- the first channel of a name
 abbrev pub channel_of : List Channel → NameId → Option Channel
 channel_of [] c = None
 channel_of (k ∷ ks) c = if k.name.0 == c.0 then Some k else channel_of ks c
 
+-- the start by these joiners: the event, and the state with the joiners' machines and the new processes
 abbrev pub begun : Endpoints → NetworkState → NameId → Channel → List (NameId × ℕ) → Option (List (ℕ × Machine)) → Option Made
 begun e n c k ps None = None
 begun e n c k ps (Some ms) =
     Some (Makes (event.Start c n.sid (ps ++ served_parts k.serve (length n.machines)))
     (record n { machines = with_machines n.machines ms ++ served e c n.sid k.serve; sid = suc n.sid }))
 
+-- one role with its process before the others
 abbrev pub one_pair : NameId → ℕ → Option (List (NameId × ℕ)) → Option (List (NameId × ℕ))
 one_pair r p None = None
 one_pair r p (Some qs) = Some ((r, p) ∷ qs)
@@ -289,6 +314,7 @@ starts_with e n c k None = None
 starts_with e n c k (Some []) = None
 starts_with e n c k (Some (q ∷ qs)) = begun e n c k (q ∷ qs) (joiners e n c n.sid (q ∷ qs))
 
+-- the start of a session on this channel, if it is declared
 abbrev pub channel_starts : Endpoints → NetworkState → NameId → List ℕ → Option Channel → Option Made
 channel_starts e n c ps None = None
 channel_starts e n c ps (Some k) = starts_with e n c k (paired k.active ps)
@@ -308,6 +334,7 @@ PlaceAnswers hosts vars (Some q) v = at_head q.node
     at_head (Host x f a b next) = MayAnswer (meaning_named hosts f) (number_of (value_of (term_of a) vars)) (number_of (value_of (term_of b) vars)) v
     at_head _ = Unit {0}
 
+-- where a process is at a host call, v is an answer that it may give
 abbrev pub MachineAnswers : Hosts → Endpoints → Option Machine → ℤ → Type 0
 MachineAnswers hosts e None v = Unit {0}
 MachineAnswers hosts e (Some m) v = PlaceAnswers hosts m.vars (place_of e m) v

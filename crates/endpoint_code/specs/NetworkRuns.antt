@@ -25,6 +25,7 @@ IsNetworkRun e hosts capacity h last = NetworkLeads e hosts capacity (first_stat
 
 -- ---- ended processes
 
+-- a process that is at this place has ended
 abbrev pub ends_there : Option Place → Bool
 ends_there None = false
 ends_there (Some q) = at_head q.node
@@ -37,12 +38,14 @@ ends_there (Some q) = at_head q.node
 abbrev pub has_ended : Endpoints → Machine → Bool
 has_ended e m = ends_there (place_of e m)
 
+-- every process has ended
 abbrev pub all_ended : Endpoints → List Machine → Bool
 all_ended e [] = true
 all_ended e (m ∷ ms) = has_ended e m && all_ended e ms
 
 -- ---- why a process waits
 
+-- a process that is at this place joins channel c in role r
 abbrev pub joins_there : Option Place → NameId → NameId → Bool
 joins_there None c r = false
 joins_there (Some q) c r = at_head q.node
@@ -61,6 +64,7 @@ abbrev pub absent_among : Endpoints → List Machine → NameId → NameId → L
 absent_among e ms c own [] = None
 absent_among e ms c own (r ∷ rs) = if (r.0 == own.0) || is_joined e ms c r then absent_among e ms c own rs else Some (Absent c r)
 
+-- the active role of a channel in which nobody joins, if there is one
 abbrev pub absent_on : Endpoints → List Machine → NameId → NameId → Option Channel → Option Why
 absent_on e ms c own None = None
 absent_on e ms c own (Some k) = absent_among e ms c own k.active
@@ -75,10 +79,12 @@ abbrev pub waits_for_first : ℕ → NameId → NameId → (Load → Option Taki
 waits_for_first s a b f [] = Some (Empty s a b)
 waits_for_first s a b f (l ∷ rest) = if is_some (f l) then None else Some (Wrong s a b)
 
+-- the cause by which a process waits to receive on a session, if it does
 abbrev pub waits_to_receive : NetworkState → NameId → Option (ℕ × NameId) → (Load → Option Taking) → Option Why
 waits_to_receive n a None f = None
 waits_to_receive n a (Some (s, b)) f = waits_for_first s a b f (queue_of n (s, a, b))
 
+-- the cause by which a process that is at this node waits, if it does
 abbrev pub node_waits : Endpoints → Option ℕ → NetworkState → Variables → Sessions → CodeNode → Option Why
 node_waits e cap n vars m (Join c r k next) = absent_on e n.machines c r (channel_of e.channels c)
 node_waits e cap n vars m (Send k b x next) = waits_to_send cap n b (fin.get m k.0)
@@ -89,6 +95,7 @@ node_waits e cap n vars m (Branch k a arms) = waits_to_receive n a (fin.get m k.
 node_waits e cap n vars m (Catch k a h next) = waits_to_receive n a (fin.get m k.0) (takes_part next vars m h)
 node_waits e cap n vars m _ = None
 
+-- the cause by which a process that is at this place waits, if it does
 abbrev pub place_waits : Endpoints → Option ℕ → NetworkState → Variables → Option Place → Option Why
 place_waits e cap n vars None = None
 place_waits e cap n vars (Some q) = node_waits e cap n vars q.sessions q.node

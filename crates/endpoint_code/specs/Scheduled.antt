@@ -18,6 +18,7 @@ abbrev pub least_joiner : Endpoints → ℕ → List Machine → NameId → Name
 least_joiner e p [] c r = None
 least_joiner e p (m ∷ ms) c r = if joins_there (place_of e m) c r then Some p else least_joiner e (suc p) ms c r
 
+-- one partner before the others, if there are all
 abbrev pub partner : Option ℕ → Option (List ℕ) → Option (List ℕ)
 partner (Some p) (Some ps) = Some (p ∷ ps)
 partner (Some p) None = None
@@ -28,14 +29,17 @@ abbrev pub partners : Endpoints → List Machine → NameId → ℕ → NameId �
 partners e ms c p own [] = Some []
 partners e ms c p own (r ∷ rs) = partner (if r.0 == own.0 then Some p else least_joiner e 0 ms c r) (partners e ms c p own rs)
 
+-- the start of a session by these partners, if there are any
 abbrev pub started : Endpoints → NetworkState → NameId → Option (List ℕ) → Option Made
 started e n c None = None
 started e n c (Some ps) = starts e n c ps
 
+-- the start of a session on this channel by process p in role r
 abbrev pub started_on : Endpoints → NetworkState → ℕ → NameId → NameId → Option Channel → Option Made
 started_on e n p c r None = None
 started_on e n p c r (Some k) = started e n c (partners e n.machines c p r k.active)
 
+-- what a process that is at this place makes, with the least partners where it starts a session
 abbrev pub chosen_at : Endpoints → Option ℕ → NetworkState → ℕ → ℤ → Option Place → Option Made
 chosen_at e cap n p v None = None
 chosen_at e cap n p v (Some q) = at_head q.node
@@ -56,6 +60,7 @@ pub record Chooses (e : Endpoints) (hosts : Hosts) (capacity : Option ℕ) (n : 
 
 -- ---- the pick rule
 
+-- the role is the channel's first active one
 abbrev pub first_role : Option Channel → NameId → Bool
 first_role None r = false
 first_role (Some k) r = is_first k.active
@@ -64,6 +69,7 @@ first_role (Some k) r = is_first k.active
     is_first [] = false
     is_first (q ∷ qs) = q.0 == r.0
 
+-- a process that is at this place is listed
 abbrev pub listed_at : Endpoints → Option Place → Bool
 listed_at e None = false
 listed_at e (Some q) = at_head q.node
@@ -81,9 +87,11 @@ abbrev pub listed_from : Endpoints → Option ℕ → NetworkState → ℕ → L
 listed_from e cap n p [] = []
 listed_from e cap n p (m ∷ ms) = if is_listed e cap n m then p ∷ listed_from e cap n (suc p) ms else listed_from e cap n (suc p) ms
 
+-- the listed processes in order
 abbrev pub listed : Endpoints → Option ℕ → NetworkState → List ℕ
 listed e cap n = listed_from e cap n 0 n.machines
 
+-- the process with number k among the listed ones, counted from 0 and around
 abbrev pub picked_of : List ℕ → ℕ → Option ℕ
 picked_of [] k = None
 picked_of (p ∷ ps) k = slice_get (p ∷ ps) (k % length (p ∷ ps))
@@ -94,6 +102,7 @@ picked e cap seed events n = picked_of (listed e cap n) (seed + events)
 
 -- ---- the end of a run
 
+-- the first of these machines that hasn't ended, with its number and why it waits; the first has number p
 abbrev pub first_waiting_from : Endpoints → Option ℕ → NetworkState → ℕ → List Machine → Option (ℕ × Option Why)
 first_waiting_from e cap n p [] = None
 first_waiting_from e cap n p (m ∷ ms) = if has_ended e m then first_waiting_from e cap n (suc p) ms else Some (p, waits_for e cap n m)

@@ -37,6 +37,7 @@ mutual
 abbrev pub tree_in : List CodeTree → CodeId → CodeTree
 tree_in trees id = slice_index_or trees id.0 Ends
 
+-- the arms of a branch as trees, where these are the trees of the nodes before
 abbrev pub arms_in : List CodeTree → List (NameId × CodeId) → Arms
 arms_in ts [] = NoArms
 arms_in ts (arm ∷ arms) = Arm arm.0 (tree_in ts arm.1) (arms_in ts arms)

@@ -18,15 +18,19 @@ pub data Nonterminal : Type 0 where
   operand : Nonterminal
   parens : Nonterminal
 
+-- a part of the grammar of endpoint files
 abbrev pub Part : Type 0
 Part = Grammar Nonterminal
 
+-- a mark
 abbrev pub mark : Mark → Part
 mark m = one (a_mark m)
 
+-- this word
 abbrev pub word : List ℕ → Part
 word w = one (a_word w)
 
+-- a name
 abbrev pub NAME : Part
 NAME = one a_name
 
@@ -38,9 +42,11 @@ names n = listed E4 (Some n) (a_mark Comma) NAME
 abbrev pub role_of_channel : Part
 role_of_channel = row (NAME ∷ mark OpenBracket ∷ NAME ∷ mark CloseBracket ∷ [])
 
+-- NAME NAME
 abbrev pub two_names : Part
 two_names = row (NAME ∷ NAME ∷ [])
 
+-- NAME NAME NAME
 abbrev pub three_names : Part
 three_names = row (NAME ∷ NAME ∷ NAME ∷ [])
 
@@ -60,12 +66,15 @@ operators (m ∷ k ∷ ks) = alt (mark m) (operators (k ∷ ks))
 abbrev pub level : List Mark → Part → Part
 level ms g = seq g (many E4 None (seq (operators ms) g))
 
+-- un { ( "*" | "/" ) un }
 abbrev pub product : Part
 product = level (Star ∷ Slash ∷ []) un
 
+-- product { ( "+" | "-" ) product }
 abbrev pub sum : Part
 sum = level (Plus ∷ Minus ∷ []) product
 
+-- the marks of comparisons
 abbrev pub comparisons : List Mark
 comparisons = Equal ∷ NotEqual ∷ Less ∷ LessEqual ∷ []
 
@@ -73,9 +82,11 @@ comparisons = Equal ∷ NotEqual ∷ Less ∷ LessEqual ∷ []
 abbrev pub comparison : Part
 comparison = seq sum (optional (seq (operators comparisons) sum))
 
+-- comparison { "&&" comparison }
 abbrev pub conjunction : Part
 conjunction = level (And ∷ []) comparison
 
+-- conjunction { "||" conjunction }
 abbrev pub disjunction : Part
 disjunction = level (Or ∷ []) conjunction
 
@@ -93,15 +104,19 @@ body p = seq (after (a_mark OpenBrace) (lines p)) (mark CloseBrace)
 abbrev pub join : Part
 join = row (role_of_channel ∷ mark OpenParen ∷ NAME ∷ mark CloseParen ∷ [])
 
+-- NAME NAME expression
 abbrev pub send : Part
 send = row (two_names ∷ expr ∷ [])
 
+-- NAME expression
 abbrev pub set : Part
 set = row (NAME ∷ expr ∷ [])
 
+-- NAME NAME "(" expression "," expression ")"
 abbrev pub host : Part
 host = row (two_names ∷ mark OpenParen ∷ expr ∷ mark Comma ∷ expr ∷ mark CloseParen ∷ [])
 
+-- a node, but for the last one of a body: its word and its parts
 abbrev pub node : Part
 node = choice (
     seq (word (codes "join")) join
@@ -123,6 +138,7 @@ arm p = row (NAME ∷ body p ∷ [])
 abbrev pub branch : ℕ → Part
 branch p = row (two_names ∷ mark OpenBrace ∷ arm p ∷ many E4 None (arm p) ∷ mark CloseBrace ∷ [])
 
+-- expression body "else" body
 abbrev pub conditional : ℕ → Part
 conditional p = row (expr ∷ body p ∷ word (codes "else") ∷ body p ∷ [])
 
@@ -134,6 +150,7 @@ sessions = optional (names 8)
 abbrev pub signature : Part
 signature = row (two_names ∷ mark OpenParen ∷ sessions ∷ mark CloseParen ∷ [])
 
+-- the last node of a body
 abbrev pub tail : ℕ → Part
 tail p = choice (
     seq (word (codes "branch")) (branch p)
@@ -190,6 +207,7 @@ units_of q = choice (
 abbrev pub endpoints : Part
 endpoints = row (word (codes "endpoints") ∷ one (exactly 1) ∷ after (a_mark Semicolon) (units 64) ∷ [])
 
+-- the production of each nonterminal
 abbrev pub rule_of : Nonterminal → Part
 rule_of (units q) = units_of q
 rule_of (lines p) = lines_of p

@@ -20,11 +20,13 @@ Meaning (served n) = List Lexeme
 Meaning operand = Phrase
 Meaning parens = Phrase
 
+-- what a part of the grammar derives
 abbrev pub Derived : Part → Type 0
 Derived g = Value Meaning g
 
 -- ---- expressions
 
+-- the expression that an operand is
 abbrev pub leaf_of : Derived un → Phrase
 leaf_of (inl x) = Unary unop.Neg x
 leaf_of (inr (inl x)) = Unary unop.Not x
@@ -40,38 +42,47 @@ abbrev pub grouped : {A B : Type 0} → (A → BinOp) → (B → Phrase) → Phr
 grouped op phrase x [] = x
 grouped op phrase x (y ∷ ys) = grouped op phrase (Binary (op y.0) x (phrase y.1)) ys
 
+-- times or divided by
 abbrev pub product_op : Derived (operators (Star ∷ Slash ∷ [])) → BinOp
 product_op (inl v) = binop.Mul
 product_op (inr v) = binop.Div
 
+-- plus or minus
 abbrev pub sum_op : Derived (operators (Plus ∷ Minus ∷ [])) → BinOp
 sum_op (inl v) = binop.Add
 sum_op (inr v) = binop.Sub
 
+-- the operator of a comparison
 abbrev pub comparison_op : Derived (operators comparisons) → BinOp
 comparison_op (inl v) = binop.Eq
 comparison_op (inr (inl v)) = binop.Ne
 comparison_op (inr (inr (inl v))) = binop.Lt
 comparison_op (inr (inr (inr v))) = binop.Le
 
+-- the expression that a product is
 abbrev pub product_phrase : Derived product → Phrase
 product_phrase v = grouped product_op leaf_of (leaf_of v.0) v.1
 
+-- the expression that a sum is
 abbrev pub sum_phrase : Derived sum → Phrase
 sum_phrase v = grouped sum_op product_phrase (product_phrase v.0) v.1
 
+-- the expression that a comparison is
 abbrev pub comparison_phrase : Derived comparison → Phrase
 comparison_phrase (x, inl (op, y)) = Binary (comparison_op op) (sum_phrase x) (sum_phrase y)
 comparison_phrase (x, inr v) = sum_phrase x
 
+-- the expression that a conjunction is
 abbrev pub conjunction_phrase : Derived conjunction → Phrase
 conjunction_phrase v = grouped (λ op. binop.And) comparison_phrase (comparison_phrase v.0) v.1
 
+-- the expression that a disjunction is
 abbrev pub phrase : Derived disjunction → Phrase
 phrase v = grouped (λ op. binop.Or) conjunction_phrase (conjunction_phrase v.0) v.1
 
 -- ---- bodies
 
+-- what one node has the process do
 abbrev pub deed : Derived node → Deed
 deed (inl (w, ((c, (m, (r, k))), (o, (s, p))))) = Joins c r s
 deed (inr (inl (w, ((k, b), e)))) = Sends k b (phrase e)
@@ -87,35 +98,42 @@ deed (inr (inr (inr (inr (inr (inr (inr (inr (w, ((x, f), (o, (a, (m, (b, p)))))
 abbrev pub name_list : (n : ℕ) → Derived (names n) → List Lexeme
 name_list n v = v.0 ∷ v.1
 
+-- the sessions of a procedure or of a call
 abbrev pub session_list : Derived sessions → List Lexeme
 session_list (inl v) = name_list 8 v
 session_list (inr v) = []
 
+-- the arms of a branch
 abbrev pub arms_of : List (Lexeme × (Body × Unit {0})) → Arms
 arms_of [] = NoArms
 arms_of (x ∷ xs) = Arm x.0 x.1.0 (arms_of xs)
 
+-- the body that the last node of a body is
 abbrev pub last_node : (p : ℕ) → Derived (tail p) → Body
 last_node p (inl (w, ((k, a), (o, (x, (xs, c)))))) = Offers k a (arms_of (x ∷ xs))
 last_node p (inr (inl (w, (e, ((x, m), (v, (y, k))))))) = Tests (phrase e) x y
 last_node p (inr (inr (inl (w, ((f, x), (o, (ss, c))))))) = Calls w f x (session_list ss)
 last_node p (inr (inr (inr w))) = Ends
 
+-- the body that lines of nodes are
 abbrev pub body_of : (p : ℕ) → Derived (lines_of p) → Body
 body_of p (inl (n, rest)) = Does (deed n) rest
 body_of p (inr t) = last_node (p - 1) t
 
 -- ---- units
 
+-- the service roles of a channel
 abbrev pub role_list : (n : ℕ) → Derived (served_of n) → List Lexeme
 role_list n (x, inl xs) = x ∷ xs
 role_list n (x, inr v) = x ∷ []
 
+-- the active roles and the service roles of a channel
 abbrev pub role_lists : (n : ℕ) → Derived (roles_of n) → Roles
 role_lists n (x, inl rs) = record { active = x ∷ rs.active; serve = rs.serve }
 role_lists n (x, inr (inl ys)) = record { active = x ∷ []; serve = ys }
 role_lists n (x, inr (inr v)) = record { active = x ∷ []; serve = [] }
 
+-- the units of a file
 abbrev pub units_from : (q : ℕ) → Derived (units_of q) → Units
 units_from q (inl (w, (n, (rs, us)))) = record us { channels = record { name = n; roles = rs } ∷ us.channels }
 units_from q (inr (inl (w, (((f, x), (o, (ss, c))), (b, us))))) = record us { procedures = record { name = f; param = x; sessions = session_list ss; body = b } ∷ us.procedures }
@@ -123,6 +141,7 @@ units_from q (inr (inr (inl (w, ((c, (o, (r, k))), (b, us)))))) = record us { se
 units_from q (inr (inr (inr (inl (w, (n, (b, us))))))) = record us { processes = record { name = n; body = b } ∷ us.processes }
 units_from q (inr (inr (inr (inr l)))) = no_units
 
+-- what is made of what a nonterminal derives
 abbrev pub make : (n : Nonterminal) → Derived (rule_of n) → Meaning n
 make (units q) v = units_from q v
 make (lines p) v = body_of p v

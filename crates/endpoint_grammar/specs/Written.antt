@@ -41,21 +41,25 @@ pub record Roles : Type 0 where
   pub active : List Lexeme
   pub serve : List Lexeme
 
+-- a channel as its tokens write it: its name and its roles
 pub record Channel : Type 0 where
   pub name : Lexeme
   pub roles : Roles
 
+-- a procedure as its tokens write it
 pub record Procedure : Type 0 where
   pub name : Lexeme
   pub param : Lexeme
   pub sessions : List Lexeme
   pub body : Body
 
+-- the code of a service role as its tokens write it
 pub record Service : Type 0 where
   pub channel : Lexeme
   pub role : Lexeme
   pub body : Body
 
+-- a process as its tokens write it
 pub record Process : Type 0 where
   pub name : Lexeme
   pub body : Body
@@ -67,5 +71,6 @@ pub record Units : Type 0 where
   pub services : List Service
   pub processes : List Process
 
+-- a file without units
 abbrev pub no_units : Units
 no_units = record { channels = []; procedures = []; services = []; processes = [] }

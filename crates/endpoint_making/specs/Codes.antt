@@ -15,9 +15,11 @@ use Rattle.endpoint_code.specs.Trees as tree
 use Rattle.endpoint_names.specs.Bodies.{Body, Does, Offers, Tests, Calls, Ends, Arms, NoArms, Arm}
 use Rattle.endpoint_names.specs.Faults.{names_in}
 
+-- the node that is made of a line has the line's number
 abbrev pub code_id : LineId → CodeId
 code_id x = record { 0 = x.0 }
 
+-- the action that is made of one that was read
 abbrev pub action_of : Deed → tree.Action
 action_of (deed.Join c r k) = tree.Joins c.name r.name k.name
 action_of (deed.Send k b e) = tree.Sends k.name b.name (term_of e)
@@ -30,6 +32,7 @@ action_of (deed.Show e) = tree.Shows (term_of e)
 action_of (deed.Host x f a b) = tree.Asks x.name f.name (term_of a) (term_of b)
 
 abbrev mutual
+  -- the code that is made of a body that was read
   pub code_of : Body → tree.CodeTree
   code_of (Does a rest) = tree.Does (action_of a) (code_of rest)
   code_of (Offers k a arms) = tree.Offers k.name a.name (arms_of arms)
@@ -37,6 +40,7 @@ abbrev mutual
   code_of (Calls p s) = tree.Calls s.name.name s.param.name (names_in s.sessions)
   code_of Ends = tree.Ends
 
+  -- the arms that are made of those that were read
   pub arms_of : Arms → tree.Arms
   arms_of NoArms = tree.NoArms
   arms_of (Arm l b others) = tree.Arm l.name (code_of b) (arms_of others)

@@ -16,15 +16,19 @@ use Rattle.endpoint_names.specs.Bodies.{bodies_of}
 use Rattle.endpoint_names.specs.Faults.{names_in}
 use Rattle.endpoint_making.specs.Codes.{code_id, code_of, line_there}
 
+-- the channel that is made of one that was read
 abbrev pub channel_made : Channel → CodeChannel
 channel_made c = record { name = c.name.name; active = names_in c.roles.active; serve = names_in c.roles.serve }
 
+-- the procedure that is made of one that was read
 abbrev pub procedure_made : Procedure → CodeProcedure
 procedure_made p = record { name = p.signature.name.name; param = p.signature.param.name; sessions = names_in p.signature.sessions; body = code_id p.body }
 
+-- the service's code that is made of one that was read
 abbrev pub service_made : Service → ServiceCode
 service_made s = record { channel = s.channel.name; role = s.role.name; body = code_id s.body }
 
+-- the process that is made of one that was read
 abbrev pub process_made : Process → CodeProcess
 process_made p = record { name = p.name.name; body = code_id p.body }
 

@@ -25,6 +25,7 @@ mutual
     NoArms : Arms
     Arm : (label : Named) (body : Body) (rest : Arms) → Arms
 
+-- the labels of a branch
 abbrev pub labels_of : Arms → List Named
 labels_of NoArms = []
 labels_of (Arm l b others) = l ∷ labels_of others
@@ -35,6 +36,7 @@ labels_of (Arm l b others) = l ∷ labels_of others
 abbrev pub body_in : List Body → LineId → Body
 body_in bs id = slice_index_or bs id.0 Ends
 
+-- the arms of a branch, where these are the bodies of the lines before
 abbrev pub arms_in : List Body → List OneArm → Arms
 arms_in bs [] = NoArms
 arms_in bs (a ∷ others) = Arm a.label (body_in bs a.body) (arms_in bs others)

@@ -11,6 +11,7 @@ use Rattle.endpoint_reader.specs.declared.written.Written.{Written}
 use Rattle.endpoint_names.specs.Bodies.{Body, Calls, body_at}
 use Rattle.endpoint_names.specs.Faults.{Setting, name_faults}
 
+-- E3, at the call with which a body begins
 abbrev pub opening_faults : Body → List Fault
 opening_faults (Calls p s) = fault E3 p ∷ []
 opening_faults _ = []

@@ -22,9 +22,11 @@ use Rattle.endpoint_names.specs.declared.key.Sign.{Sign}
 use Rattle.endpoint_names.specs.Keys.{alone, both, is_known, sign_of_name, sign_of_channel, sign_of_procedure, sign_of_service, sign_of_process, keys_of, first_by}
 use Rattle.endpoint_names.specs.Bodies.{Body, Does, Offers, Tests, Calls, Ends, Arms, NoArms, Arm, labels_of, body_at}
 
+-- E2 at this place, where something is so
 abbrev pub fault_at : Bool → Place → List Fault
 fault_at b p = fault_if b E2 p
 
+-- names without their places
 abbrev pub names_in : List Named → List NameId
 names_in xs = map (λ x. x.name) xs
 
@@ -35,12 +37,15 @@ repeated known (s ∷ ss) = fault_at (is_known known s.key) s.place ++ repeated 
 
 -- ---- declarations
 
+-- the first channel of a name
 abbrev pub channel_of : Written → NameId → Option Channel
 channel_of w c = first_by sign_of_channel w.channels (alone c)
 
+-- the first procedure of this name for this parameter
 abbrev pub procedure_of : Written → NameId → NameId → Option Procedure
 procedure_of w f p = first_by sign_of_procedure w.procedures (both f p)
 
+-- some service is for this role of this channel
 abbrev pub has_service : Written → NameId → NameId → Bool
 has_service w c r = is_known (keys_of sign_of_service w.services) (both c r)
 
@@ -48,6 +53,7 @@ has_service w c r = is_known (keys_of sign_of_service w.services) (both c r)
 abbrev pub unknown_channel : Written → Named → List Fault
 unknown_channel w c = fault_at (not (is_some (channel_of w c.name))) c.place
 
+-- E2, at a role that isn't among these
 abbrev pub unlisted : List Named → Named → List Fault
 unlisted roles r = fault_at (not (is_among r.name (names_in roles))) r.place
 
@@ -56,6 +62,7 @@ abbrev pub inactive : Option Channel → Named → List Fault
 inactive None r = []
 inactive (Some c) r = unlisted c.roles.active r
 
+-- E2, at a role that isn't a service role of the channel
 abbrev pub unserved : Option Channel → Named → List Fault
 unserved None r = []
 unserved (Some c) r = unlisted c.roles.serve r
@@ -64,11 +71,13 @@ unserved (Some c) r = unlisted c.roles.serve r
 abbrev pub unprovided : Written → NameId → Named → List Fault
 unprovided w c r = fault_at (not (has_service w c r.name)) r.place
 
+-- those of a channel: a role twice, and a service role without a service
 abbrev pub channel_faults : Written → Channel → List Fault
 channel_faults w c = repeated [] (map sign_of_name (c.roles.active ++ c.roles.serve)) ++ flat_map (unprovided w c.name.name) c.roles.serve
 
 -- ---- sessions, where these are bound
 
+-- E2, at a session that isn't bound
 abbrev pub unbound : List NameId → Named → List Fault
 unbound bs k = fault_at (not (is_among k.name bs)) k.place
 
@@ -103,6 +112,7 @@ setting w names hosts = record { written = w; is_function = λ x. list_any (byte
 abbrev pub unknown_function : Setting → Named → List Fault
 unknown_function s f = fault_at (not (s.is_function f.name)) f.place
 
+-- the faults of names in an action, where these sessions are bound
 abbrev pub action_faults : Setting → List NameId → Action → List Fault
 action_faults s bs (Join c r k) = unknown_channel s.written c ++ inactive (channel_of s.written c.name) r ++ bound_again bs k
 action_faults s bs (Send k b e) = unbound bs k
@@ -114,6 +124,7 @@ action_faults s bs (Set x e) = []
 action_faults s bs (Show e) = []
 action_faults s bs (Host x f a b) = unknown_function s f
 
+-- the faults of a call, where these sessions are bound: its procedure, and the sessions that it passes
 abbrev pub call_faults : Setting → List NameId → Signature → List Fault
 call_faults s bs c =
     wrong_call (procedure_of s.written c.name.name c.param.name) c
@@ -128,6 +139,7 @@ abbrev mutual
   body_faults s bs (Calls p c) = call_faults s bs c
   body_faults s bs Ends = []
 
+  -- the faults in the bodies of a branch, where these sessions are bound
   pub arms_faults : Setting → List NameId → Arms → List Fault
   arms_faults s bs NoArms = []
   arms_faults s bs (Arm l b others) = body_faults s bs b ++ arms_faults s bs others
@@ -146,20 +158,25 @@ service_faults s v =
     unknown_channel s.written v.channel ++ unserved (channel_of s.written v.channel.name) v.role
     ++ body_faults s (v.channel.name ∷ []) (body_at s.written.lines.items v.body)
 
+-- the faults in the body of a process, in which no session is bound at first
 abbrev pub process_faults : Setting → Process → List Fault
 process_faults s p = body_faults s [] (body_at s.written.lines.items p.body)
 
 -- ---- whole files
 
+-- the faults of all channels
 abbrev pub faults_of_channels : Written → List Fault
 faults_of_channels w = repeated [] (map sign_of_channel w.channels) ++ flat_map (channel_faults w) w.channels
 
+-- the faults of all procedures
 abbrev pub faults_of_procedures : Setting → List Fault
 faults_of_procedures s = repeated [] (map sign_of_procedure s.written.procedures) ++ flat_map (procedure_faults s) s.written.procedures
 
+-- the faults of all services
 abbrev pub faults_of_services : Setting → List Fault
 faults_of_services s = repeated [] (map sign_of_service s.written.services) ++ flat_map (service_faults s) s.written.services
 
+-- the faults of all processes
 abbrev pub faults_of_processes : Setting → List Fault
 faults_of_processes s = repeated [] (map sign_of_process s.written.processes) ++ flat_map (process_faults s) s.written.processes
 

@@ -26,9 +26,11 @@ use Rattle.endpoint_reader.specs.declared.written.Process.{Process}
 use Rattle.endpoint_reader.specs.declared.written.Written.{Written}
 use Rattle.endpoint_reader.specs.There.{is_natural}
 
+-- a name's number is in the table
 abbrev pub IsThere : Input → Named → Type 0
 IsThere i n = n.name.0 < length i.names.now
 
+-- these names are in the table
 abbrev pub AreThere : Input → List Named → Type 0
 AreThere i ns = All (IsThere i) ns
 
@@ -38,12 +40,15 @@ AreTwoThere i x = IsThere i x.first × IsThere i x.second
 abbrev pub AreThreeThere : Input → Three → Type 0
 AreThreeThere i x = IsThere i x.first × IsThere i x.second × IsThere i x.third
 
+-- the names in the head of a procedure, or of a call, are in the table
 abbrev pub IsSignatureThere : Input → Signature → Type 0
 IsSignatureThere i s = IsThere i s.name × IsThere i s.param × AreThere i s.sessions
 
+-- the roles of a channel are in the table of names
 abbrev pub AreRolesThere : Input → Roles → Type 0
 AreRolesThere i r = AreThere i r.active × AreThere i r.serve
 
+-- the names and texts of an expression are in the tables, and no literal is negative or an endpoint
 abbrev pub IsTermThere : Input → Term → Type 0
 IsTermThere i (Constant (Int z)) = is_natural z ≡ true
 IsTermThere i (Constant (Truth b)) = Unit {0}
@@ -53,6 +58,7 @@ IsTermThere i (Variable x) = (x.0 < length i.names.now) × IsName (name_in i.nam
 IsTermThere i (Unary op e) = IsTermThere i e
 IsTermThere i (Binary op e f) = IsTermThere i e × IsTermThere i f
 
+-- the names and texts of an expression are in the tables
 abbrev pub IsExprThere : Input → Expr → Type 0
 IsExprThere i e = IsTermThere i (term_of e)
 
@@ -61,6 +67,7 @@ IsOpeningThere i (opening.Unary op) = Unit {0}
 IsOpeningThere i opening.Parens = Unit {0}
 IsOpeningThere i (opening.Leaf e) = IsExprThere i e
 
+-- the names and texts of an action are in the tables
 abbrev pub IsActionThere : Input → Action → Type 0
 IsActionThere i (action.Join c r k) = IsThere i c × IsThere i r × IsThere i k
 IsActionThere i (action.Send k b e) = IsThere i k × IsThere i b × IsExprThere i e
@@ -75,9 +82,11 @@ IsActionThere i (action.Host x f a b) = IsThere i x × IsThere i f × IsExprTher
 abbrev pub AreActionsThere : Input → List Action → Type 0
 AreActionsThere i xs = All (IsActionThere i) xs
 
+-- the labels of a branch are in the table of names
 abbrev pub AreLabelsThere : Input → List Arm → Type 0
 AreLabelsThere i arms = All (λ arm. IsThere i arm.label) arms
 
+-- the names and texts of a line are in the tables
 abbrev pub IsLineThere : Input → Line → Type 0
 IsLineThere i (line.Act a next) = IsActionThere i a
 IsLineThere i (line.Branch k a arms) = IsThere i k × IsThere i a × AreLabelsThere i arms
@@ -85,11 +94,13 @@ IsLineThere i (line.If e first second) = IsExprThere i e
 IsLineThere i (line.Call p s) = IsSignatureThere i s
 IsLineThere i line.End = Unit {0}
 
+-- all names and texts of these lines are in the tables
 abbrev pub AreLinesThere : Input → List Line → Type 0
 AreLinesThere i ls = All (IsLineThere i) ls
 
 -- ---- units
 
+-- all names and texts of these lines and units are in the tables
 pub record AreUnitsThere (i : Input) (ls : List Line) (cs : List Channel) (ps : List Procedure) (ss : List Service) (qs : List Process) : Type 0 where
   pub lines : AreLinesThere i ls
   pub channels : All (λ c. IsThere i c.name × AreRolesThere i c.roles) cs

@@ -32,6 +32,7 @@ IsClosed ls = (i : ℕ) (l : Line) → slice_get ls i ≡ Some l → All (λ nex
 abbrev pub body_in : List Body → LineId → Body
 body_in bs id = slice_index_or bs id.0 Ends
 
+-- the arms of a branch as their tokens write them, where these are the bodies of the lines before
 abbrev pub arms_in : Input → List Body → List OneArm → Arms
 arms_in i bs [] = NoArms
 arms_in i bs (a ∷ others) = Arm (named i a.label) (body_in bs a.body) (arms_in i bs others)

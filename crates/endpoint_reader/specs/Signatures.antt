@@ -32,6 +32,7 @@ signed ((f, x), (o, (ss, c))) = ((f, x), session_list ss)
 abbrev pub signature_of : Input → Signature → (Lexeme × Lexeme) × List Lexeme
 signature_of i s = ((named i s.name, named i s.param), all_named i s.sessions)
 
+-- the roles that were read, as their tokens write them
 abbrev pub roles_written : Input → Roles → WrittenRoles
 roles_written i r = record { active = all_named i r.active; serve = all_named i r.serve }
 

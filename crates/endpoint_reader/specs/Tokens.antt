@@ -28,6 +28,7 @@ symbol_of input (kind.Text n) = text (text_in input.texts.now n)
 symbol_of input (kind.Mark m) = mark m
 symbol_of input kind.Last = last
 
+-- what a token says, and its place
 abbrev pub lexeme_of : Input → Token → Lexeme
 lexeme_of input t = record { symbol = symbol_of input t.kind; place = t.place }
 
@@ -46,6 +47,7 @@ from input at = map (lexeme_of input) (onwards at input.tokens.now.items)
 abbrev pub named : Input → Named → Lexeme
 named input n = record { symbol = word (name_in input.names.now n.name); place = n.place }
 
+-- the tokens of these names
 abbrev pub all_named : Input → List Named → List Lexeme
 all_named input ns = map (named input) ns
 

@@ -28,11 +28,13 @@ spaced e xs = flat_map (λ x. codes " " ++ name_text e x) xs
 abbrev pub listed : Endpoints → List NameId → List ℕ
 listed e xs = join_by (name_text e) (codes ", ") xs
 
+-- an expression as it is written
 abbrev pub term_text : Endpoints → Term → List ℕ
 term_text e t = expr_text e.names e.texts t
 
 -- ---- code
 
+-- an action as it is written
 abbrev pub action_text : Endpoints → Action → List ℕ
 action_text e (Joins c r k) = codes "join" ++ spaced e (c ∷ []) ++ codes "[" ++ name_text e r ++ codes "](" ++ name_text e k ++ codes ")"
 action_text e (Sends k b t) = codes "send" ++ spaced e (k ∷ b ∷ []) ++ codes " " ++ term_text e t
@@ -77,18 +79,23 @@ abbrev pub serving : Endpoints → List NameId → List ℕ
 serving e [] = []
 serving e (r ∷ rs) = codes " | " ++ listed e (r ∷ rs)
 
+-- the line of a channel
 abbrev pub channel_line : Endpoints → Channel → List ℕ
 channel_line e c = codes "channel" ++ spaced e (c.name ∷ []) ++ codes " (" ++ listed e c.active ++ serving e c.serve ++ codes ");" ++ 10 ∷ []
 
+-- the line of a procedure
 abbrev pub procedure_line : Endpoints → Procedure → List ℕ
 procedure_line e p = codes "procedure" ++ spaced e (p.name ∷ p.param ∷ []) ++ codes " (" ++ listed e p.sessions ++ codes ")" ++ body_text e p.body
 
+-- the line of a service
 abbrev pub service_line : Endpoints → ServiceCode → List ℕ
 service_line e s = codes "service" ++ spaced e (s.channel ∷ []) ++ codes "[" ++ name_text e s.role ++ codes "]" ++ body_text e s.body
 
+-- the line of a process
 abbrev pub process_line : Endpoints → Process → List ℕ
 process_line e p = codes "process" ++ spaced e (p.name ∷ []) ++ body_text e p.body
 
+-- the first line of an endpoint file
 abbrev pub header : List ℕ
 header = codes "endpoints 1;" ++ 10 ∷ []
 

@@ -36,9 +36,11 @@ abbrev pub IsInt : ℤ → Type 0
 IsInt (pos n) = n < 2 ^ 63
 IsInt (negsuc n) = n < 2 ^ 63
 
+-- the name is in the table
 abbrev pub HasName : Words → NameId → Type 0
 HasName w x = x.0 < length w.names
 
+-- the name, if there is one, is in the table
 abbrev pub HasNameOf : Words → Option NameId → Type 0
 HasNameOf w (Some x) = HasName w x
 HasNameOf w None = Unit {0}
@@ -50,15 +52,18 @@ HasProcess w p = IsSmall p × HasNameOf w (slice_get w.processes p)
 abbrev pub HasEndpoint : Words → ℕ × NameId → Type 0
 HasEndpoint w q = IsSmall q.0 × HasName w q.1
 
+-- the role is in the table of names, and the process has a number of 32 bits and, if it is one of the beginning, a name there
 abbrev pub HasPart : Words → NameId × ℕ → Type 0
 HasPart w q = HasName w q.0 × HasProcess w q.1
 
+-- the number has 64 bits, the text is in the table, and so on for each kind of value
 abbrev pub HasValue : Words → Value → Type 0
 HasValue w (Int z) = IsInt z
 HasValue w (Truth b) = Unit {0}
 HasValue w (Text t) = t < length w.texts
 HasValue w (Endpoint s r) = IsSmall s × HasName w r
 
+-- the value or the label can be written and read
 abbrev pub HasLoad : Words → Load → Type 0
 HasLoad w (Carries v) = HasValue w v
 HasLoad w (Picks l) = HasName w l

@@ -25,6 +25,7 @@ abbrev pub unknown_state_in : Option Protocol → Named → List Fault
 unknown_state_in None n = []
 unknown_state_in (Some p) n = unknown_state p.states n
 
+-- the state of an endpoint that its protocol hasn't
 abbrev pub payload_faults : List Protocol → Payload → List Fault
 payload_faults ps (Plain s) = []
 payload_faults ps (Endpoint q s r) = unknown_state_in (protocol_named ps q.name) s
@@ -33,6 +34,7 @@ payload_faults ps (Endpoint q s r) = unknown_state_in (protocol_named ps q.name)
 abbrev pub own_receiver : Named → Named → List Fault
 own_receiver a b = fault_if (a.name.0 == b.name.0) G2 b.place
 
+-- the faults of a step: the receiver, and the states that it names
 abbrev pub step_faults : List Protocol → List State → ProtoStep → List Fault
 step_faults ps ss End = []
 step_faults ps ss (Value a b c next) = own_receiver a b ++ (payload_faults ps c ++ unknown_state ss next)
@@ -42,9 +44,11 @@ step_faults ps ss (Choice a b arms) = own_receiver a b ++ flat_map (λ arm. unkn
 abbrev pub unused_role : List State → Named → List Fault
 unused_role ss r = fault_if (not (list_any (λ s. is_named r.name s.step) ss)) G3 r.place
 
+-- the faults of a protocol: roles without a part, and those of its steps
 abbrev pub protocol_faults : List Protocol → Protocol → List Fault
 protocol_faults ps p = flat_map (unused_role p.states) p.roles ++ flat_map (λ s. step_faults ps p.states s.step) p.states
 
+-- the states of session parameters that their protocols haven't
 abbrev pub procedure_faults : List Protocol → Proc → List Fault
 procedure_faults ps f = flat_map (λ k. unknown_state_in (protocol_named ps k.protocol.name) k.state) f.sessions
 

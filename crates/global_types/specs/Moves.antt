@@ -20,6 +20,7 @@ pub data Content : Type 0 where
   plain : (s : Sort) → Content
   endpoint : (protocol state role : NameId) → Content
 
+-- what a payload says of a message, without places
 abbrev pub content_of : Payload → Content
 content_of (Plain s) = plain s
 content_of (Endpoint q s r) = endpoint q.name s.name r.name

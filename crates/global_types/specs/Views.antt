@@ -43,6 +43,7 @@ pub record LeavesBehind (ss : List State) (r : NameId) : Type 0 where
 
 -- ---- V1
 
+-- the labels of a choice
 abbrev pub labels_of : List ProtoArm → List NameId
 labels_of arms = map (λ arm. arm.label.name) arms
 
@@ -76,12 +77,14 @@ pub record Clashes (ss : List State) (r : NameId) : Type 0 where
 
 -- ---- the first fault of a role's view: V3, else V2, else V1
 
+-- the role's view has a fault by this rule: V3 comes first, then V2, then V1
 abbrev pub IsViewFault : List State → NameId → Rule → Type 0
 IsViewFault ss r V3 = HasTooMany ss r
 IsViewFault ss r V2 = (¬ HasTooMany ss r) × LeavesBehind ss r
 IsViewFault ss r V1 = (¬ HasTooMany ss r) × (¬ LeavesBehind ss r) × Clashes ss r
 IsViewFault ss r _ = ⊥
 
+-- the role's view has no fault
 pub record HasNoViewFault (ss : List State) (r : NameId) : Type 0 where
   pub few : ¬ HasTooMany ss r
   pub kept : ¬ LeavesBehind ss r

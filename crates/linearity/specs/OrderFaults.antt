@@ -32,6 +32,7 @@ pub data IsUnorderedIn (f : File) (a : NameId) (sets : ParameterSets) (x : Fault
   in_a_procedure : {h : Proc} → Contains f.procs h → IsUnorderedStart a x (set_of sets (procedure_from f.tree.nodes h)) (body_of f h.body)
       → IsUnorderedIn f a sets x
 
+-- the choreography of main
 abbrev pub main_of : File → Choreography
 main_of f = tree_in (trees_of f.tree.nodes) f.body
 

@@ -68,6 +68,7 @@ labels_in (Recv a c n) = []
 labels_in (Pick b ls) = map (λ l. l.0) ls
 labels_in (Branch a ls) = map (λ l. l.0) ls
 
+-- the labels of a state as words
 abbrev pub label_words : List (List ℕ) → LocalState → List (List ℕ)
 label_words names t = map (name_in names) (labels_in t)
 

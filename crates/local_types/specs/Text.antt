@@ -13,9 +13,11 @@ use Rattle.local_types.specs.Reading.{IsRoleType}
 use Rattle.local_types.specs.declared.local_type.LocalState.{LocalState}
 use Rattle.local_types.specs.declared.local_type.LocalState.TheVariants.{End, Send, Recv, Pick, Branch}
 
+-- a line feed
 abbrev pub line_end : List ℕ
 line_end = 10 ∷ []
 
+-- the word of a sort
 abbrev pub sort_text : Sort → List ℕ
 sort_text Int = codes "int"
 sort_text Bool = codes "bool"
@@ -35,9 +37,11 @@ abbrev pub labels_text : List (List ℕ) → List (NameId × ℕ) → List ℕ
 labels_text names [] = []
 labels_text names (l ∷ ls) = (codes " " ++ (name_in names l.0 ++ (codes " " ++ decimal l.1))) ++ labels_text names ls
 
+-- a partner and the labels with the states after them
 abbrev pub choice_text : List (List ℕ) → NameId → List (NameId × ℕ) → List ℕ
 choice_text names r ls = name_in names r ++ (labels_text names ls ++ line_end)
 
+-- the line of a state, after its number
 abbrev pub state_text : List (List ℕ) → LocalState → List ℕ
 state_text names End = codes ": end" ++ line_end
 state_text names (Send r c n) = codes ": send " ++ message_text names r c n

@@ -27,6 +27,7 @@ pub record Started : Type 0 where
   pub serve : List (ℕ × NameId)
   pub rest : Choreography
 
+-- the start at a node, if it is one of this channel
 abbrev pub start_at : NameId → Node → Choreography → List Started
 start_at a (Starts c d k active serve) rest = if c.0 == a.0 then record { session = k; serve = serve; rest = rest } ∷ [] else []
 start_at a _ rest = []
@@ -42,6 +43,7 @@ starts_in a Ends = []
 abbrev pub body_at : File → NodeId → Choreography
 body_at f id = tree_in (trees_of f.tree.nodes) id
 
+-- the starts of a channel in the bodies of procedures
 abbrev pub starts_in_procs : File → NameId → List Proc → List Started
 starts_in_procs f a [] = []
 starts_in_procs f a (h ∷ hs) = starts_in a (body_at f h.body) ++ starts_in_procs f a hs
@@ -76,9 +78,11 @@ pub record IsServiceCode (procs : List Proc) (a r : NameId) (starts : List Start
 
 -- ---- the lists
 
+-- names without their places
 abbrev pub names_of : List Written → List NameId
 names_of xs = map (λ x. x.name) xs
 
+-- there is a start
 abbrev pub is_some_start : List Started → Bool
 is_some_start [] = false
 is_some_start (s ∷ ss) = true
@@ -87,6 +91,7 @@ is_some_start (s ∷ ss) = true
 abbrev pub started_services : File → List Service
 started_services f = filter (λ s. is_some_start (starts_of f s.name.name)) f.services
 
+-- the channel of the endpoint programs for a channel of the source
 abbrev pub channel_from : Service → Channel
 channel_from s = record { name = s.name.name; active = names_of s.active; serve = names_of s.serve }
 
@@ -109,11 +114,13 @@ pub record IsProcedureOf (f : File) (e : Endpoints) (h : Proc × ProcParam) (q :
   pub sessions : q.sessions ≡ sessions_for h.1.name.name h.0.sessions
   pub body : IsCodeOf f.procs h.1.name.name (body_at f h.0.body) (code_at e.code.nodes q.body)
 
+-- this unit is the code of that service role of that channel
 pub record IsServiceOf (f : File) (e : Endpoints) (a : NameId × NameId) (s : ServiceCode) : Type 0 where
   pub channel : s.channel ≡ a.0
   pub role : s.role ≡ a.1
   pub body : IsServiceCode f.procs a.0 a.1 (starts_of f a.0) (code_at e.code.nodes s.body)
 
+-- this unit is the code of that process
 pub record IsProcessOf (f : File) (e : Endpoints) (p : Written) (q : Process) : Type 0 where
   pub name : q.name ≡ p.name
   pub body : IsCodeOf f.procs p.name (body_at f f.body) (code_at e.code.nodes q.body)

@@ -47,6 +47,7 @@ mutual
     calls : {f g p q : NameId} {ss rs : List NameId} → N f g → N p q → AllZip N ss rs → SameCode N T (Calls f p ss) (Calls g q rs)
     ends : SameCode N T Ends Ends
 
+  -- arms with the same labels and codes, in any order, but for the numbers of names and texts
   pub data SameArms (N : NameId → NameId → Type 0) (T : ℕ → ℕ → Type 0) : Arms → Arms → Type 0 where
     no_arm : SameArms N T NoArms NoArms
     one_arm : {l m : NameId} {q p : CodeTree} {qs ps others : Arms} → N l m → SameCode N T q p → ArmIsIn m p others ps → SameArms N T qs others

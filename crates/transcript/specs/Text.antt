@@ -20,6 +20,7 @@ pub record Words : Type 0 where
 abbrev pub name_text : Words → NameId → List ℕ
 name_text w x = name_in w.names x
 
+-- a process by its name, or by `%` and its number
 abbrev pub process_named : Words → ℕ → Option NameId → List ℕ
 process_named w p (Some x) = name_text w x
 process_named w p None = 37 ∷ decimal p
@@ -35,6 +36,7 @@ value_text w (Truth b) = truth_text b
 value_text w (Text t) = literal_in w.texts t
 value_text w (Endpoint s r) = 35 ∷ decimal s ++ 46 ∷ [] ++ name_text w r
 
+-- a value or a label as it is written
 abbrev pub load_text : Words → Load → List ℕ
 load_text w (Carries v) = value_text w v
 load_text w (Picks l) = name_text w l
@@ -52,6 +54,7 @@ sending (Carries (Text t)) = codes " send "
 sending (Carries (Endpoint s r)) = codes " give "
 sending (Picks l) = codes " pick "
 
+-- the word of a receipt: `recv`, `gain` or `branch`
 abbrev pub receiving : Load → List ℕ
 receiving (Carries (Int z)) = codes " recv "
 receiving (Carries (Truth b)) = codes " recv "

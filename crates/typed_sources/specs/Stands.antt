@@ -14,6 +14,7 @@ use Rattle.typed_sources.specs.Told.{Act}
 use Rattle.typed_sources.specs.Context.{Context}
 use Rattle.typed_sources.specs.Typing.{Reaches}
 
+-- the protocol of a channel, if it is declared
 abbrev pub protocol_name : Option Service → Option NameId
 protocol_name None = None
 protocol_name (Some s) = Some s.protocol.name

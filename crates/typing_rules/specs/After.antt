@@ -42,6 +42,7 @@ abbrev pub with_sort : Environment → NameId → NameId → Result Sort Rule �
 with_sort e p y (Err r) = e
 with_sort e p y (Ok s) = record e { sorts = set_at e.sorts p y s }
 
+-- what is known after a statement
 abbrev pub after_statement : File → Environment → Statement → Environment
 after_statement f e (Starts c k active serve) = with_session f e c.name k.name active serve
 after_statement f e (Sends a x b y k) = with_value e k.name b.process.name y (value_sent a.role.name b.role.name (step_at f e k.name))

@@ -28,6 +28,7 @@ abbrev pub arm_of : List ProtoArm → NameId → Option NameId
 arm_of [] l = None
 arm_of (x ∷ xs) l = if x.label.name.0 == l.0 then Some x.next.name else arm_of xs l
 
+-- the state after a label, if there is a choice and the label is in it
 abbrev pub arm_in : Option (List ProtoArm) → NameId → Option NameId
 arm_in None l = None
 arm_in (Some arms) l = arm_of arms l

@@ -29,6 +29,7 @@ abbrev pub has_sort : Result Sort Rule → Check
 has_sort (Ok s) = None
 has_sort (Err r) = Some r
 
+-- an expression has this sort
 abbrev pub is_sort : Sort → Result Sort Rule → Bool
 is_sort s (Ok t) = same_sort s t
 is_sort s (Err r) = false
@@ -43,10 +44,12 @@ sort_at e p x = sort_of x (e.sorts p.name)
 abbrev pub parties : Environment → Named → Part → Part → List Check
 parties e k a b = ask (holds e.owners k.name a.role.name a.process.name) T1 ∷ ask (holds e.owners k.name b.role.name b.process.name) T1 ∷ []
 
+-- T2, T8 and T3 of a value that is sent
 abbrev pub value_checks : Option (Sort × NameId) → Result Sort Rule → List Check
 value_checks None t = Some T2 ∷ []
 value_checks (Some s) t = has_sort t ∷ ask (is_sort s.0 t) T3 ∷ []
 
+-- T2 and T4 of a label
 abbrev pub label_checks : Option (List ProtoArm) → NameId → List Check
 label_checks None l = Some T2 ∷ []
 label_checks (Some arms) l = ask (is_some (arm_of arms l)) T4 ∷ []
@@ -56,6 +59,7 @@ abbrev pub is_endpoint : Option Standing → NameId → EndpointType → Bool
 is_endpoint None r t = false
 is_endpoint (Some s) r t = (s.protocol.0 == t.protocol.0) && ((s.state.0 == t.state.0) && (r.0 == t.role.0))
 
+-- T2, T1, T9 and T5 of an endpoint that is handed over
 abbrev pub endpoint_checks : Environment → Part → Part → Part → Option (EndpointType × NameId) → List Check
 endpoint_checks e a b given None = Some T2 ∷ []
 endpoint_checks e a b given (Some t) =
@@ -77,6 +81,7 @@ rest_ended f e passed = list_all (has_ended f passed) e.standings
 abbrev pub are_set : List (Named × Sort) → Sorts → Bool
 are_set vs m = list_all (λ v. is_sort v.1 (or_rule (m v.0.name) T8)) vs
 
+-- the processes that are passed have set the variables that their parameters ask for
 abbrev pub params_are_set : Environment → List ProcParam → List Named → Bool
 params_are_set e [] ps = true
 params_are_set e (q ∷ qs) [] = true
@@ -88,6 +93,7 @@ holds_as e k r x [] ps = false
 holds_as e k r x (q ∷ qs) [] = false
 holds_as e k r x (q ∷ qs) (p ∷ ps) = if q.name.name.0 == x.0 then holds e.owners k r p.name else holds_as e k r x qs ps
 
+-- a session is of the protocol and in the state that a parameter declares
 abbrev pub is_standing : Option Standing → SessionParam → Bool
 is_standing None q = false
 is_standing (Some s) q = (s.protocol.0 == q.protocol.name.0) && (s.state.0 == q.state.name.0)
@@ -96,17 +102,20 @@ is_standing (Some s) q = (s.protocol.0 == q.protocol.name.0) && (s.state.0 == q.
 abbrev pub session_fits : Environment → List ProcParam → List Named → SessionParam → NameId → Bool
 session_fits e qs ps q k = is_standing (standing_of e.standings k) q && list_all (λ h. holds_as e k h.0.name h.1.name qs ps) q.holders
 
+-- the sessions that are passed fit those that the procedure declares
 abbrev pub sessions_fit : Environment → List ProcParam → List Named → List SessionParam → List Named → Bool
 sessions_fit e qs ps [] ks = true
 sessions_fit e qs ps (s ∷ ss) [] = true
 sessions_fit e qs ps (s ∷ ss) (k ∷ ks) = session_fits e qs ps s k.name && sessions_fit e qs ps ss ks
 
+-- T7 of the variables, then of the sessions, that a call passes
 abbrev pub arguments_fit : Environment → Option Proc → List Named → List Named → List Check
 arguments_fit e None ps ks = []
 arguments_fit e (Some g) ps ks = ask (params_are_set e g.params ps) T7 ∷ ask (sessions_fit e g.params ps g.sessions ks) T7 ∷ []
 
 -- ---- the checks of each statement and tail, in order
 
+-- the checks of a statement, in order
 abbrev pub statement_checks : File → Environment → Statement → List Check
 statement_checks f e (Starts c k active serve) = start_check (active ++ serve) ∷ []
 statement_checks f e (Sends a x b y k) = parties e k a b ++ value_checks (value_sent a.role.name b.role.name (step_at f e k.name)) (sort_at e a.process x)
@@ -119,6 +128,7 @@ statement_checks f e (Asks p y h x z) =
     ∷ []
 statement_checks f e (Shows p x) = has_sort (sort_at e p x) ∷ []
 
+-- the checks of the first statement of a block, or of what ends it, in order
 abbrev pub checks_of : File → Environment → Block → List Check
 checks_of f e (Then place s next) = statement_checks f e s
 checks_of f e (Either place p x first second) = has_sort (sort_at e p x) ∷ ask (is_sort sort.Bool (sort_at e p x)) T3 ∷ []

@@ -17,6 +17,7 @@ use Rattle.typing_rules.specs.After.{after}
 abbrev pub holder_fault : SessionParam → List Fault
 holder_fault k = fault_if (not (all_differ (map (λ h. h.1.name) k.holders))) T9 k.name.place
 
+-- the faults in the head of a procedure
 abbrev pub head_faults : Proc → List Fault
 head_faults p = flat_map holder_fault p.sessions
 
