@@ -1,0 +1,4 @@
+pub mod Sources
+pub mod Values
+pub mod Rows
+pub mod Laws
