@@ -1,0 +1,15 @@
+pub mod Terminals
+pub mod FromExpressions
+pub mod FromStatements
+pub mod ToTerminals
+pub mod ToExpressions
+pub mod ToStatements
+pub mod FromProtocols
+pub mod ToProtocols
+pub mod FromHeads
+pub mod ToHeads
+pub mod FromServices
+pub mod ToServices
+pub mod FromFiles
+pub mod ToFiles
+pub mod Files
