@@ -6,6 +6,7 @@ ghost use Rattle.crew.specs.Crews.{entry_worker};
 ghost use Rattle.workers.specs.declared.origin.Origin.{Origin as AnyOrigin};
 ghost use Rattle.workers.specs.Turns.{GoesOn, Follows, CatchesUp, UnlessEnds};
 
+use chor_base::Entry;
 use crew::Crew;
 use endpoint_code::Endpoints;
 use turn_lock::Told;
@@ -40,4 +41,8 @@ pub trait Shared: Told {
     fn stop(&mut self)
         ensures origin { Self.origin self.new ≡ Self.origin self.old }
         ensures history { Self.history self.new ≡ Self.history self.old };
+
+    /// The events so far.
+    fn entries(&self) -> &[Entry]
+        ensures { result.now ≡ Self.history self.now };
 }

@@ -165,13 +165,22 @@ impl<'a> SharedRun<'a> {
         }
     }
 
-    /// The events.
-    pub fn entries(&self, alloc: Global) -> Result<List<Entry>, Memory>
+    /// The events, which are a run of the programs.
+    pub fn history(&self) -> &[Entry]
+        ensures entries { result.now ≡ history_of self.now }
+        ensures run { (n : NetworkState) × LeadsTo (origin_of self.now) result.now n }
+        ensures kept { IsKept self.now }
+    {
+        self.office.history()
+    }
+
+    /// A copy of the events.
+    pub fn copied(&self, alloc: Global) -> Result<List<Entry>, Memory>
         ensures entries { IfOk result (λ entries. entries ≡ history_of self.now) }
         ensures run { IfOk result (λ entries. (n : NetworkState) × LeadsTo (origin_of self.now) entries n) }
         ensures kept { IsKept self.now }
     {
-        let history = self.office.history();
+        let history = self.history();
         let mut entries = List::new(alloc);
         for entry in history {
             entries.push(entry.copy(alloc)?)?;
@@ -199,5 +208,9 @@ impl Shared for SharedRun<'_> {
 
     fn stop(&mut self) {
         self.progress = Progress::Memory;
+    }
+
+    fn entries(&self) -> &[Entry] {
+        self.history()
     }
 }
