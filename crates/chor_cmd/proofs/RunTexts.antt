@@ -12,7 +12,15 @@ use Rattle.chor_host.specs.Functions.{hosts_in}
 use Rattle.command_words.specs.declared.options.Options.{Options}
 use Rattle.program_runs.specs.Books.{book_of}
 use Rattle.chor_base.specs.declared.event.Event.{Event}
+use Rattle.std.specs.Prelude.{⊤}
+use Rattle.chor_io.specs.Outside.{SinkState}
+use Rattle.chor_stream.specs.declared.finish.Finished.{Finished}
+use Rattle.simulation.specs.Streams.{WritesTranscript}
+use Rattle.chor_cmd.specs.Endings.{HasWritten}
 use Rattle.chor_cmd.specs.Outputs.{last_line, TellsRun}
+use Rattle.chor_cmd.specs.Rows.{IsDoneWith}
+use Rattle.chor_cmd.specs.Status.{finished_status}
+use Rattle.chor_cmd.proofs.Written.{finished_written}
 use Rattle.chor_cmd.proofs.AskedRuns.{scheduled_asked, closed_asked}
 
 same_line : (w : Words) (ended : Bool) (n : ℕ) → closing_text w n (close_of ended) ≡ last_line ended n
@@ -41,3 +49,10 @@ module _ (functions : List Function) (a : AcceptedView) (options : Options) (w :
     run = closed_asked a.typed.file a.endpoints (hosts_in a.typed.file.names functions) (capacity_of a.typed.file) options told.history (close_of told.ended) some told.run;
     text_is = line told.history told.ended told.text_is;
   }
+
+-- it was written, or a part of it
+pub told_written : (functions : List Function) (a : AcceptedView) (options : Options) (w : Words) → w ≡ book_of a.typed.file → (options.workers ≡ 0 → ⊥) → (answer : Finished) (sink sink' : SinkState)
+    → WritesTranscript w a functions options.steps answer sink sink'
+    → HasWritten (IsDoneWith (TellsRun functions a.typed.file a.endpoints (capacity_of a.typed.file) options)) ⊤ ⊤ sink sink' (finished_status answer)
+told_written functions a options w same some answer sink sink' x =
+    finished_written sink sink' (TellsRun functions a.typed.file a.endpoints (capacity_of a.typed.file) options) x.text (run_text_by functions a options w x.text same some x.told) answer x.finishes

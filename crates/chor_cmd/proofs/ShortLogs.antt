@@ -1,5 +1,5 @@
 -- Fetching an events file after which a run goes on.
-use Rattle.std.proofs.Common.{◌≡◌, inl, inr, ℕ, List, [], ◌∷◌, refl, sym, ap, subst, arith}
+use Rattle.std.proofs.Common.{inl, ℕ, List, [], ◌∷◌, refl, sym, ap, subst, arith}
 use Rattle.chor_io.specs.Outside.{Risen, ShelfState}
 use Rattle.chor_cmd.specs.declared.ending.Stop.{Stop}
 use Rattle.chor_cmd.specs.declared.ending.Stop.TheVariants.{Refused, ReadFault, TooLarge, Memory}

@@ -1,5 +1,5 @@
 -- How a call of the program ends, and with which text (this project's own).
-use Rattle.std.specs.Prelude.{ℕ, ℤ, ◌≡◌, ◌<◌, ◌≤◌, ◌⊎◌, List, [], ◌∷◌, length, Option, Some, None}
+use Rattle.std.specs.Prelude.{ℕ, ℤ, ◌≡◌, ◌⊎◌, List, [], ◌∷◌, Option, Some, None}
 use denote.Param.Members.{Mut}
 use Rattle.chor_base.specs.declared.rule.Refusal.{Refusal}
 use Rattle.chor_host.specs.declared.table.HostTable.{HostTable}
@@ -13,6 +13,7 @@ use Rattle.command_words.specs.declared.words.Command.{Command}
 use Rattle.command_words.specs.Words.{IsForm, HasForm, NamesFile, HasNoForm}
 use Rattle.chor_cmd.specs.Rows.{Row, Reads, Judges, Closes, Exactly, IsRefused, row_of}
 use Rattle.chor_cmd.specs.Outputs.{usage_line, read_fault_line, too_large_line}
+use Rattle.chor_cmd.specs.Runs.{AsksWorkers}
 
 -- the names of the host functions that a file may call
 abbrev pub host_names : {X : Type 0} {g : Mut X (ℤ × (ℤ × Unit {0})) ℤ} → HostTable X g → List (List ℕ)
@@ -63,12 +64,17 @@ pub data Ends (functions : List Function) (words : Words) (shelf shelf' : ShelfS
   goes : {status : Status} {text : List ℕ} (command : Command) (names : List (List ℕ)) → IsForm words command names
       → Goes (MayTell shelf.files) names (row_of functions command) status text → Ends functions words shelf shelf' status text
 
--- A call that may end so has ended: by a failing write after a front of its text, with its whole text, or out of memory with nothing written, where this holds
-abbrev pub HasWritten : (Status → List ℕ → Type 0) → Type 0 → SinkState → SinkState → Status → Type 0
-HasWritten Says OutOfMemory sink sink' WriteFault = Risen sink.faults sink'.faults × ((status : Status) × (text : List ℕ) × Says status text × WroteFront sink.written sink'.written text)
-HasWritten Says OutOfMemory sink sink' Memory = OutOfMemory × (sink'.written ≡ sink.written)
-HasWritten Says OutOfMemory sink sink' status = (text : List ℕ) × Says status text × Wrote sink.written sink'.written text
+-- a prefix of a text with which a call might have ended so was written
+abbrev pub BreaksOff : (Status → List ℕ → Type 0) → SinkState → SinkState → Type 0
+BreaksOff Says sink sink' = (status : Status) × (text : List ℕ) × Says status text × WroteFront sink.written sink'.written text
 
--- A call has ended so; out of memory only where the words are of a form
+-- A call that may end so has ended: by a failing write after a prefix of its text, with its whole text, or where this holds out of memory,
+-- with nothing written or, where its text is written in parts, a prefix of it
+abbrev pub HasWritten : (Status → List ℕ → Type 0) → Type 0 → Type 0 → SinkState → SinkState → Status → Type 0
+HasWritten Says OutOfMemory InParts sink sink' WriteFault = Risen sink.faults sink'.faults × BreaksOff Says sink sink'
+HasWritten Says OutOfMemory InParts sink sink' Memory = OutOfMemory × ((sink'.written ≡ sink.written) ⊎ (InParts × BreaksOff Says sink sink'))
+HasWritten Says OutOfMemory InParts sink sink' status = (text : List ℕ) × Says status text × Wrote sink.written sink'.written text
+
+-- A call has ended so; out of memory only where the words are of a form, and after a part of its text only where they ask for workers
 abbrev pub HasEnded : List Function → Words → ShelfState → ShelfState → SinkState → SinkState → Status → Type 0
-HasEnded functions words shelf shelf' sink sink' status = HasWritten (Ends functions words shelf shelf') (HasForm words) sink sink' status
+HasEnded functions words shelf shelf' sink sink' status = HasWritten (Ends functions words shelf shelf') (HasForm words) (AsksWorkers words) sink sink' status

@@ -9,8 +9,8 @@ use Rattle.command_words.specs.Words.{IsForm}
 use Rattle.source_check.specs.Source.{IsFileOf}
 use Rattle.endpoint_code.specs.declared.endpoints.Endpoints.{Endpoints}
 use Rattle.endpoint_check.specs.Programs.{AreProgramsOf}
-use Rattle.chor_cmd.specs.Runs.{IsAskedTranscript}
-use Rattle.chor_cmd.specs.declared.status.Status.TheVariants.{Done}
+use Rattle.chor_cmd.specs.Runs.{IsAskedTranscript, AsksNoWorkers}
+use Rattle.chor_cmd.specs.declared.status.Status.TheVariants.{Done, Memory}
 use Rattle.chor_cmd.specs.Status.{status_of}
 use Rattle.chor_cmd.specs.Endings.{Tells}
 use Rattle.chor_cmd.specs.Rows.{source_limit, programs_limit}
@@ -34,3 +34,7 @@ ExecutesThese =
     (call : Call) → IsSettled call → (options : Options) (name bytes : List ℕ) (e : Endpoints) → IsForm call.words (Exec options) (name ∷ []) → Tells call.shelf.files name bytes → length bytes ≤ programs_limit
     → AreProgramsOf (names_of call.functions) bytes e
     → Comes call (λ status text. (stuck : Bool) × (status ≡ status_of stuck) × IsAskedTranscript call.functions e options text stuck)
+
+-- a call whose words ask for no workers, and which ran out of memory, has written nothing
+abbrev pub WritesNothing : Type 0
+WritesNothing = (call : Call) → HasEnded call → AsksNoWorkers call.words → call.status ≡ Memory → call.sink'.written ≡ call.sink.written

@@ -25,7 +25,7 @@ use Rattle.accepted_orders.specs.Sources.{TellsOrder}
 use Rattle.accepted_replays.specs.Events.{HasSourceEvents}
 use Rattle.simulation.specs.Capacity.{capacity_of}
 use Rattle.chor_cmd.specs.declared.status.Status.{Status}
-use Rattle.chor_cmd.specs.declared.status.Status.TheVariants.{Done, Refused, Usage, Unmatched}
+use Rattle.chor_cmd.specs.declared.status.Status.TheVariants.{Done, Refused, Unmatched}
 use Rattle.chor_cmd.specs.Status.{status_of}
 use Rattle.chor_cmd.specs.Outputs.{IsProjectionText, IsRunText, IsLinkedRun, IsExecution, IsReplayOf, IsResumedRun, IsResumeFault, IsConformingOf, IsGenerated}
 use Rattle.chor_cmd.specs.Outputs.{refused_line, replayed_line, unmatched_line, beyond_line, conforms_line}
@@ -48,8 +48,11 @@ abbrev pub IsRefused : Refusal → Status → List ℕ → Type 0
 IsRefused r = Exactly Refused (refused_line r)
 
 -- the command is done, with such a text
+abbrev pub IsDoneWith : (List ℕ → Type 0) → Status → List ℕ → Type 0
+IsDoneWith Says status text = (status ≡ Done) × Says text
+
 abbrev pub Writes : (List ℕ → Type 0) → Row
-Writes Says = Closes (λ status text. (status ≡ Done) × Says text)
+Writes Says = Closes (IsDoneWith Says)
 
 -- at most so many bytes
 abbrev pub AtMost : ℕ → List ℕ → Type 0

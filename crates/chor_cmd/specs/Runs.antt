@@ -1,6 +1,6 @@
 -- Which runs the options of `run`, `exec` and `link` ask for: without workers the scheduled run, with workers any closed run (this project's
 -- own). `exec` runs under the capacity of its options, the others under that of the source.
-use Rattle.std.specs.Prelude.{ℕ, zero, suc, ◌≡◌, Bool, List, Option}
+use Rattle.std.specs.Prelude.{ℕ, zero, suc, ◌≡◌, ◌≢◌, Bool, List, Option}
 use Rattle.chor_base.specs.declared.event.Event.{Event}
 use Rattle.chor_base.specs.Meaning.{Hosts}
 use Rattle.chor_host.specs.Functions.{Function}
@@ -46,3 +46,10 @@ workers_of _ = 0
 -- the words ask for no workers
 abbrev pub AsksNoWorkers : Words → Type 0
 AsksNoWorkers words = (command : Command) (names : List (List ℕ)) → IsForm words command names → workers_of command ≡ 0
+
+-- the words are of a form whose command asks for workers
+pub record AsksWorkers (words : Words) : Type 0 where
+  pub command : Command
+  pub names : List (List ℕ)
+  pub form : IsForm words command names
+  pub some : workers_of command ≢ 0

@@ -1,5 +1,9 @@
 -- How a call ends, as a number and as a status that comes with a text (this project's own).
 use Rattle.std.specs.Prelude.{ℕ, Bool, true, false}
+use Rattle.chor_stream.specs.declared.finish.Finished.{Finished}
+use Rattle.chor_stream.specs.declared.finish.Finished.TheVariants as finished
+use Rattle.program_runs.specs.declared.streaming.ExecutedTo.{ExecutedTo}
+use Rattle.program_runs.specs.declared.streaming.ExecutedTo.TheVariants as executed
 use Rattle.chor_cmd.specs.declared.status.Status.{Status}
 use Rattle.chor_cmd.specs.declared.status.Status.TheVariants.{Done, Refused, Usage, ReadFault, WriteFault, Memory, Unmatched, Stuck, TooLarge}
 
@@ -7,6 +11,18 @@ use Rattle.chor_cmd.specs.declared.status.Status.TheVariants.{Done, Refused, Usa
 abbrev pub status_of : Bool → Status
 status_of true = Stuck
 status_of false = Done
+
+-- a run whose transcript was written while it was made
+abbrev pub finished_status : Finished → Status
+finished_status finished.Written = Done
+finished_status finished.Failed = WriteFault
+finished_status finished.Memory = Memory
+
+-- and a run of endpoint programs
+abbrev pub executed_status : ExecutedTo → Status
+executed_status (executed.Written stuck) = status_of stuck
+executed_status executed.Failed = WriteFault
+executed_status executed.Memory = Memory
 
 -- the exit status of the process
 abbrev pub number_of : Status → ℕ

@@ -1,11 +1,11 @@
 -- What a command has made of its files, by its row (this project's own).
-use Rattle.std.specs.Prelude.{ℕ, ◌≡◌, ◌<◌, ◌≤◌, List, length, Contains, None, Result, Ok, Err}
+use Rattle.std.specs.Prelude.{ℕ, ◌≡◌, ◌≢◌, ◌<◌, ◌≤◌, ◌⊎◌, List, length, Contains, None, Result, Ok, Err, ⊤}
 use Rattle.chor_base.specs.declared.rule.Denied.{Denied}
 use Rattle.chor_base.specs.declared.rule.Denied.TheVariants as denied
 use Rattle.chor_base.specs.declared.rule.Refusal.{Refusal}
 use Rattle.chor_tree.specs.declared.file.File.{File}
 use Rattle.chor_host.specs.Functions.{Function}
-use Rattle.chor_io.specs.Outside.{Risen, ShelfState}
+use Rattle.chor_io.specs.Outside.{Risen, ShelfState, SinkState}
 use Rattle.command_words.specs.declared.words.Command.{Command}
 use Rattle.source_check.specs.Source.{IsFileOf, IsAccepted, IsNoSource}
 use Rattle.source_check.specs.declared.rules.Rules.{Rules}
@@ -17,7 +17,8 @@ use Rattle.chor_cmd.specs.declared.ending.Ending.{Ending}
 use Rattle.chor_cmd.specs.declared.ending.Stop.{Stop}
 use Rattle.chor_cmd.specs.declared.ending.Stop.TheVariants.{Refused, ReadFault, TooLarge, Memory}
 use Rattle.chor_cmd.specs.Outputs.{refused_line, read_fault_line, too_large_line}
-use Rattle.chor_cmd.specs.Endings.{MayTell, Goes, IsTooLarge}
+use Rattle.chor_cmd.specs.Runs.{workers_of}
+use Rattle.chor_cmd.specs.Endings.{MayTell, Goes, IsTooLarge, HasWritten}
 use Rattle.chor_cmd.specs.Rows.{Row, Exactly, IsRefused, IsShortLog, source_limit, programs_limit, row_of}
 
 -- why a command stops for what was denied
@@ -102,3 +103,13 @@ StopSays Memory = λ status text. ⊥
 abbrev pub AnswerSays : Result Ending Stop → Status → List ℕ → Type 0
 AnswerSays (Ok ending) = Exactly ending.status ending.text.items
 AnswerSays (Err stop) = StopSays stop
+
+-- ---- a command whose text is written while its run is made
+
+-- a status and a text with which a command with this row may end: so its row goes, or they say why it stopped
+abbrev pub SaysByRow : Row → List (List ℕ) → ShelfState → ShelfState → Status → List ℕ → Type 0
+SaysByRow row names shelf shelf' status text = Goes (MayTell shelf.files) names row status text ⊎ ((stop : Stop) × IsStop row names shelf shelf' stop × StopSays stop status text)
+
+-- What the command has written when it ends so; a part of a text without memory only where it asks for workers
+abbrev pub HasSaid : List Function → Command → List (List ℕ) → ShelfState → ShelfState → SinkState → SinkState → Status → Type 0
+HasSaid functions command names shelf shelf' sink sink' status = HasWritten (SaysByRow (row_of functions command) names shelf shelf') ⊤ (workers_of command ≢ 0) sink sink' status

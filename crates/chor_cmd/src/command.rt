@@ -7,7 +7,7 @@ ghost use Rattle.projected_programs.specs.Laws.{ProjectedTextIsTaken, ProjectedT
 ghost use Rattle.projected_programs.specs.LawsBy.{ProjectedTextRunsByWorkers};
 ghost use Rattle.chor_cmd.specs.Calls.{Fetches, HasEnded, IsUsage, IsSettled, RunsSource, RunsProjected, AcceptsRuns, LinksPrograms, OrdersRun, JudgesLog, ResumesLog, RefusesBroken, call_of};
 ghost use Rattle.chor_cmd.specs.Runs.{AsksNoWorkers, workers_of};
-ghost use Rattle.chor_cmd.specs.Stops.{Answers, TouchesOnly};
+ghost use Rattle.chor_cmd.specs.Stops.{Answers, HasSaid, TouchesOnly};
 
 use crate::checking::check;
 use crate::conforming::conform_events;
@@ -65,7 +65,8 @@ use std::thread::Threads;
 /// transcript of the run that begins with the events that are left and goes on as the options say.
 ///
 /// Where the options of `run`, `exec` or `link` ask for workers, these make the run, each in its turn, and each
-/// passes the gate before each of its turns. Then the call waits until all workers have finished. For
+/// passes the gate before each of its turns. The transcript is written while they make it, so where memory
+/// runs out, a prefix of it may have been written. Then the call waits until all workers have finished. For
 /// all other words it is `alone`.
 pub fn chor<R: Threads + Wait + Sync, F: Shelf, K: Sink, G: Gate + Sync>(
     rt: &R,
@@ -102,8 +103,7 @@ pub fn chor<R: Threads + Wait + Sync, F: Shelf, K: Sink, G: Gate + Sync>(
     if workers_of(command) == 0 {
         return alone(rt, alloc, words, hosts, shelf, out);
     }
-    let answer = answer_by(rt, alloc, command, files, hosts, shelf, gate);
-    finish(alloc, out, answer)
+    answer_by(rt, alloc, command, files, hosts, shelf, gate, out)
 }
 
 /// Does what the words ask for where they ask for no workers, as `chor` does. It waits for nobody.
@@ -198,27 +198,34 @@ fn answer<'a, R: Threads + Sync, F: Shelf>(
     }
 }
 
-// What a command makes of the files of these names where workers make the run.
-fn answer_by<'a, R: Threads + Wait + Sync, F: Shelf, G: Gate + Sync>(
+// Writes what a command makes of the files of these names where workers make the run.
+fn answer_by<R: Threads + Wait + Sync, F: Shelf, K: Sink, G: Gate + Sync>(
     rt: &R,
     alloc: Global,
     command: Command,
-    files: &'a [Word],
+    files: &[Word],
     hosts: &HostTable,
     shelf: &mut F,
     gate: &G,
-) -> Result<Ending, Stop<'a>>
+    out: &mut K,
+) -> Status
     requires form { (words : List (List ℕ)) × AreForm words command files.now }
     requires workers { workers_of command ≢ 0 }
-    ensures answers { Answers (functions_of hosts.now) command files.now (F.state shelf.old) (F.state shelf.new) result }
+    ensures said { HasSaid (functions_of hosts.now) command files.now (F.state shelf.old) (F.state shelf.new) (K.state out.old) (K.state out.new) result }
     ensures only { TouchesOnly files.now (F.state shelf.old) (F.state shelf.new) }
 {
     match command {
-        Command::Run(options) => run_by(rt, alloc, &files[0], options, hosts, shelf, gate),
-        Command::Exec(options) => execute_by(rt, alloc, &files[0], options, hosts, shelf, gate),
-        Command::Link(options) => {
-            link_by(rt, alloc, &files[0], &files[1], options, hosts, shelf, gate)
+        Command::Run(options) => run_by(rt, alloc, &files[0], options, hosts, shelf, gate, out),
+        Command::Exec(options) => {
+            execute_by(rt, alloc, &files[0], options, hosts, shelf, gate, out)
         }
-        _ => answer(rt, alloc, command, files, hosts, shelf),
+        Command::Link(options) => {
+            let names = (&files[0], &files[1]);
+            link_by(rt, alloc, names, options, hosts, shelf, gate, out)
+        }
+        _ => {
+            let answer = answer(rt, alloc, command, files, hosts, shelf);
+            finish(alloc, out, answer)
+        }
     }
 }

@@ -16,14 +16,22 @@ use std::alloc::Global;
 /// Writes what a command has made, or one line that says why it stopped, and answers the status with
 /// which the call ends.
 pub fn finish<K: Sink>(alloc: Global, out: &mut K, answer: Result<Ending, Stop<'_>>) -> Status
-    ensures { HasWritten (AnswerSays answer.entry) ⊤ (K.state out.old) (K.state out.new) result }
+    ensures { HasWritten (AnswerSays answer.entry) ⊤ ⊥ (K.state out.old) (K.state out.new) result }
 {
     match answer {
         Ok(ending) => write(out, ending.text.as_slice(), ending.status),
-        Err(stop) => match ending_of(alloc, &stop) {
-            Ok(ending) => write(out, ending.text.as_slice(), ending.status),
-            Err(Memory) => Status::Memory,
-        },
+        Err(stop) => tell_stop(alloc, out, &stop),
+    }
+}
+
+/// Writes one line that says why a command stopped, and answers the status with which the call ends.
+/// Nothing is written where memory ran out.
+pub fn tell_stop<K: Sink>(alloc: Global, out: &mut K, stop: &Stop<'_>) -> Status
+    ensures { HasWritten (StopSays stop.now) ⊤ ⊥ (K.state out.old) (K.state out.new) result }
+{
+    match ending_of(alloc, stop) {
+        Ok(ending) => write(out, ending.text.as_slice(), ending.status),
+        Err(Memory) => Status::Memory,
     }
 }
 
@@ -31,7 +39,7 @@ pub fn finish<K: Sink>(alloc: Global, out: &mut K, answer: Result<Ending, Stop<'
 #[tactic(auto, using(crate::proofs::Written::wrote_all, crate::proofs::Written::wrote_some))]
 pub fn write<K: Sink>(out: &mut K, text: &[u8], status: Status) -> Status
     requires { IsTrue (comes_with_text status) }
-    ensures { HasWritten (Exactly status text.now) ⊥ (K.state out.old) (K.state out.new) result }
+    ensures { HasWritten (Exactly status text.now) ⊥ ⊥ (K.state out.old) (K.state out.new) result }
 {
     match out.put(text) {
         Put::All => status,

@@ -7,16 +7,17 @@ ghost use Rattle.command_words.specs.declared.options.Options.{Options as AnyOpt
 ghost use Rattle.command_words.specs.declared.words.Command.TheVariants.{Link};
 ghost use Rattle.chor_cmd.specs.Linkings.{IsLinkingOf, HasLinked};
 ghost use Rattle.chor_cmd.specs.Rows.{row_of};
-ghost use Rattle.chor_cmd.specs.Stops.{Answers, IsStop, TouchesOnly};
+ghost use Rattle.chor_cmd.specs.Stops.{Answers, HasSaid, IsStop, TouchesOnly};
 
 use crate::ending::{Ending, Stop};
-use crate::running::{scheduled_text, text_by};
+use crate::finishing::{tell_stop, write};
+use crate::running::{scheduled_text, tell_by};
 use crate::sources::{fetch_accepted, fetch_programs};
 use crate::status::Status;
 use accepted_links::{link_accepted, refusal_line};
 use chor_base::{Memory, Word};
 use chor_host::HostTable;
-use chor_io::{Gate, Shelf};
+use chor_io::{Gate, Shelf, Sink};
 use command_words::Options;
 use endpoint_code::Endpoints;
 use endpoint_link::LinkFault;
@@ -66,36 +67,29 @@ pub fn link<'a, R: Threads + Sync, F: Shelf>(
     }
 }
 
-/// Writes the transcript of such a source's run that workers make.
-pub fn link_by<'a, R: Threads + Wait + Sync, F: Shelf, G: Gate + Sync>(
+/// Writes the transcript of such a source's run that workers make, while they make it.
+pub fn link_by<R: Threads + Wait + Sync, F: Shelf, K: Sink, G: Gate + Sync>(
     rt: &R,
     alloc: Global,
-    file: &'a Word,
-    programs: &'a Word,
+    names: (&Word, &Word),
     options: Options,
     hosts: &HostTable,
     shelf: &mut F,
     gate: &G,
-) -> Result<Ending, Stop<'a>>
+    out: &mut K,
+) -> Status
     requires { options.workers ≢ 0 }
-    ensures answers { Answers (functions_of hosts.now) (Link options) (file.now ∷ programs.now ∷ []) (F.state shelf.old) (F.state shelf.new) result }
-    ensures only { TouchesOnly (file.now ∷ programs.now ∷ []) (F.state shelf.old) (F.state shelf.new) }
+    ensures said { HasSaid (functions_of hosts.now) (Link options) (names.entry.0.now ∷ names.entry.1.now ∷ []) (F.state shelf.old) (F.state shelf.new) (K.state out.old) (K.state out.new) result }
+    ensures only { TouchesOnly (names.entry.0.now ∷ names.entry.1.now ∷ []) (F.state shelf.old) (F.state shelf.new) }
 {
-    let linking = fetch_linked(rt, alloc, file, programs, hosts, shelf)?;
-    match linking {
-        Linking::Linked(accepted) => {
-            let text = text_by(rt, alloc, &accepted, options, hosts, gate);
+    match fetch_linked(rt, alloc, names.0, names.1, hosts, shelf) {
+        Ok(Linking::Linked(accepted)) => {
+            let status = tell_by(rt, alloc, &accepted, options, hosts, gate, out);
             drop(accepted);
-            let text = text?;
-            Ok(Ending {
-                text,
-                status: Status::Done,
-            })
+            status
         }
-        Linking::Unsuited(line) => Ok(Ending {
-            text: line,
-            status: Status::Refused,
-        }),
+        Ok(Linking::Unsuited(line)) => write(out, line.as_slice(), Status::Refused),
+        Err(stop) => tell_stop(alloc, out, &stop),
     }
 }
 

@@ -1,24 +1,28 @@
 //! `run`.
 
-ghost use Rattle.std.specs.Prelude.{◌≡◌, ◌≢◌, [], ◌∷◌, IfOk};
+ghost use Rattle.std.specs.Prelude.{◌≡◌, ◌≢◌, [], ◌∷◌, IfOk, ⊤};
 ghost use Rattle.chor_host.specs.Tables.{functions_of};
 ghost use Rattle.chor_tree.specs.Names.{names_in};
 ghost use Rattle.command_words.specs.declared.words.Command.TheVariants.{Run};
 ghost use Rattle.simulation.specs.Capacity.{capacity_of};
-ghost use Rattle.chor_cmd.specs.Endings.{host_names};
+ghost use Rattle.chor_cmd.specs.Endings.{HasWritten, host_names};
 ghost use Rattle.chor_cmd.specs.Outputs.{TellsRun};
-ghost use Rattle.chor_cmd.specs.Stops.{Answers, TouchesOnly};
+ghost use Rattle.chor_cmd.specs.Rows.{IsDoneWith};
+ghost use Rattle.chor_cmd.specs.Status.{finished_status};
+ghost use Rattle.chor_cmd.specs.Stops.{Answers, HasSaid, TouchesOnly};
 
 use crate::ending::{Ending, Stop};
+use crate::finishing::tell_stop;
 use crate::sources::fetch_accepted;
 use crate::status::Status;
 use chor_base::{List, Memory, NameId, Word};
 use chor_host::HostTable;
-use chor_io::{Gate, Shelf};
+use chor_io::{Gate, Shelf, Sink};
+use chor_stream::Finished;
 use chor_tree::Named;
 use command_words::Options;
 use endpoint_runs::Schedule;
-use simulation::{Accepted, tell_accepted, tell_accepted_by};
+use simulation::{Accepted, tell_accepted, tell_accepted_to};
 use std::alloc::Global;
 use std::sync::Wait;
 use std::thread::Threads;
@@ -47,28 +51,29 @@ pub fn run<'a, R: Threads + Sync, F: Shelf>(
     })
 }
 
-/// Writes the transcript of a run that workers make, of the source of this name.
-pub fn run_by<'a, R: Threads + Wait + Sync, F: Shelf, G: Gate + Sync>(
+/// Writes the transcript of a run that workers make, of the source of this name, while they make it.
+pub fn run_by<R: Threads + Wait + Sync, F: Shelf, K: Sink, G: Gate + Sync>(
     rt: &R,
     alloc: Global,
-    name: &'a Word,
+    name: &Word,
     options: Options,
     hosts: &HostTable,
     shelf: &mut F,
     gate: &G,
-) -> Result<Ending, Stop<'a>>
+    out: &mut K,
+) -> Status
     requires { options.workers ≢ 0 }
-    ensures answers { Answers (functions_of hosts.now) (Run options) (name.now ∷ []) (F.state shelf.old) (F.state shelf.new) result }
+    ensures said { HasSaid (functions_of hosts.now) (Run options) (name.now ∷ []) (F.state shelf.old) (F.state shelf.new) (K.state out.old) (K.state out.new) result }
     ensures only { TouchesOnly (name.now ∷ []) (F.state shelf.old) (F.state shelf.new) }
 {
-    let accepted = fetch_accepted(rt, alloc, name, hosts, shelf)?;
-    let text = text_by(rt, alloc, &accepted, options, hosts, gate);
-    drop(accepted);
-    let text = text?;
-    Ok(Ending {
-        text,
-        status: Status::Done,
-    })
+    match fetch_accepted(rt, alloc, name, hosts, shelf) {
+        Ok(accepted) => {
+            let status = tell_by(rt, alloc, &accepted, options, hosts, gate, out);
+            drop(accepted);
+            status
+        }
+        Err(stop) => tell_stop(alloc, out, &stop),
+    }
 }
 
 /// The transcript of the scheduled run of a file that is accepted with these host functions, or of one
@@ -97,21 +102,25 @@ pub fn scheduled_text(
     Ok(text)
 }
 
-/// The transcript of such a file's run that workers make.
-pub fn text_by<R: Threads + Wait + Sync, G: Gate + Sync>(
+/// Writes the transcript of such a file's run that workers make, while they make it, and answers the
+/// status with which the call ends.
+pub fn tell_by<R: Threads + Wait + Sync, G: Gate + Sync, K: Sink>(
     rt: &R,
     alloc: Global,
     accepted: &Accepted,
     options: Options,
     hosts: &HostTable,
     gate: &G,
-) -> Result<Vec<u8>, Memory>
+    out: &mut K,
+) -> Status
     requires hosts { accepted.now.typed.hosts ≡ host_names hosts.now }
     requires workers { options.workers ≢ 0 }
-    ensures { IfOk result (λ text. TellsRun (functions_of hosts.now) accepted.now.typed.file accepted.now.endpoints (capacity_of accepted.now.typed.file) options text.items) }
+    ensures { HasWritten (IsDoneWith (TellsRun (functions_of hosts.now) accepted.now.typed.file accepted.now.endpoints (capacity_of accepted.now.typed.file) options)) ⊤ ⊤ (K.state out.old) (K.state out.new) result }
 {
     let file = accepted.typed().file();
-    let processes = names_of(alloc, file.processes.as_slice())?;
+    let Ok(processes) = names_of(alloc, file.processes.as_slice()) else {
+        return Status::Memory;
+    };
     let book = Book {
         names: &file.names,
         texts: &file.texts,
@@ -121,8 +130,19 @@ pub fn text_by<R: Threads + Wait + Sync, G: Gate + Sync>(
         workers: options.workers,
         steps: options.steps,
     };
-    let text = tell_accepted_by(rt, alloc, accepted, hosts, &book, task, gate)?;
-    Ok(text)
+    let finished = tell_accepted_to(rt, alloc, accepted, hosts, task, gate, &book, out);
+    status_after(finished)
+}
+
+// The status with which a call ends whose transcript was written while the run was made.
+fn status_after(finished: Finished) -> Status
+    ensures { result ≡ finished_status finished }
+{
+    match finished {
+        Finished::Written => Status::Done,
+        Finished::Failed => Status::WriteFault,
+        Finished::Memory => Status::Memory,
+    }
 }
 
 fn names_of(alloc: Global, written: &[Named]) -> Result<List<NameId>, Memory>

@@ -5,3 +5,4 @@ pub mod SameTexts
 pub mod SameTranscripts
 pub mod SameTranscriptsBy
 pub mod Histories
+pub mod Streamed

@@ -12,7 +12,7 @@ use Rattle.endpoint_runs.specs.declared.run.Closed.{Closed}
 use Rattle.endpoint_runs.specs.InParts.{Continues, Leads}
 use Rattle.endpoint_runs.specs.Runs.{close_of}
 use Rattle.transcript.specs.declared.lines.Lines.{Lines}
-use Rattle.transcript.specs.Text.{Words, event_text, lines_from}
+use Rattle.transcript.specs.Text.{Words, lines_from}
 use Rattle.transcript.specs.Written.{AreReady}
 use Rattle.transcript.proofs.Parts.{lines_then}
 use Rattle.program_runs.specs.Told.{HasBegun, IsTold}

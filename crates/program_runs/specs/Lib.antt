@@ -3,3 +3,4 @@ pub mod Told
 pub mod Books
 pub mod ByWorkers
 pub mod Laws
+pub mod Streams

@@ -1,6 +1,6 @@
 //! Tests of what runs and no command shows, by public calls alone: endpoint code, networks whose queues have a capacity,
-//! workers and offices. They say what no clause says: that the calls succeed where there is memory, and that they answer what was
-//! worked out by hand, or what a plainer call answers.
+//! workers and offices, and transcripts that are written while workers run. They say what no clause says: that the calls
+//! succeed where there is memory, and that they answer what was worked out by hand, or what a plainer call answers.
 #![tactic(auto)]
 
 #[cfg(test)]
@@ -17,3 +17,9 @@ mod offices;
 mod own_events;
 #[cfg(test)]
 mod programs;
+#[cfg(test)]
+mod sinks;
+#[cfg(test)]
+mod streams;
+#[cfg(test)]
+mod transcripts;

@@ -2,3 +2,4 @@ pub mod Judged
 pub mod Capacity
 pub mod Runs
 pub mod RunsBy
+pub mod Streamed

@@ -4,3 +4,4 @@ pub mod Runs
 pub mod Told
 pub mod RunsBy
 pub mod ToldBy
+pub mod Streams

@@ -5,12 +5,12 @@ mod accepted;
 mod laws;
 mod running;
 mod running_by;
+mod streaming;
 mod telling;
-mod telling_by;
 
 pub use accepted::{Accepted, accept};
 pub use laws::capacities_leave_room;
 pub use running::{Outcome, run_accepted};
 pub use running_by::run_accepted_by;
+pub use streaming::{StreamedRun, run_accepted_to, tell_accepted_to};
 pub use telling::tell_accepted;
-pub use telling_by::tell_accepted_by;

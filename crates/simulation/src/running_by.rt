@@ -65,7 +65,7 @@ pub fn run_accepted_by<R: Threads + Wait + Sync, G: Gate + Sync>(
 }
 
 // What is proved of each run of an accepted file that is closed.
-fn laws()
+pub(crate) fn laws()
     ensures runs { ClosedRunsAreRuns }
     ensures alike { RunsAskAlike }
 {

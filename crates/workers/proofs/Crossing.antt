@@ -2,14 +2,12 @@
 use denote.Param.Send.{IsSend, IsSync, sendable, shr_send}
 use denote.Struct.Field.{shr_ref_field}
 use denote.Param.SendFields.{declared_send, as_row_send}
-use Rattle.std.proofs.Crossing.{crosses, Vec-send}
+use Rattle.std.proofs.Crossing.{crosses}
 use Rattle.std.specs.contracts.vec.Vec as vec
 use Rattle.std.specs.contracts.alloc.Global as heap
-use Rattle.std.specs.contracts.impls.GlobalAllocator.TheImpl.{ghosts}
 use Rattle.endpoint_code.specs.contracts.endpoints.Endpoints as endpoints
 use Rattle.endpoint_code.proofs.Crossing.{endpoints_sync}
 use Rattle.endpoint_machine.specs.contracts.machine.Machine as machine
-use Rattle.endpoint_machine.proofs.Crossing.{machine_send}
 use Rattle.post_office.specs.contracts.office.Office as office
 use Rattle.post_office.specs.contracts.office.Office.TheInside as office_inside
 use Rattle.post_office.proofs.Crossing.{ledger_send}

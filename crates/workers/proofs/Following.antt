@@ -1,11 +1,10 @@
 -- A worker goes through a history in its turns.
-use Rattle.std.proofs.Common.{true, false, ◌≡◌, ◌≢◌, ℕ, zero, suc, eqb, ◌+◌, ◌<◌, ◌≤◌, ◌==◌, Bool, List, [], ◌∷◌, ◌++◌, length, get_or, take, drop, refl, sym, ap, ◌∙◌, subst, Some, arith, append-nil, length-append, if◌then◌else◌}
+use Rattle.std.proofs.Common.{true, false, ◌≡◌, ◌≢◌, ℕ, zero, suc, ◌+◌, ◌==◌, Bool, List, [], ◌∷◌, ◌++◌, length, take, drop, refl, sym, ap, ◌∙◌, subst, arith, append-nil, length-append, if◌then◌else◌}
 use Rattle.std.specs.Prelude.{All, Result, Ok, Err, OnOk}
 use Rattle.std.specs.Result.{is_err}
 use Rattle.std.proofs.lemmas.List.Elements.{All-nil, All-cons, filter-append}
 use Rattle.std.proofs.lemmas.Bool.Decides.{nat_tests}
-use mathlib.Core.Option.{some, some-injective, some-ne-none}
-use lib.ListN.{get_elem?}
+use mathlib.Core.Option.{some-injective, some-ne-none}
 use Rattle.chor_base.specs.declared.event.Entry.{Entry}
 use Rattle.endpoint_code.specs.declared.endpoints.Endpoints.{Endpoints}
 use Rattle.chor_base.specs.Meaning.{Hosts}
@@ -13,7 +12,6 @@ use Rattle.endpoint_code.specs.Network.{first_state}
 use Rattle.endpoint_code.specs.NetworkRuns.{IsNetworkRun}
 use Rattle.post_office.specs.Views.{OfficeView, events_of}
 use Rattle.turn_lock.specs.declared.parts.Turn.{Turn}
-use Rattle.turn_lock.specs.declared.views.View.{View}
 use Rattle.turn_lock.specs.Seats.{view, turn_origin}
 use Rattle.turn_lock.specs.Turns.{AllBy, by, Finds}
 use Rattle.crew.specs.declared.share.Share.{Share}
@@ -27,7 +25,7 @@ use Rattle.workers.specs.declared.desks.Desk.{Desk}
 use Rattle.workers.specs.declared.origin.Origin.{Origin}
 use Rattle.workers.specs.Desks.{IsReady, IsAtWork}
 use Rattle.workers.specs.Turns.{GoesOn, Follows, CatchesUp, MayBegin, Suits, UnlessEnds}
-use Rattle.workers.proofs.Kept.{origin, same_origin}
+use Rattle.workers.proofs.Kept.{origin}
 use Rattle.workers.proofs.Takes.{take_front}
 
 drop_front : (xs ys : List Entry) (n : ℕ) → n ≡ length xs → drop n (xs ++ ys) ≡ ys

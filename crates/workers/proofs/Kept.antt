@@ -1,5 +1,5 @@
 -- What the run that workers share keeps.
-use Rattle.std.proofs.Common.{true, false, ◌≡◌, ◌≢◌, ℕ, zero, suc, ◌+◌, ◌*◌, ◌<◌, ◌≤◌, Bool, List, [], ◌∷◌, ◌++◌, length, get_or, take, drop, refl, sym, ap, ◌∙◌, subst, Option, Some, arith, append-nil, length-append}
+use Rattle.std.proofs.Common.{true, false, ◌≡◌, ◌≢◌, ℕ, zero, suc, ◌+◌, ◌*◌, ◌<◌, ◌≤◌, Bool, List, [], ◌∷◌, ◌++◌, length, sym, ap, ◌∙◌, subst, Some, arith, append-nil, length-append}
 use Rattle.std.specs.Prelude.{All, slice_get, slice_set}
 use Rattle.std.proofs.Math.ListN.{replicate}
 use Rattle.std.proofs.lemmas.List.{length-replicate, length-set}
@@ -9,23 +9,22 @@ use mathlib.Core.Logic.{dite}
 use Rattle.chor_base.proofs.Lists.{get_set_other}
 use Rattle.chor_base.specs.declared.event.Entry.{Entry}
 use Rattle.chor_base.specs.declared.event.Why.{Why}
-use Rattle.endpoint_code.specs.Network.{Machine, NetworkState}
-use Rattle.endpoint_code.specs.NetworkRuns.{IsNetworkRun, has_ended, all_ended}
+use Rattle.endpoint_code.specs.Network.{NetworkState}
 use Rattle.endpoint_code.specs.Scheduled.{ended, limit, stuck}
 use Rattle.endpoint_runs.specs.declared.run.Closed.{Closed as Closing}
 use Rattle.endpoint_runs.specs.declared.run.Closed.TheVariants as closing
 use Rattle.endpoint_runs.specs.Runs.{close_of}
 use Rattle.post_office.specs.Owners.{IsMadeByOwner}
-use Rattle.post_office.specs.Views.{OfficeView, events_of}
+use Rattle.post_office.specs.Views.{OfficeView}
 use Rattle.crew.specs.declared.share.Share.{Share}
 use Rattle.crew.specs.declared.turn.Turned.{Turned}
 use Rattle.crew.specs.declared.turn.Turned.TheVariants as found
-use Rattle.crew.specs.Crews.{CrewView, number_at}
+use Rattle.crew.specs.Crews.{CrewView}
 use Rattle.crew.specs.Turns.{Adds, FitsSteps, FindsOut}
 use Rattle.crew.proofs.Finding.{adds_owned, all_of_workers}
 use Rattle.workers.specs.declared.origin.Origin.{Origin}
 use Rattle.workers.specs.declared.run.Progress.{Progress}
-use Rattle.workers.specs.declared.run.Progress.TheVariants.{Open, Closed, Memory}
+use Rattle.workers.specs.declared.run.Progress.TheVariants.{Open}
 use Rattle.workers.specs.Turns.{LeadsTo}
 use Rattle.workers.specs.Runs.{IsRunBy}
 use Rattle.workers.specs.Views.{RunView, origin_of, history_of, IsClosedBy, IsProgress, HasEndedBy, IsKeptBy, IsKept}

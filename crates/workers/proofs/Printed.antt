@@ -23,7 +23,7 @@ use Rattle.workers.specs.declared.streamed.Streamed.{Streamed}
 use Rattle.workers.specs.declared.streamed.Streamed.TheVariants as streamed
 use Rattle.workers.proofs.Takes.{take_front}
 use Rattle.endpoint_runs.specs.Runs.{close_of}
-use Rattle.workers.specs.Runs.{IsRunBy, IsReport}
+use Rattle.workers.specs.Runs.{IsRunBy}
 use Rattle.workers.specs.Turns.{LeadsTo}
 use Rattle.workers.specs.Views.{RunView, origin_of, history_of, IsKept}
 use Rattle.workers.specs.Printing.{Prints, WritesRest, IsToldOf}

@@ -1,11 +1,10 @@
 -- A team before and after its work.
-use Rattle.std.proofs.Common.{◌≡◌, ℕ, ◌+◌, ◌<◌, List, [], ◌∷◌, ◌++◌, length, get_or, take, zero, suc, sym, refl, ap, ◌∙◌, subst, arith, length-append}
+use Rattle.std.proofs.Common.{◌≡◌, ℕ, ◌+◌, List, [], ◌∷◌, ◌++◌, length, get_or, take, zero, suc, sym, refl, ap, ◌∙◌, subst, arith, length-append}
 use Rattle.std.specs.Prelude.{All}
 use Rattle.std.proofs.lemmas.List.Elements.{All-push}
 use Rattle.turn_lock.specs.declared.parts.Turn.{Turn}
-use Rattle.turn_lock.specs.Seats.{view}
 use Rattle.workers.specs.declared.desks.Desk.{Desk}
-use Rattle.workers.specs.Desks.{IsReady, InOrder, AreSeated, HaveWorked, Stays}
+use Rattle.workers.specs.Desks.{IsReady, AreSeated, HaveWorked}
 use Rattle.workers.proofs.Takes.{after_work, after_chief, take_front, item_last}
 
 -- a list that has an item is what comes before the last one, and that

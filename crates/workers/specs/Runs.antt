@@ -1,6 +1,5 @@
 -- Runs that workers make.
-use Rattle.std.specs.Prelude.{ℕ, ◌≡◌, ◌≤◌, List, map, length, Option, All}
-use Rattle.chor_base.specs.declared.event.Event.{Event}
+use Rattle.std.specs.Prelude.{ℕ, ◌≤◌, List, length, Option, All}
 use Rattle.chor_base.specs.declared.event.Entry.{Entry}
 use Rattle.chor_base.specs.Meaning.{Hosts}
 use Rattle.chor_host.specs.Functions.{Function, hosts_in}

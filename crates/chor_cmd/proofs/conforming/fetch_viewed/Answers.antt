@@ -1,4 +1,3 @@
-use Rattle.std.proofs.Common.{[]}
 use Rattle.source_check.specs.declared.rules.Rules.TheVariants.{Views}
 use Rattle.source_check.specs.Source.{Violates, unread}
 use Rattle.chor_cmd.specs.Endings.{host_names}

@@ -1,10 +1,12 @@
-use Rattle.std.proofs.Common.{[]}
+use Rattle.std.proofs.Common.{[], ◌∷◌}
 use Rattle.chor_host.specs.Functions.{names_of}
 use Rattle.chor_host.specs.Tables.{functions_of}
 use Rattle.endpoint_laws.proofs.Read.{read_is_faultless}
-use Rattle.chor_cmd.specs.Rows.{Closes, Executes}
+use Rattle.command_words.specs.declared.words.Command.TheVariants.{Exec}
+use Rattle.chor_cmd.specs.Endings.{MayTell, Goes}
+use Rattle.chor_cmd.specs.Rows.{Closes, Executes, row_of}
 use Rattle.chor_cmd.proofs.AskedRuns.{scheduled_transcript}
-use Rattle.chor_cmd.proofs.Exits.{programs_stop, execution}
+use Rattle.chor_cmd.proofs.Exits.{exactly, programs_stop, execution}
 use Rattle.chor_cmd.proofs.executing.execute.Goals as goal
 
 pub returns-in_err-programs-clause-answers : goal.returns-in_err-programs-clause-answers
@@ -26,4 +28,5 @@ returns-clause-answers g c =
     let e = c.in_ok-programs.programs in
     let x = c.in_ok-executed.executed in
     let run = scheduled_transcript functions e c.args.options x.text.items x.stuck c.in_ok-executed.ensures in
-    execution functions before before c.args.name.now c.args.options e c.ending_of.result x.text.items x.stuck c.in_ok-programs.ensures.programs run c.ending_of.ensures.text c.ending_of.ensures.status
+    exactly (λ s t. Goes (MayTell before.files) (c.args.name.now ∷ []) (row_of functions (Exec c.args.options)) s t) _ x.text.items c.ending_of.result.status c.ending_of.result.text.items
+    (c.ending_of.ensures.status, c.ending_of.ensures.text) (execution functions before before c.args.name.now c.args.options e x.text.items x.stuck c.in_ok-programs.ensures.programs run)

@@ -1,8 +1,7 @@
 use Rattle.std.proofs.Common.{◌∙◌, ℕ, List, Option, sym, ap, subst}
-use Rattle.std.specs.Prelude.{Result, Err, IfErr}
+use Rattle.std.specs.Prelude.{Err, IfErr}
 use Rattle.chor_host.specs.Functions.{hosts_in}
 use Rattle.chor_host.specs.Tables.{functions_of}
-use Rattle.replay.specs.declared.answer.ReplayFault.{ReplayFault}
 use Rattle.accepted_resumes.specs.Sources.{IsResumedOf, StopsResume}
 use Rattle.simulation.specs.Capacity.{capacity_of}
 use Rattle.chor_cmd.specs.declared.status.Status.TheVariants.{Unmatched}

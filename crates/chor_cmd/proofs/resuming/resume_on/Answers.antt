@@ -1,7 +1,7 @@
 use Rattle.std.proofs.Common.{[], ◌∷◌}
 use Rattle.chor_host.specs.Tables.{functions_of}
 use Rattle.chor_cmd.specs.Rows.{Closes, Resumes, after_short_log}
-use Rattle.chor_cmd.proofs.Exits.{stopped, out_of_memory}
+use Rattle.chor_cmd.proofs.Exits.{stopped}
 use Rattle.chor_cmd.proofs.ShortLogs.{stops_at_log}
 use Rattle.chor_cmd.proofs.resuming.resume_on.Goals as goal
 

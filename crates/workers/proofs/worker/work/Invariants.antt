@@ -1,4 +1,3 @@
-use Rattle.std.proofs.Common.{◌≡◌}
 use Rattle.workers.specs.Desks.{IsReady, IsAtWork, Stays}
 use Rattle.workers.proofs.worker.work.Given as goal
 

@@ -1,8 +1,8 @@
-use Rattle.std.proofs.Common.{◌≡◌, ◌≤◌, ◌∙◌, true, Bool, List, length, take, sym, ap, subst}
+use Rattle.std.proofs.Common.{◌≡◌, ◌≤◌, ◌∙◌, true, Bool, List, length, sym, ap, subst}
 use Rattle.std.specs.Prelude.{All}
 use Rattle.std.proofs.lemmas.List.{take_all}
 use Rattle.endpoint_runs.specs.declared.run.Closed.TheVariants.{Ended}
-use Rattle.workers.specs.Views.{RunView, run_of, origin_of, history_of, IsClosedBy}
+use Rattle.workers.specs.Views.{RunView, origin_of, history_of, IsClosedBy}
 use Rattle.workers.proofs.Kept.{origin, all_marked}
 use Rattle.workers.proofs.run.SharedRun.all_ended.Goals as goal
 

@@ -1,4 +1,4 @@
-use Rattle.std.proofs.Common.{◌≡◌, ◌∙◌, true, false, Bool, List, sym, ap, subst}
+use Rattle.std.proofs.Common.{◌∙◌, true, false, sym, ap, subst}
 use Rattle.std.specs.Prelude.{slice_set}
 use Rattle.endpoint_runs.specs.declared.run.Closed.TheVariants as closing
 use Rattle.crew.specs.declared.turn.Turned.TheVariants as found
