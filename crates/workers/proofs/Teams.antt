@@ -1,10 +1,11 @@
 -- A team before and after its work.
-use Rattle.std.proofs.Common.{◌≡◌, ℕ, ◌+◌, List, [], ◌∷◌, ◌++◌, length, get_or, take, zero, suc, sym, refl, ap, ◌∙◌, subst, arith, length-append}
+use Rattle.std.proofs.Common.{◌≡◌, ℕ, ◌+◌, ◌<◌, List, [], ◌∷◌, ◌++◌, length, get_or, take, zero, suc, sym, refl, ap, ◌∙◌, subst, arith, length-append}
 use Rattle.std.specs.Prelude.{All}
 use Rattle.std.proofs.lemmas.List.Elements.{All-push}
 use Rattle.turn_lock.specs.declared.parts.Turn.{Turn}
 use Rattle.workers.specs.declared.desks.Desk.{Desk}
-use Rattle.workers.specs.Desks.{IsReady, AreSeated, HaveWorked}
+use Rattle.workers.specs.declared.origin.Origin.{Origin}
+use Rattle.workers.specs.Desks.{IsReady, AreSeated, AreToGoOn, HaveWorked, Stays}
 use Rattle.workers.proofs.Takes.{after_work, after_chief, take_front, item_last}
 
 -- a list that has an item is what comes before the last one, and that
@@ -36,8 +37,9 @@ module _ {T O : Type 0} (origin_of : T → O) (t : Turn T O) where
   all_ready ds s = subst (All (IsReady origin_of t)) (sym s.desks) (All-push (IsReady origin_of t) s.others s.chief (λ i d lt. (s.order i d lt).0) s.ready)
 
   -- the desks are the same team's after their workers have worked
-  pub seated_after : (ds es : List (Desk T O)) → AreSeated origin_of t ds → length es ≡ length ds → HaveWorked origin_of t ds es → AreSeated origin_of t es
-  seated_after ds es s len worked =
+  pub seated_after : (about : O → Origin) (ds es : List (Desk T O)) → AreSeated origin_of t ds → length es ≡ length ds → HaveWorked origin_of about t ds es → AreSeated origin_of t es
+  seated_after about ds es s len changed =
+      let worked : (i : ℕ) (d : Desk T O) → i < length ds → IsReady origin_of t (get_or es i d) × Stays (get_or ds i d) (get_or es i d) = λ i d lt. ((changed i d lt).0, (changed i d lt).1) in
       let n = length s.others in
       let count : length es ≡ n + 1 = len ∙ (ap length s.desks ∙ length-append s.others (s.chief ∷ [])) in
       let last = get_or es n s.chief in
@@ -55,3 +57,7 @@ module _ {T O : Type 0} (origin_of : T → O) (t : Turn T O) where
         made = chief.1.1 ∙ (s.made ∙ ap (λ k. k + 1) (sym kept));
         none = chief.1.2 ∙ s.none;
       }
+
+  -- and may go on where they haven't ended
+  pub on_after : (about : O → Origin) (ds es : List (Desk T O)) → length es ≡ length ds → HaveWorked origin_of about t ds es → AreToGoOn origin_of about t es
+  on_after about ds es len changed i d lt = (changed i d (omega (arith, len, lt))).2

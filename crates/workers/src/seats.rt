@@ -35,6 +35,8 @@ pub fn desk_at<T: Shared>(
         number: share.entry(),
         crew,
         heard: 0,
+        turns: 0,
+        ended: false,
     })
 }
 
@@ -89,6 +91,8 @@ pub fn take_in<T: Told + Drop>(turn: &Turn<T>, chief: &mut Desk<T>, mut desks: V
             number: _,
             crew: _,
             heard: _,
+            turns: _,
+            ended: _,
         } = desk;
         turn.join(&mut chief.seat, seat);
     }

@@ -21,6 +21,12 @@ use std::sync::Wait;
 use std::thread::Threads;
 use turn_lock::{Told, Turn};
 
+// How often a worker that has nothing to do looks for those that haven't begun, at first, and once threads
+// couldn't be made for all. Then workers go one after another for as far as each comes.
+const PATIENCE: u64 = 1 << 20;
+
+const LITTLE_PATIENCE: u64 = 64;
+
 /// A run that workers share, and their desks. The first worker's desk is the last one.
 #[derive(Drop)]
 pub struct Team<T: Told> {
@@ -69,14 +75,23 @@ impl<T: Shared + Drop> Team<T> {
         ensures seats { AreSeated T.origin self.new.turn self.new.desks.items }
         ensures origin { turn_origin T.origin self.new.turn ≡ turn_origin T.origin self.old.turn }
     {
-        set_to_work(
-            rt,
-            &self.turn,
-            programs,
-            hosts,
-            gate,
-            self.desks.as_mut_slice(),
-        );
+        let mut patience = PATIENCE;
+        for _ in rt.forever() {
+            set_to_work(
+                rt,
+                &self.turn,
+                programs,
+                hosts,
+                gate,
+                patience,
+                self.desks.as_mut_slice(),
+            );
+            if have_ended(self.desks.as_slice()) {
+                return;
+            }
+            patience = LITTLE_PATIENCE;
+        }
+        unreachable!()
     }
 
     /// The run, once all workers have ended.
@@ -92,7 +107,19 @@ impl<T: Shared + Drop> Team<T> {
             number: _,
             crew: _,
             heard: _,
+            turns: _,
+            ended: _,
         } = chief;
         turn.close(seat)
     }
+}
+
+// Whether the workers at all these desks have ended.
+fn have_ended<T: Told>(desks: &[Desk<T>]) -> bool {
+    for desk in desks {
+        if !desk.ended {
+            return false;
+        }
+    }
+    true
 }

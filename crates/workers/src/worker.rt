@@ -3,7 +3,7 @@
 ghost use Rattle.std.specs.Prelude.{◌≡◌};
 ghost use Rattle.chor_host.specs.Tables.{functions_of};
 ghost use Rattle.turn_lock.specs.Seats.{turn_origin};
-ghost use Rattle.workers.specs.Desks.{IsReady, IsAtWork, Stays};
+ghost use Rattle.workers.specs.Desks.{IsReady, MayGoOn, Stays};
 ghost use Rattle.workers.specs.Turns.{Suits};
 
 use crate::bells::Bell;
@@ -18,20 +18,20 @@ use std::sync::Wait;
 use turn_lock::Turn;
 
 // Lets others go first where a worker has nothing to do: until one of them has made an event, or for a
-// short while after it has made one itself.
-fn rest<R: Wait>(rt: &R, bell: &Bell, crew: &Crew, heard: u64, next: Next) {
+// short while after it has made one itself. Tells whether the worker goes on; else it leaves.
+fn rest<R: Wait>(rt: &R, bell: &Bell, crew: &Crew, heard: u64, next: Next) -> bool {
     if !crew.is_noted() {
-        return;
+        return true;
     }
     if next == Next::Waits {
-        bell.wait(rt, heard);
-    } else {
-        bell.listen(heard);
+        return bell.wait(rt, heard);
     }
+    bell.listen(heard);
+    true
 }
 
 /// Makes the local events of a worker's processes, and takes turns, each after the gate, until nothing is
-/// left to do.
+/// left to do, or the worker leaves since others haven't begun.
 pub fn work<T: Shared, R: Wait, G: Gate>(
     rt: &R,
     turn: &Turn<T>,
@@ -43,21 +43,30 @@ pub fn work<T: Shared, R: Wait, G: Gate>(
 )
     requires suits { Suits endpoints.now (functions_of hosts.now) (T.about (turn_origin T.origin turn.now)) }
     requires ready { IsReady T.origin turn.now desk.old }
-    requires at_work { IsAtWork T.origin T.about turn.now desk.old }
-    ensures { IsReady T.origin turn.now desk.new × Stays desk.old desk.new }
+    requires goes_on { MayGoOn T.origin T.about turn.now desk.old }
+    ensures ready { IsReady T.origin turn.now desk.new × Stays desk.old desk.new }
+    ensures goes_on { MayGoOn T.origin T.about turn.now desk.new }
 {
+    bell.begin();
+    if desk.ended {
+        return;
+    }
     let mut next = Next::Goes;
-    for turns in 0..u64::MAX {
+    for turns in desk.turns..u64::MAX {
         let worked = desk.crew.work_alone(endpoints, hosts);
         gate.before(desk.number, turns);
         if worked.is_err() {
             stop_all(rt, turn, bell, desk);
+            break;
+        }
+        if !rest(rt, bell, &desk.crew, desk.heard, next) {
             return;
         }
-        rest(rt, bell, &desk.crew, desk.heard, next);
         next = take_turn(rt, turn, bell, endpoints, desk);
+        desk.turns = turns + 1;
         if next == Next::Ends {
-            return;
+            break;
         }
     }
+    desk.ended = true;
 }
