@@ -18,6 +18,8 @@ mod own_events;
 #[cfg(test)]
 mod programs;
 #[cfg(test)]
+mod rings;
+#[cfg(test)]
 mod sinks;
 #[cfg(test)]
 mod streams;
